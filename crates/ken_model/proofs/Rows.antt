@@ -1,0 +1,39 @@
+-- Worked reports, computed from the definitions.
+use Rattle.std.proofs.Common.{◌≡◌, ℕ, List, [], ◌∷◌, ◌++◌, refl, codes}
+use Rattle.std.specs.Fmt.{digits}
+use Rattle.ken_model.specs.declared.kinds.Kind.TheVariants.{Ring}
+use Rattle.ken_model.specs.declared.facts.Facts.{Facts}
+use Rattle.ken_model.specs.declared.messages.Step.{Step}
+use Rattle.ken_model.specs.declared.reports.Emission.{Emission}
+use Rattle.ken_model.specs.declared.reports.Ending.TheVariants.{Settled}
+use Rattle.ken_model.specs.Numbers.{num}
+use Rattle.ken_model.specs.Handler.{after}
+use Rattle.ken_model.specs.Network.{turn_at}
+use Rattle.ken_model.specs.Schedule.{played, turn_lines}
+use Rattle.ken_model.specs.Ending.{waiting}
+use Rattle.ken_model.specs.Report.{line, text, heap_lines, closing, lines_of, report}
+use Rattle.ken_model.specs.Spelling.{spell, step_in, emission_in, restart_in}
+
+-- three nodes, and one input `2` for node 0
+three : Facts
+three = record { nodes = 3; kind = Ring; size = 4096; turns = 1000; inputs = record { node = 0; text = codes "2" } ∷ [] }
+
+schedule : List Step
+schedule = record { node = 0; from = 255; draws = [] } ∷ record { node = 1; from = 0; draws = [] } ∷ record { node = 2; from = 1; draws = [] } ∷ []
+
+emissions : List Emission
+emissions = record { node = 0; out = record { number = 1; text = codes "2" } } ∷ record { node = 1; out = record { number = 1; text = codes "1" } } ∷ record { node = 2; out = record { number = 1; text = codes "0" } } ∷ []
+
+ends : List ℕ → List ℕ → List ℕ
+ends a b = a ++ 10 ∷ b
+
+ring_of_three : List ℕ
+ring_of_three = ends (codes "turn 1 0 out 1 -") (ends (codes "turn 2 1 0 1 -") (ends (codes "turn 3 2 1 1 -") (ends (codes "emit 0 1 2") (ends (codes "emit 1 1 1") (ends (codes "emit 2 1 0") (ends (codes "heap 0 1") (ends (codes "heap 1 1") (ends (codes "heap 2 1") (ends (codes "end settled 3") [])))))))))
+
+its_report : report three schedule emissions [] Settled ≡ ring_of_three
+unfolding three schedule emissions ends ring_of_three num after turn_at played turn_lines waiting line text heap_lines closing lines_of digits
+its_report = refl
+
+its_spelling : spell ring_of_three ≡ record { schedule = schedule; emissions = emissions; restarts = [] }
+unfolding three schedule emissions ends ring_of_three spell step_in emission_in restart_in
+its_spelling = refl

@@ -1,0 +1,35 @@
+-- Legal emissions: outputs in the order of their numbers, each perhaps again after a restart.
+use Rattle.std.specs.Prelude.{◌≡◌, ℕ, ◌+◌, ◌-◌, ◌<◌, ◌≤◌, max, List, [], ◌∷◌, map, length, ◌==◌, Some, filter, slice_get}
+use Rattle.ken_model.specs.declared.messages.Out.{Out}
+use Rattle.ken_model.specs.declared.reports.Emission.{Emission}
+use Rattle.ken_model.specs.declared.facts.Facts.{Facts}
+use Rattle.ken_model.specs.Network.{Network}
+
+-- what node v emitted, in order
+abbrev pub emitted_by : ℕ → List Emission → List Out
+emitted_by v es = map (λ (e : Emission). e.out) (filter (λ (e : Emission). e.node == v) es)
+
+-- each emission has the text of the output with its number, and a number of at most one more than the largest before it
+unfoldable pub AreEmitted : List (List ℕ) → ℕ → List Out → Type 0
+AreEmitted outs largest [] = Unit {0}
+AreEmitted outs largest (o ∷ os) = (0 < o.number) × (o.number ≤ largest + 1) × (slice_get outs (o.number - 1) ≡ Some o.text) × AreEmitted outs (max largest o.number) os
+
+-- the largest number emitted: each number up to it stands there, since none is left out
+abbrev pub largest_of : ℕ → List Out → ℕ
+largest_of largest [] = largest
+largest_of largest (o ∷ os) = largest_of (max largest o.number) os
+
+-- the emissions stand node by node, from that node on
+unfoldable pub AreByNode : ℕ → ℕ → List Emission → Type 0
+AreByNode nodes node [] = Unit {0}
+AreByNode nodes node (e ∷ es) = (node ≤ e.node) × (e.node < nodes) × AreByNode nodes e.node es
+
+-- each node's outputs were all emitted
+abbrev pub AreAllEmitted : Facts → Network → List Emission → Type 0
+AreAllEmitted f w es = (v : ℕ) → v < f.nodes → largest_of 0 (emitted_by v es) ≡ length (w.place v).outs
+
+-- legal emissions
+pub record AreLegalEmissions (f : Facts) (w : Network) (es : List Emission) : Type 0 where
+  pub by_node : AreByNode f.nodes 0 es
+  pub each : (v : ℕ) → v < f.nodes → AreEmitted (w.place v).outs 0 (emitted_by v es)
+  pub all : AreAllEmitted f w es

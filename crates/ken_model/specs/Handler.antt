@@ -1,0 +1,43 @@
+-- What a handler makes of a message: the new heap, what it sends, and what it outputs.
+use Rattle.std.specs.Prelude.{ℕ, ◌+◌, ◌-◌, ◌%◌, ◌^◌, List, [], ◌∷◌, if◌then◌else◌, nat_lt, bytes_eq, Option, Some, None, codes, decimal}
+use Rattle.ken_model.specs.declared.kinds.Kind.{Kind}
+use Rattle.ken_model.specs.declared.kinds.Kind.TheVariants.{Ring}
+use Rattle.ken_model.specs.declared.values.Value.{Value}
+use Rattle.ken_model.specs.declared.messages.Message.{Message}
+use Rattle.ken_model.specs.declared.messages.Send.{Send}
+use Rattle.ken_model.specs.Numbers.{num}
+
+-- the kind of a name
+abbrev pub kind_of : List ℕ → Option Kind
+kind_of name = if bytes_eq name (codes "ring") then Some Ring else None
+
+-- what a turn changes, sends and outputs
+pub record Effect : Type 0 where
+  pub value : Value
+  pub sends : List Send
+  pub outs : List (List ℕ)
+
+-- a handler that draws nothing isn't defined at any draws
+abbrev pub without_draws : List ℕ → Effect → Option Effect
+without_draws [] e = Some e
+without_draws (_ ∷ _) e = None
+
+-- a payload that the kind doesn't know is answered `bad`, and changes nothing
+abbrev pub refused : Value → Effect
+refused value = record { value = value; sends = []; outs = codes "bad" ∷ [] }
+
+-- ring counts its turns in the root, and sends what is left of a count on to the next node
+abbrev pub ring_counts : ℕ → ℕ → Value → ℕ → Effect
+ring_counts node nodes value n = record {
+  value = record value { root = (value.root + 1) % 2 ^ 64 };
+  sends = if nat_lt 0 n then record { to = (node + 1) % nodes; bytes = decimal (n - 1) } ∷ [] else [];
+  outs = decimal n ∷ [];
+}
+
+abbrev pub ring : ℕ → ℕ → Value → Option ℕ → Effect
+ring node nodes value None = refused value
+ring node nodes value (Some n) = ring_counts node nodes value n
+
+-- the handler function: nothing where the number of draws isn't the kind's
+unfoldable pub after : Kind → ℕ → ℕ → Value → Message → List ℕ → Option Effect
+after Ring node nodes value message draws = without_draws draws (ring node nodes value (num message.bytes))

@@ -1,0 +1,11 @@
+pub mod Numbers
+pub mod Handler
+pub mod Network
+pub mod Schedule
+pub mod Facts
+pub mod History
+pub mod Emissions
+pub mod Ending
+pub mod Report
+pub mod Spelling
+pub mod Laws

@@ -1,0 +1,96 @@
+-- The abstract network: heaps, stamps and outputs of nodes, and all messages ever sent on links. No crash, no loss, no packet, no thread.
+use Rattle.std.specs.Prelude.{ℕ, ◌+◌, max, List, [], ◌∷◌, ◌++◌, length, ◌&&◌, ◌==◌, nat_lt, if◌then◌else◌, Option, Some, None, option_map, option_and_then, slice_get}
+use Rattle.ken_model.specs.declared.values.Value.{Value}
+use Rattle.ken_model.specs.declared.messages.Message.{Message}
+use Rattle.ken_model.specs.declared.messages.Send.{Send}
+use Rattle.ken_model.specs.declared.messages.Step.{Step}
+use Rattle.ken_model.specs.declared.facts.Facts.{Facts}
+use Rattle.ken_model.specs.declared.facts.Input.{Input}
+use Rattle.ken_model.specs.declared.messages.TheConstants.{OUTSIDE}
+use Rattle.ken_model.specs.Handler.{Effect, after}
+
+-- a node: its heap, its stamp, how many turns it has made, and its outputs, the k-th of which has the number k
+pub record Place : Type 0 where
+  pub value : Value
+  pub stamp : ℕ
+  pub turns : ℕ
+  pub outs : List (List ℕ)
+
+-- a link: all its messages, the k-th of which has the number k, and how many were delivered
+pub record Link : Type 0 where
+  pub sent : List Message
+  pub taken : ℕ
+
+pub record Network : Type 0 where
+  pub place : ℕ → Place
+  pub link : ℕ → ℕ → Link
+
+-- a turn of a node: the message that it takes, what it draws, its stamp, and what it does
+pub record Turn : Type 0 where
+  pub message : Message
+  pub draws : List ℕ
+  pub stamp : ℕ
+  pub effect : Effect
+
+-- the sender of inputs, which is no node
+abbrev pub outside : ℕ
+outside = OUTSIDE
+
+-- an empty heap
+abbrev pub empty_heap : ℕ → Value
+empty_heap size = record { size = size; root = 0; blocks = [] }
+
+abbrev pub first_place : Facts → Place
+first_place f = record { value = empty_heap f.size; stamp = 0; turns = 0; outs = [] }
+
+-- the inputs for node v, as messages that are numbered on from n
+abbrev pub inputs_from : ℕ → ℕ → List Input → List Message
+inputs_from v n [] = []
+inputs_from v n (i ∷ is) = if i.node == v then record { from = outside; to = v; number = n + 1; stamp = 0; bytes = i.text } ∷ inputs_from v (n + 1) is else inputs_from v n is
+
+abbrev pub inputs_for : Facts → ℕ → List Message
+inputs_for f v = inputs_from v 0 f.inputs
+
+-- the start: empty heaps, and all inputs on the links of the outside
+abbrev pub start : Facts → Network
+start f = record { place = λ v. first_place f; link = λ u v. record { sent = if u == outside then inputs_for f v else []; taken = 0 } }
+
+-- the message that comes next on a link
+abbrev pub front : Link → Option Message
+front l = slice_get l.sent l.taken
+
+-- what a turn of node u with that stamp sends to node v, numbered on from n
+abbrev pub numbered : ℕ → ℕ → ℕ → ℕ → List Send → List Message
+numbered u v n stamp [] = []
+numbered u v n stamp (s ∷ ss) = if s.to == v then record { from = u; to = v; number = n + 1; stamp = stamp; bytes = s.bytes } ∷ numbered u v (n + 1) stamp ss else numbered u v n stamp ss
+
+-- the turn of node v that takes a message: its stamp is one more than the larger of the node's and the message's
+unfoldable pub turn_at : Facts → ℕ → Place → List ℕ → Message → Option Turn
+turn_at f v p draws message = option_map (λ e. record { message = message; draws = draws; stamp = max p.stamp message.stamp + 1; effect = e }) (after f.kind v f.nodes p.value message draws)
+
+-- the turn of a step: none where the node has made all its turns, where the link is empty, or where the handler isn't defined at the draws
+abbrev pub turn_of : Facts → Network → Step → Option Turn
+turn_of f w s = if nat_lt (w.place s.node).turns f.turns then option_and_then (turn_at f s.node (w.place s.node) s.draws) (front (w.link s.from s.node)) else None
+
+-- the node after its turn
+abbrev pub place_after : Place → Turn → Place
+place_after p t = record { value = t.effect.value; stamp = t.stamp; turns = p.turns + 1; outs = p.outs ++ t.effect.outs }
+
+-- the link (u, v) after a turn of a node: its own sends are at the end of its links, and its message is delivered
+abbrev pub link_after : ℕ → Turn → ℕ → ℕ → Link → Link
+link_after node t u v l = record {
+  sent = if u == node then l.sent ++ numbered u v (length l.sent) t.stamp t.effect.sends else l.sent;
+  taken = if (u == t.message.from) && (v == node) then l.taken + 1 else l.taken;
+}
+
+-- the network after a turn of a node: nothing else changes
+abbrev pub applied : Network → ℕ → Turn → Network
+applied w node t = record { place = λ v. if v == node then place_after (w.place v) t else w.place v; link = λ u v. link_after node t u v (w.link u v) }
+
+abbrev pub applied_or_same : Network → ℕ → Option Turn → Network
+applied_or_same w node None = w
+applied_or_same w node (Some t) = applied w node t
+
+-- the network after a step: as it was where the step isn't defined
+abbrev pub stepped : Facts → Network → Step → Network
+stepped f w s = applied_or_same w s.node (turn_of f w s)

@@ -1,0 +1,21 @@
+ghost use Rattle.std.specs.Prelude.{◌≡◌};
+ghost use Rattle.ken_model.specs.Handler.{kind_of};
+
+/// Which handler the nodes of a run have.
+#[derive(Clone, Copy, Debug, PartialEq, Eq)]
+pub enum Kind {
+    Ring,
+}
+
+impl Kind {
+    /// The kind of that name.
+    pub fn of(name: &[u8]) -> Option<Kind>
+        ensures { result ≡ kind_of name.now }
+    {
+        if name == b"ring".as_slice() {
+            Some(Kind::Ring)
+        } else {
+            None
+        }
+    }
+}

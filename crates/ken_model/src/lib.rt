@@ -1,0 +1,17 @@
+//! The abstract actors that Ken is proved against: messages, heap values, the facts of a run, and the lines of its
+//! report. The definitions themselves are in `specs/`; `docs/DEFINITIONS.md` tells them in plain words.
+#![tactic(auto)]
+
+mod facts;
+mod kinds;
+mod lists;
+mod messages;
+mod reports;
+mod values;
+
+pub use facts::{Facts, Input, MAX_INPUTS, MAX_NODES, MAX_PAGES, MAX_TEXT, MAX_TURNS, PAGE};
+pub use kinds::Kind;
+pub use lists::{Items, Octets};
+pub use messages::{Message, OUTSIDE, Out, Send, Step};
+pub use reports::{Emission, Ending, Lines, RestartLine, TurnLine};
+pub use values::{Block, Value};
