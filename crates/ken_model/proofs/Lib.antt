@@ -1,1 +1,6 @@
+pub mod Parts
+pub mod NumbersRead
+pub mod WordsFree
+pub mod LinesRead
+pub mod Spelled
 mod Rows
