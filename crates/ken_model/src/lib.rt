@@ -4,6 +4,7 @@
 
 mod facts;
 mod kinds;
+mod laws;
 mod lists;
 mod messages;
 mod reports;
@@ -11,6 +12,7 @@ mod values;
 
 pub use facts::{Facts, Input, MAX_INPUTS, MAX_NODES, MAX_PAGES, MAX_TEXT, MAX_TURNS, PAGE};
 pub use kinds::Kind;
+pub use laws::agreement_is_legal;
 pub use lists::{Items, Octets};
 pub use messages::{Message, OUTSIDE, Out, Send, Step};
 pub use reports::{Emission, Ending, Lines, RestartLine, TurnLine};

@@ -1,0 +1,9 @@
+// Laws of the definitions, each the contract of a function that does nothing.
+ghost use Rattle.ken_model.specs.Laws.{AgreementIsLegal};
+
+/// The turns of all nodes, where each node's are its own and agree with what the others sent, are a legal schedule in
+/// the order of (stamp, node), and playing it gives the same heaps, stamps, outputs and links.
+pub fn agreement_is_legal()
+    ensures { AgreementIsLegal }
+{
+}
