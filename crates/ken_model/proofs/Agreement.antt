@@ -1,14 +1,14 @@
 -- Turns that agree with each other are a legal schedule, in the order of stamps and nodes.
-use Rattle.std.proofs.Common.{◌≡◌, ℕ, ◌+◌, ◌<◌, ◌≤◌, nat_lt, List, [], ◌∷◌, ◌++◌, map, length, ◌==◌, if◌then◌else◌, All, Some, option_and_then, slice_get, drop, refl, sym, ap, ◌∙◌, subst, arith, lt-ltb, eq-eqb, ne_eqb, le_refl, append_assoc, append-nil, length-append}
+use Rattle.std.proofs.Common.{◌≡◌, ℕ, ◌≤◌, List, [], ◌∷◌, ◌++◌, map, length, ◌==◌, if◌then◌else◌, All, Some, slice_get, drop, refl, sym, ap, ◌∙◌, subst, arith, lt-ltb, eq-eqb, ne_eqb, le_refl, append_assoc, append-nil, length-append}
 use Rattle.std.proofs.lemmas.List.{length-map, nil_from_length}
 use Rattle.std.proofs.lemmas.List.Elements.{All-cons, All-filter, All-same}
 use Rattle.ken_model.specs.declared.messages.Message.{Message}
 use Rattle.ken_model.specs.declared.facts.Facts.{Facts}
 use Rattle.ken_model.specs.declared.reports.TurnLine.{TurnLine}
-use Rattle.ken_model.specs.Network.{Network, Turn, outside, first_place, start, turn_at, turn_of, applied}
+use Rattle.ken_model.specs.Network.{Network, Turn, outside, first_place, start, turn_of, applied}
 use Rattle.ken_model.specs.Schedule.{IsLegalFrom, played, turn_lines}
-use Rattle.ken_model.specs.History.{AreTurns, place_of, consumed, messages, InAccord, line_at, lines_at, Rises, IsHistory, Shows}
-use Rattle.ken_model.specs.Laws.{steps_of, IsPlayed, AgreementIsLegal}
+use Rattle.ken_model.specs.History.{AreTurns, consumed, messages, InAccord, line_at, lines_at, Rises, Shows}
+use Rattle.ken_model.specs.Laws.{steps_of, AgreementIsLegal}
 use Rattle.ken_model.proofs.Elements.{slice_get-front, All-unmap, mapped_to, with_others}
 use Rattle.ken_model.proofs.Turns.{AreTurns-append, consumed-append, turn_at-later, Rises-stamps, messages-split}
 use Rattle.ken_model.proofs.Shows.{Shows-start, Shows-same, Shows-one_more, one_more}
@@ -32,14 +32,17 @@ one_less ahead v x = if x == v then drop 1 (ahead x) else ahead x
 
 -- the turn t of node v comes next, and ts are the node's turns after it
 module _ (f : Facts) (h made ahead : ℕ → List Turn) (w : Network) (stamp node v : ℕ) (t : Turn) (ts : List Turn) (ls : List TurnLine) (accord : InAccord f h) (mid : IsMidway f h made ahead w stamp node (line_at v t ∷ ls)) (first : ahead v ≡ t ∷ ts) where
+  -- the turns of node v
   history : h v ≡ made v ++ t ∷ ts
   history = mid.whole v ∙ ap (λ l. made v ++ l) first
 
+  -- the outside makes no turn
   is_node : v ≡ outside → ⊥
   is_node e =
       let nothing : [] ≡ made v ++ t ∷ ts = sym accord.nobody ∙ ap h (sym e) ∙ history in
       omega (arith, ap length nothing, length-append (made v) (t ∷ ts))
 
+  -- they are the node's turns after its place
   turns_ahead : AreTurns f v (w.place v) (t ∷ ts)
   turns_ahead =
       let all = subst (λ l. AreTurns f v (first_place f) l) history (accord.turns v) in
@@ -67,12 +70,14 @@ module _ (f : Facts) (h made ahead : ℕ → List Turn) (w : Network) (stamp nod
       let joined : messages f made u v ++ split.later ≡ consumed u (made v) ++ t.message ∷ (consumed u ts ++ order.0) = sym split.parts ∙ order.1 ∙ ap (λ l. l ++ order.0) took ∙ append_assoc (consumed u (made v)) (t.message ∷ consumed u ts) order.0 in
       rw (mid.shows.sent u v, mid.shows.taken u v) (slice_get-front (λ (m : Message). t.stamp ≤ m.stamp) (messages f made u v) split.later (consumed u (made v)) _ t.message joined split.stamps (λ le. omega arith))
 
+  -- the turn is that of its step
   makes : turn_of f w (line_at v t).step ≡ Some t
   unfolding AreTurns
   makes =
       let few = lt-ltb (w.place v).turns f.turns turns_ahead.0 in
       rw (few, next) turns_ahead.1
 
+  -- the middle after the turn
   moved : IsMidway f h (one_more made v t) (one_less ahead v) (applied w v t) t.stamp v ls
   unfolding Rises
   moved =
@@ -86,14 +91,18 @@ module _ (f : Facts) (h made ahead : ℕ → List Turn) (w : Network) (stamp nod
         rises = mid.rises.1;
       }
 
-  goes_on : IsPlayedFrom f h (applied w v t) t.stamp v ls → IsPlayedFrom f h w stamp node (line_at v t ∷ ls)
+  -- so the turn is the next step, and what is said of the rest is said of all
+  goes_on : (IsMidway f h (one_more made v t) (one_less ahead v) (applied w v t) t.stamp v ls → IsPlayedFrom f h (applied w v t) t.stamp v ls) → IsPlayedFrom f h w stamp node (line_at v t ∷ ls)
   unfolding Rises IsLegalFrom turn_lines played
-  goes_on later = record {
-    legal = (t, makes, mid.rises.0, later.legal);
-    lines_are = rw makes (ap (λ l. line_at v t ∷ l) later.lines_are);
-    shows = rw (makes, played) later.shows;
-  }
+  goes_on rest =
+      let later = rest moved in
+      record {
+        legal = (t, makes, mid.rises.0, later.legal);
+        lines_are = rw makes (ap (λ l. line_at v t ∷ l) later.lines_are);
+        shows = rw (makes, played) later.shows;
+      }
 
+-- by induction over the lines ahead
 played_from : (f : Facts) (h : ℕ → List Turn) → InAccord f h → (lines : List TurnLine) (made ahead : ℕ → List Turn) (w : Network) (stamp node : ℕ) → IsMidway f h made ahead w stamp node lines → IsPlayedFrom f h w stamp node lines
 unfolding IsLegalFrom turn_lines played
 played_from f h accord [] made ahead w stamp node mid =
@@ -104,10 +113,10 @@ played_from f h accord (l ∷ ls) made ahead w stamp node mid =
     let m = mapped_to (line_at v) l (lines_at v ls) (ahead v) (rw (eq-eqb v v refl) at (mid.parts v)) in
     let P : TurnLine → Type 0 = λ x. IsPlayedFrom f h w stamp node (x ∷ ls) in
     let Q : TurnLine → Type 0 = λ x. IsMidway f h made ahead w stamp node (x ∷ ls) in
-    let here = subst Q m.gives mid in
-    let later = moved f h made ahead w stamp node v m.head m.tail ls accord here m.whole in
-    subst P (sym m.gives) (goes_on f h made ahead w stamp node v m.head m.tail ls accord here m.whole (played_from f h accord ls (one_more made v m.head) (one_less ahead v) (applied w v m.head) m.head.stamp v later))
+    let rest = played_from f h accord ls (one_more made v m.head) (one_less ahead v) (applied w v m.head) m.head.stamp v in
+    subst P (sym m.gives) (goes_on f h made ahead w stamp node v m.head m.tail ls accord (subst Q m.gives mid) m.whole rest)
 
+-- the law
 pub agreement_is_legal : AgreementIsLegal
 agreement_is_legal f h lines accord history =
     let p = played_from f h accord lines (λ _. []) h (start f) 0 0 (record { whole = λ v. refl; shows = Shows-start f; parts = history.parts; rises = history.rises }) in

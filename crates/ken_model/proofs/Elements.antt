@@ -15,13 +15,14 @@ pub All-unmap : {A B : Type 0} (P : B → Type 0) (f : A → B) (xs : List A) �
 All-unmap P f [] all = All-nil (λ x. P (f x))
 All-unmap P f (x ∷ xs) all = All-cons (λ x. P (f x)) x xs (All-head P (f x) (map f xs) all) (All-unmap P f xs (All-tail P (f x) (map f xs) all))
 
--- a list that is mapped to y and ys
+-- a list whose first element is mapped to y
 pub record IsMappedTo {A B : Type 0} (f : A → B) (y : B) (xs : List A) : Type 0 where
   pub head : A
   pub tail : List A
   pub whole : xs ≡ head ∷ tail
   pub gives : y ≡ f head
 
+-- a list that is mapped to y and more has a first element
 pub mapped_to : {A B : Type 0} (f : A → B) (y : B) (ys : List B) (xs : List A) → y ∷ ys ≡ map f xs → IsMappedTo f y xs
 mapped_to f y ys [] e = absurd cc
 mapped_to f y ys (x ∷ xs) e = record { head = x; tail = xs; whole = refl; gives = cc }

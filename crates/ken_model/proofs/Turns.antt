@@ -1,5 +1,5 @@
 -- Turns of one node: those that were made, and those that are still ahead.
-use Rattle.std.proofs.Common.{◌≡◌, ℕ, ◌+◌, ◌<◌, ◌≤◌, max, cond, List, [], ◌∷◌, ◌++◌, map, length, ◌==◌, if◌then◌else◌, All, Option, Some, None, option_map, refl, sym, ap, ◌∙◌, ⊎_elim, arith, append_assoc, append-nil, length-append, add-zero, zero-add, Bool, true, false}
+use Rattle.std.proofs.Common.{◌≡◌, ℕ, ◌+◌, ◌<◌, ◌≤◌, max, List, [], ◌∷◌, ◌++◌, length, ◌==◌, if◌then◌else◌, All, Option, Some, None, option_map, refl, sym, ap, ◌∙◌, ⊎_elim, arith, append_assoc, append-nil, length-append, add-zero, zero-add, Bool, true, false}
 use Rattle.std.proofs.lemmas.List.{map-append}
 use Rattle.std.proofs.lemmas.List.Elements.{filter-append, All-nil, All-cons, All-head, All-tail, All-append}
 use Rattle.std.proofs.lemmas.Bool.{cond_both}
@@ -58,17 +58,19 @@ sent_by-stamps u v n s (t ∷ ts) all =
     let sent = numbered u v n t.stamp t.effect.sends in
     All-append (λ (m : Message). s ≤ m.stamp) sent _ (numbered-stamps u v n s t.stamp t.effect.sends (All-head P t ts all)) (sent_by-stamps u v (n + length sent) s ts (All-tail P t ts all))
 
--- a turn's stamp is larger than its message's
+-- the same, by what the handler gives
 later_than_message : (p : Place) (draws : List ℕ) (m : Message) (t : Turn) (o : Option Effect) → option_map (λ (e : Effect). record { message = m; draws = draws; stamp = max p.stamp m.stamp + 1; effect = e }) o ≡ Some t → m.stamp < t.stamp
 later_than_message p draws m t None e = absurd cc
 later_than_message p draws m t (Some effect) e =
     let stamp : max p.stamp m.stamp + 1 ≡ t.stamp = cc in
     omega arith
 
+-- a turn's stamp is larger than its message's
 pub turn_at-later : (f : Facts) (v : ℕ) (p : Place) (draws : List ℕ) (m : Message) (t : Turn) → turn_at f v p draws m ≡ Some t → m.stamp < t.stamp
 unfolding turn_at
 turn_at-later f v p draws m t made = later_than_message p draws m t (after f.kind v f.nodes p.value m draws) made
 
+-- a pair that comes before has no larger stamp
 ComesBefore-stamps : (stamp node later_stamp later_node : ℕ) → ComesBefore stamp node later_stamp later_node → stamp ≤ later_stamp
 ComesBefore-stamps stamp node later_stamp later_node before = ⊎_elim (λ lt. omega arith) (λ same. omega arith) before
 
@@ -86,6 +88,7 @@ pub record IsSplitAt (s : ℕ) (whole front : List Message) : Type 0 where
   pub parts : whole ≡ front ++ later
   pub stamps : All (λ (m : Message). s ≤ m.stamp) later
 
+-- a link of the outside holds all inputs from the start
 of_outside : (s : ℕ) (b : Bool) (inputs whole front : List Message) → IsSplitAt s whole front → IsSplitAt s (if b then inputs else whole) (if b then inputs else front)
 of_outside s true inputs whole front split = record { later = []; parts = sym (append-nil inputs); stamps = All-nil (λ (m : Message). s ≤ m.stamp) }
 of_outside s false inputs whole front split = split

@@ -5,5 +5,4 @@ ghost use Rattle.ken_model.specs.Laws.{AgreementIsLegal};
 /// the order of (stamp, node), and playing it gives the same heaps, stamps, outputs and links.
 pub fn agreement_is_legal()
     ensures { AgreementIsLegal }
-{
-}
+{}
