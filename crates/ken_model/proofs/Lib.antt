@@ -4,3 +4,7 @@ pub mod WordsFree
 pub mod LinesRead
 pub mod Spelled
 mod Rows
+pub mod Elements
+pub mod Turns
+pub mod Shows
+pub mod Agreement

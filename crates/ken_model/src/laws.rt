@@ -1,5 +1,11 @@
 // Laws of the definitions, each the contract of a function that does nothing.
-ghost use Rattle.ken_model.specs.Laws.{ReportSpellsItsRun};
+ghost use Rattle.ken_model.specs.Laws.{AgreementIsLegal, ReportSpellsItsRun};
+
+/// The turns of all nodes, where each node's are its own and agree with what the others sent, are a legal schedule in
+/// the order of (stamp, node), and playing it gives the same heaps, stamps, outputs and links.
+pub fn agreement_is_legal()
+    ensures { AgreementIsLegal }
+{}
 
 /// A report's text gives back the schedule, emissions and restarts of its run.
 pub fn report_spells_its_run()

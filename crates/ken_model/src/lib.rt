@@ -12,7 +12,7 @@ mod values;
 
 pub use facts::{Facts, Input, MAX_INPUTS, MAX_NODES, MAX_PAGES, MAX_TEXT, MAX_TURNS, PAGE};
 pub use kinds::Kind;
-pub use laws::report_spells_its_run;
+pub use laws::{agreement_is_legal, report_spells_its_run};
 pub use lists::{Items, Octets};
 pub use messages::{Message, OUTSIDE, Out, Send, Step};
 pub use reports::{Emission, Ending, Lines, RestartLine, TurnLine};
