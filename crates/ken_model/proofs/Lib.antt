@@ -1,5 +1,6 @@
 pub mod Parts
 pub mod NumbersRead
+pub mod NumbersSmall
 pub mod WordsFree
 pub mod LinesRead
 pub mod Spelled

@@ -15,7 +15,7 @@ use Rattle.ken_model.specs.Spelling.{sender_of, draws_of, IsWord}
 use Rattle.ken_model.proofs.Parts.{IsFree, All-join_with_byte, parts_at-join_with_byte}
 
 -- digits have the value that std gives them
-numerals : IsNumeralModel (λ ds. all_ascii_digits ds ≡ true) (value_from 0)
+pub numerals : IsNumeralModel (λ ds. all_ascii_digits ds ≡ true) (value_from 0)
 numerals = numerals_by_fold _ (search rules) value_from (search rules)
 
 -- a number comes back from its digits
