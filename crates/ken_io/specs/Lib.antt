@@ -1,0 +1,4 @@
+pub mod Causes
+pub mod Transfers
+pub mod Calls
+pub mod Memory
