@@ -1,0 +1,69 @@
+-- The rules of a script, in the order in which they are tried.
+use Rattle.std.specs.Prelude.{◌≡◌, ℕ, List, [], ◌∷◌, Option, Some, None, ⊤, unwrap_or, option_and_then}
+use Rattle.serde_json.specs.Data.{Data}
+use Rattle.ken_model.specs.declared.facts.Input.{Input}
+use Rattle.ken_script.specs.declared.faults.ScriptFault.{ScriptFault}
+use Rattle.ken_script.specs.declared.faults.ScriptFault.TheVariants.{Rule, Memory}
+use Rattle.ken_script.specs.Keys.{unknown_key, nodes_of, kind_in, items_in}
+use Rattle.ken_script.specs.Inputs.{inputs_of, wrong_input, long_text, odd_text}
+use Rattle.ken_script.specs.Object.{IsObject}
+
+-- place 0, where there is no value
+abbrev pub missing : {T : Type 0} → Option T → Option ℕ
+missing None = Some 0
+missing (Some value) = None
+
+-- the place of a fault in a list, and 0 where there is no list
+abbrev pub item_fault : {T : Type 0} → (T → Option ℕ) → Option T → Option ℕ
+item_fault fault None = Some 0
+item_fault fault (Some items) = fault items
+
+-- how many nodes an item may name: none, where the script doesn't say
+abbrev pub node_count : Data → ℕ
+node_count d = unwrap_or (nodes_of d) 0
+
+-- the inputs of the script, if each item is one
+abbrev pub inputs_in : Data → Option (List Input)
+inputs_in d = option_and_then (inputs_of (node_count d)) (items_in d)
+
+-- the first rule that is broken, with its place
+abbrev pub first_of : List (ℕ × Option ℕ) → Option (ℕ × ℕ)
+first_of [] = None
+first_of ((rule, None) ∷ more) = first_of more
+first_of ((rule, Some index) ∷ more) = Some (rule, index)
+
+-- each rule of an object by its number, with the least place at which it is broken: 2, each key is known; 3, the number
+-- of nodes; 4, the kind; 8, the items of `inputs`; 9, the lengths of their texts; 10, the bytes of their texts
+abbrev pub rules_of : Data → List (ℕ × Option ℕ)
+rules_of d =
+    (2, unknown_key d)
+    ∷ (3, missing (nodes_of d))
+    ∷ (4, missing (kind_in d))
+    ∷ (8, item_fault (wrong_input (node_count d)) (items_in d))
+    ∷ (9, option_and_then long_text (inputs_in d))
+    ∷ (10, option_and_then odd_text (inputs_in d))
+    ∷ []
+
+-- the first rule that an object breaks, with the least place at which it does
+abbrev pub fault_in : Data → Option (ℕ × ℕ)
+fault_in d = first_of (rules_of d)
+
+-- a text breaks rule 1 if it is no object that is short enough, and else the first rule that the object breaks
+pub data Breaks (b : List ℕ) : ℕ → ℕ → Type 0 where
+  no_object : ((d : Data) → IsObject b d → ⊥) → Breaks b 1 0
+  in_object : (d : Data) (rule index : ℕ) → IsObject b d → fault_in d ≡ Some (rule, index) → Breaks b rule index
+
+-- a fault is right about a text: the rule that it names is the one that the text breaks, and there
+abbrev pub IsFaultOf : List ℕ → ScriptFault → Type 0
+IsFaultOf b (Rule rule index) = Breaks b rule index
+IsFaultOf b Memory = ⊤
+
+-- the same of an object
+abbrev pub IsFaultIn : Data → ScriptFault → Type 0
+IsFaultIn d (Rule rule index) = fault_in d ≡ Some (rule, index)
+IsFaultIn d Memory = ⊤
+
+-- the same of one rule, where it is broken at that place
+abbrev pub Names : ℕ → Option ℕ → ScriptFault → Type 0
+Names number place (Rule rule index) = (rule ≡ number) × (place ≡ Some index)
+Names number place Memory = ⊤

@@ -1,0 +1,50 @@
+-- The keys of a script, and what stands under each.
+use Rattle.std.specs.Prelude.{ℕ, ◌&&◌, List, [], ◌∷◌, Bool, not, if◌then◌else◌, nat_le, bytes_eq, codes, position, Option, Some, None, option_map, option_and_then}
+use Rattle.std.specs.List.{list_any}
+use Rattle.serde_json.specs.Data.{Data, Items, no_items, item, Members, no_members, member}
+use Rattle.serde_json.specs.Find.{get, as_object, as_array, as_str, as_number, as_u64}
+use Rattle.ken_model.specs.declared.kinds.Kind.{Kind}
+use Rattle.ken_model.specs.declared.facts.TheConstants.{MAX_NODES}
+use Rattle.ken_model.specs.Handler.{kind_of}
+
+-- the keys that a script may have
+abbrev pub keys : List (List ℕ)
+keys = codes "nodes" ∷ codes "kind" ∷ codes "inputs" ∷ []
+
+-- whether a key is one of them
+abbrev pub is_key : List ℕ → Bool
+is_key name = list_any (bytes_eq name) keys
+
+-- the keys of an object, which has each once and keeps them in byte order
+abbrev pub keys_in : Members → List (List ℕ)
+keys_in no_members = []
+keys_in (member name value more) = name ∷ keys_in more
+
+-- the place of the first key that isn't known
+abbrev pub unknown_key : Data → Option ℕ
+unknown_key d = option_and_then (λ members. position (λ name. not (is_key name)) (keys_in members)) (as_object d)
+
+-- a whole number: no point, no exponent, no sign, and below 2^64
+abbrev pub whole : Data → Option ℕ
+whole d = option_and_then as_u64 (as_number d)
+
+-- the number, if it is in that range
+abbrev pub within : ℕ → ℕ → ℕ → Option ℕ
+within least most n = if nat_le least n && nat_le n most then Some n else None
+
+-- the number of nodes, if `nodes` is one that a run can have
+abbrev pub nodes_of : Data → Option ℕ
+nodes_of d = option_and_then (within 1 MAX_NODES) (option_and_then whole (get (codes "nodes") d))
+
+-- the kind, if `kind` is the name of one
+abbrev pub kind_in : Data → Option Kind
+kind_in d = option_and_then kind_of (option_and_then as_str (get (codes "kind") d))
+
+-- the items of an array
+abbrev pub listed : Items → List Data
+listed no_items = []
+listed (item d more) = d ∷ listed more
+
+-- the items of `inputs`, if that is an array
+abbrev pub items_in : Data → Option (List Data)
+items_in d = option_map listed (option_and_then as_array (get (codes "inputs") d))

@@ -1,0 +1,48 @@
+// What stands under each key of a script.
+ghost use Rattle.std.specs.Prelude.{◌≡◌, option_map};
+ghost use Rattle.serde_json.specs.View.{view, items_view, members_view};
+ghost use Rattle.ken_script.specs.Keys.{is_key, unknown_key, nodes_of, kind_in, items_in, listed};
+
+use ken_model::{Kind, MAX_NODES};
+use serde_json::Value;
+
+fn is_key(name: &str) -> bool
+    ensures { result ≡ is_key name.now }
+{
+    matches!(name, "nodes" | "kind" | "inputs")
+}
+
+/// The place of the first key that isn't known, among the keys in byte order.
+pub(crate) fn unknown_key(script: &Value) -> Option<usize>
+    ensures { result ≡ unknown_key (view script.now) }
+{
+    script
+        .as_object()?
+        .keys()
+        .position(|name| !is_key(name.as_str()))
+}
+
+/// The number of nodes, from 1 to `MAX_NODES`.
+pub(crate) fn nodes_of(script: &Value) -> Option<u8>
+    ensures { result ≡ nodes_of (view script.now) }
+{
+    let nodes = script.get("nodes")?.as_u64()?;
+    if nodes == 0 || nodes > u64::from(MAX_NODES) {
+        return None;
+    }
+    Some(nodes as u8)
+}
+
+/// The kind that `kind` names.
+pub(crate) fn kind_in(script: &Value) -> Option<Kind>
+    ensures { result ≡ kind_in (view script.now) }
+{
+    Kind::of(script.get("kind")?.as_str()?.as_bytes())
+}
+
+/// The items of `inputs`, if that is a list.
+pub(crate) fn items_in(script: &Value) -> Option<&[Value]>
+    ensures { option_map (λ vs. listed (items_view vs.now)) result ≡ items_in (view script.now) }
+{
+    Some(script.get("inputs")?.as_array()?.as_slice())
+}

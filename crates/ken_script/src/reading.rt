@@ -1,0 +1,76 @@
+ghost use Rattle.std.specs.Prelude.{◌≡◌, IfOk, IfErr};
+ghost use Rattle.serde_json.specs.View.{view};
+ghost use Rattle.ken_model.specs.Facts.{IsWithinLimits, IsPlainRun};
+ghost use Rattle.ken_script.specs.Object.{IsObject};
+ghost use Rattle.ken_script.specs.Faults.{IsFaultOf, IsFaultIn};
+ghost use Rattle.ken_script.specs.Says.{States, Says};
+
+use crate::faults::{INPUTS, KEYS, KIND, NODES, OBJECT, ScriptFault, TEXT_BYTES, TEXT_LENGTHS};
+use crate::inputs::{inputs_of, long_text, odd_text};
+use crate::keys::{items_in, kind_in, nodes_of, unknown_key};
+use crate::scripts::{DEFAULT_PAGES, DEFAULT_TURNS, LIMIT, Script};
+use ken_model::{Facts, Items, PAGE};
+use serde_json::Value;
+use std::alloc::Global;
+
+/// The object that the text is.
+fn object_in(alloc: Global, bytes: &[u8]) -> Result<Value, ScriptFault>
+    ensures ok { IfOk result (λ value. IsObject bytes.now (view value)) }
+    ensures err { IfErr result (IsFaultOf bytes.now) }
+{
+    if bytes.len() > LIMIT {
+        return Err(ScriptFault::at(OBJECT, 0));
+    }
+    match Value::from_slice(alloc, bytes) {
+        Ok(value) if value.is_object() => Ok(value),
+        Err(e) if e.is_memory() => Err(ScriptFault::Memory),
+        _ => Err(ScriptFault::at(OBJECT, 0)),
+    }
+}
+
+/// What the object states.
+fn script_in(alloc: Global, object: &Value) -> Result<Script, ScriptFault>
+    ensures ok { IfOk result (States (view object.now)) }
+    ensures err { IfErr result (IsFaultIn (view object.now)) }
+{
+    if let Some(place) = unknown_key(object) {
+        return Err(ScriptFault::at(KEYS, place));
+    }
+    let Some(nodes) = nodes_of(object) else {
+        return Err(ScriptFault::at(NODES, 0));
+    };
+    let Some(kind) = kind_in(object) else {
+        return Err(ScriptFault::at(KIND, 0));
+    };
+    let Some(items) = items_in(object) else {
+        return Err(ScriptFault::at(INPUTS, 0));
+    };
+    let inputs = inputs_of(alloc, items, nodes)?;
+    if let Some(place) = long_text(&inputs) {
+        return Err(ScriptFault::at(TEXT_LENGTHS, place));
+    }
+    if let Some(place) = odd_text(&inputs) {
+        return Err(ScriptFault::at(TEXT_BYTES, place));
+    }
+    Ok(Script {
+        facts: Facts {
+            nodes,
+            kind,
+            size: PAGE * DEFAULT_PAGES,
+            turns: DEFAULT_TURNS,
+            inputs: Items::new(inputs),
+        },
+    })
+}
+
+/// Reads a script of at most `LIMIT` bytes. A script that breaks a rule is refused by the first rule that it breaks,
+/// with the least place at which it does.
+pub fn read(alloc: Global, bytes: &[u8]) -> Result<Script, ScriptFault>
+    ensures says { IfOk result (Says bytes.now) }
+    ensures breaks { IfErr result (IsFaultOf bytes.now) }
+    ensures limits { IfOk result (λ script. IsWithinLimits script.facts) }
+    ensures plain { IfOk result (λ script. IsPlainRun script.facts) }
+{
+    let object = object_in(alloc, bytes)?;
+    script_in(alloc, &object)
+}
