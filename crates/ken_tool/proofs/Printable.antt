@@ -1,0 +1,52 @@
+-- What nodes that run hold can be printed.
+use Rattle.std.proofs.Common.{◌≡◌, ℕ, zero, suc, ◌+◌, ◌*◌, ◌<◌, ◌≤◌, ◌^◌, ◌%◌, max, List, [], ◌∷◌, ◌++◌, map, length, slice_index_or, Bool, true, false, ◌==◌, Option, Some, None, option_map, refl, sym, ap, subst, ◌∙◌, ⊎_elim, arith, eq-eqb, ne_eqb}
+use Rattle.std.specs.List.{AllByRecursion}
+use Rattle.std.proofs.lemmas.Bool.{cases_eq}
+use Rattle.ken_model.specs.declared.kinds.Kind.{Kind}
+use Rattle.ken_model.specs.declared.kinds.Kind.TheVariants.{Ring}
+use Rattle.ken_model.specs.declared.values.Value.{Value}
+use Rattle.ken_model.specs.declared.messages.Message.{Message}
+use Rattle.ken_model.specs.declared.facts.Facts.{Facts}
+use Rattle.ken_model.specs.declared.reports.TurnLine.{TurnLine}
+use Rattle.ken_model.specs.Handler.{Effect, after, ring}
+use Rattle.ken_model.specs.Numbers.{num}
+use Rattle.ken_model.specs.Network.{Place, Turn, turn_at, place_after}
+use Rattle.ken_model.specs.History.{AreTurns, places, lines_at}
+use Rattle.ken_model.specs.Spelling.{IsPrintableHeap}
+
+-- what holds of each node's lines holds of all lines
+pub all_lines : (P : TurnLine → Type 0) (ls : List TurnLine) → ((v : ℕ) → AllByRecursion P (lines_at v ls)) → AllByRecursion P ls
+all_lines P [] each = tt
+all_lines P (l ∷ ls) each =
+    let own : (l.step.node == l.step.node) ≡ true = eq-eqb l.step.node l.step.node refl in
+    let here = rw own at (each l.step.node) in
+    (here.0, all_lines P ls (λ v. ⊎_elim
+      (λ e. (let q : (l.step.node == v) ≡ true = eq-eqb l.step.node v e in let both = rw q at (each v) in both.1))
+      (λ ne. (let q : (l.step.node == v) ≡ false = ne_eqb l.step.node v ne in rw q at (each v)))
+      (cases_eq l.step.node v)))
+
+-- a turn leaves a heap that can be printed
+printable_ring : (node nodes : ℕ) (value : Value) (o : Option ℕ) → IsPrintableHeap value → IsPrintableHeap (ring node nodes value o).value
+printable_ring node nodes value None heap = heap
+printable_ring node nodes value (Some n) heap = record { root = omega arith; blocks = heap.blocks }
+
+printable_after : (kind : Kind) (node nodes : ℕ) (value : Value) (m : Message) (draws : List ℕ) (e : Effect) → after kind node nodes value m draws ≡ Some e → IsPrintableHeap value → IsPrintableHeap e.value
+unfolding after
+printable_after Ring node nodes value m [] e made heap =
+    let is : ring node nodes value (num m.bytes) ≡ e = cc in
+    subst (λ (x : Effect). IsPrintableHeap x.value) is (printable_ring node nodes value (num m.bytes) heap)
+printable_after Ring node nodes value m (d ∷ ds) e made heap = absurd cc
+
+some_effect : (p : Place) (draws : List ℕ) (m : Message) (o : Option Effect) (t : Turn) → option_map (λ (e : Effect). record { message = m; draws = draws; stamp = max p.stamp m.stamp + 1; effect = e }) o ≡ Some t → o ≡ Some t.effect
+some_effect p draws m None t made = absurd cc
+some_effect p draws m (Some e) t made = let is : e ≡ t.effect = cc in ap (λ (x : Effect). Some x) is
+
+printable_turn : (f : Facts) (v : ℕ) (p : Place) (draws : List ℕ) (m : Message) (t : Turn) → turn_at f v p draws m ≡ Some t → IsPrintableHeap p.value → IsPrintableHeap t.effect.value
+unfolding turn_at
+printable_turn f v p draws m t made heap = printable_after f.kind v f.nodes p.value m draws t.effect (some_effect p draws m (after f.kind v f.nodes p.value m draws) t made) heap
+
+-- and so do all turns of a node
+pub printable_places : (f : Facts) (v : ℕ) (p : Place) (ts : List Turn) → AreTurns f v p ts → IsPrintableHeap p.value → IsPrintableHeap (places p ts).value
+unfolding AreTurns
+printable_places f v p [] turns heap = heap
+printable_places f v p (t ∷ ts) turns heap = printable_places f v (place_after p t) ts turns.2 (printable_turn f v p t.draws t.message t turns.1 heap)

@@ -1,0 +1,92 @@
+-- What a whole run of the program reads and writes.
+use Rattle.std.specs.Prelude.{◌≡◌, ◌⊎◌, ℕ, List, [], ◌∷◌, ◌++◌, Bool, true, false, Option, Some, None, ⊤, bytes_eq, codes}
+use Rattle.std.specs.Io.KnownBytes.{Appends}
+use Rattle.ken_model.specs.declared.reports.Ending.{Ending}
+use Rattle.ken_model.specs.declared.reports.Ending.TheVariants.{Settled, Cut}
+use Rattle.ken_model.specs.Schedule.{IsLegal, play}
+use Rattle.ken_model.specs.Emissions.{AreLegalEmissions}
+use Rattle.ken_model.specs.Ending.{Ends}
+use Rattle.ken_model.specs.Report.{report, text}
+use Rattle.ken_model.specs.declared.reports.Lines.{Lines}
+use Rattle.ken_io.specs.Transfers.{AppendsFront}
+use Rattle.ken_tool.specs.Ended.{IsRunOf}
+use Rattle.ken_model.specs.Spelling.{spell}
+use Rattle.ken_script.specs.declared.scripts.Script.{Script}
+use Rattle.ken_script.specs.Says.{Says}
+use Rattle.ken_script.specs.Faults.{Breaks}
+use Rattle.ken_tool.specs.declared.status.Status.{Status}
+use Rattle.ken_tool.specs.declared.status.Status.TheVariants as status
+
+-- the words are the program's name and `run`
+abbrev pub are_plain : List (List ℕ) → Bool
+are_plain (name ∷ word ∷ []) = bytes_eq word (codes "run")
+are_plain _ = false
+
+-- the bytes that a source gives, where it tells them
+abbrev pub AreTold : Option (List ℕ) → List ℕ → Type 0
+AreTold None b = ⊤
+AreTold (Some xs) b = b ≡ xs
+
+-- w is the report of a failure-free run of what b says. The run is the one that w spells: its schedule is legal, its
+-- turns, heaps and ending are those of playing the schedule, and its emissions are legal
+pub record IsReport (b : List ℕ) (ending : Ending) (w : List ℕ) : Type 0 where
+  pub script : Script
+  pub says : Says b script
+  pub text : w ≡ report script.facts (spell w).schedule (spell w).emissions (spell w).restarts ending
+  pub legal : IsLegal script.facts (spell w).schedule
+  pub emissions : AreLegalEmissions script.facts (play script.facts (spell w).schedule) (spell w).emissions
+  pub ends : Ends script.facts (play script.facts (spell w).schedule) (spell w).emissions ending
+
+-- w is a front of such a report
+pub record IsFront (b w : List ℕ) : Type 0 where
+  pub rest : List ℕ
+  pub ending : Ending
+  pub whole : IsReport b ending (w ++ rest)
+
+-- what each status says of the bytes that were read and of those that were written
+abbrev pub Wrote : List ℕ → List ℕ → Status → Type 0
+Wrote b w status.Settled = IsReport b Settled w
+Wrote b w status.Cut = IsReport b Cut w
+Wrote b w (status.Script rule index) = (w ≡ []) × Breaks b rule index
+Wrote b w status.Usage = w ≡ []
+Wrote b w status.Read = w ≡ []
+Wrote b w status.Write = IsFront b w
+Wrote b w status.Memory = (w ≡ []) ⊎ IsFront b w
+
+-- the program read b and wrote w
+pub record Ran (left took_old took_new : Option (List ℕ)) (status : Status) : Type 0 where
+  pub read : List ℕ
+  pub written : List ℕ
+  pub told : AreTold left read
+  pub out : Appends took_old took_new written
+  pub wrote : Wrote read written status
+
+-- a status with which nothing is written
+abbrev pub IsQuiet : Status → Type 0
+IsQuiet status.Usage = ⊤
+IsQuiet (status.Script rule index) = ⊤
+IsQuiet status.Read = ⊤
+IsQuiet _ = ⊥
+
+-- the lines of the run that the bytes of a source say
+pub record IsRunOfSource (left : Option (List ℕ)) (l : Lines) : Type 0 where
+  pub read : List ℕ
+  pub told : AreTold left read
+  pub script : Script
+  pub says : Says read script
+  pub run : IsRunOf script.facts l
+
+-- why there are none
+abbrev pub IsRefusal : Option (List ℕ) → Status → Type 0
+IsRefusal left (status.Script rule index) = (b : List ℕ) × AreTold left b × Breaks b rule index
+IsRefusal left status.Read = ⊤
+IsRefusal left status.Memory = ⊤
+IsRefusal left _ = ⊥
+
+-- a report is out as its run ended, or a front of it
+abbrev pub IsOut : Option (List ℕ) → Option (List ℕ) → Lines → Status → Type 0
+IsOut old new l status.Settled = (l.ending ≡ Settled) × Appends old new (text l)
+IsOut old new l status.Cut = (l.ending ≡ Cut) × Appends old new (text l)
+IsOut old new l status.Write = AppendsFront old new (text l)
+IsOut old new l status.Memory = AppendsFront old new (text l)
+IsOut old new l _ = ⊥

@@ -1,0 +1,10 @@
+pub mod Turns
+pub mod Turned
+pub mod Running
+pub mod Drive
+pub mod Timeline
+pub mod Ended
+pub mod Words
+pub mod Printing
+pub mod Headline
+pub mod Statuses

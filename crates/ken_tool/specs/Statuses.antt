@@ -1,0 +1,37 @@
+-- The statuses of faults, and the exit codes of statuses.
+use Rattle.std.specs.Prelude.{ℕ}
+use Rattle.ken_io.specs.declared.faults.ReadFault.{ReadFault}
+use Rattle.ken_io.specs.declared.faults.ReadFault.TheVariants as reading
+use Rattle.ken_model.specs.declared.reports.Ending.{Ending}
+use Rattle.ken_model.specs.declared.reports.Ending.TheVariants as ending
+use Rattle.ken_script.specs.declared.faults.ScriptFault.{ScriptFault}
+use Rattle.ken_script.specs.declared.faults.ScriptFault.TheVariants as script
+use Rattle.ken_tool.specs.declared.print.ReportFault.{ReportFault}
+use Rattle.ken_tool.specs.declared.print.ReportFault.TheVariants as printing
+use Rattle.ken_tool.specs.declared.status.Status.{Status}
+use Rattle.ken_tool.specs.declared.status.Status.TheVariants.{Settled, Usage, Script, Cut, Read, Write, Memory}
+
+abbrev pub exit_code_of : Status → ℕ
+exit_code_of Settled = 0
+exit_code_of Usage = 1
+exit_code_of (Script rule index) = 2
+exit_code_of Cut = 3
+exit_code_of Read = 6
+exit_code_of Write = 7
+exit_code_of Memory = 8
+
+abbrev pub of_reading : ReadFault → Status
+of_reading reading.Failed = Read
+of_reading reading.Memory = Memory
+
+abbrev pub of_script : ScriptFault → Status
+of_script (script.Rule rule index) = Script rule index
+of_script script.Memory = Memory
+
+abbrev pub of_printing : ReportFault → Status
+of_printing printing.Failed = Write
+of_printing printing.Memory = Memory
+
+abbrev pub of_ending : Ending → Status
+of_ending ending.Settled = Settled
+of_ending ending.Cut = Cut

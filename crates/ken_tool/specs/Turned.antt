@@ -1,0 +1,67 @@
+-- What the code of one turn leaves.
+use Rattle.std.specs.Prelude.{◌≡◌, ℕ, ◌+◌, ◌-◌, ◌*◌, ◌<◌, ◌≤◌, ◌^◌, max, ◌⊎◌, length, List, [], ◌∷◌, ◌++◌, Some, vec_len}
+use Rattle.std.specs.List.{AllByRecursion}
+use Rattle.ken_model.specs.declared.messages.Message.{Message}
+use Rattle.ken_model.specs.Handler.{Effect, after}
+use Rattle.ken_model.specs.declared.facts.Facts.{Facts}
+use Rattle.ken_model.specs.Spelling.{IsWord}
+use Rattle.ken_tool.specs.declared.node.Node.{Node}
+use Rattle.ken_tool.specs.declared.node.Pending.{Pending}
+use Rattle.ken_tool.specs.Turns.{IsModest, posted, counted, outputs_from}
+
+-- node v took a message: its heap, stamp, turns and counts are new, and what it sent and output is pending
+pub record IsTurned (f : Facts) (v : ℕ) (m : Message) (old new : Node) (before later : Pending) : Type 0 where
+  pub effect : Effect
+  pub defined : after f.kind v f.nodes old.value m [] ≡ Some effect
+  pub modest : IsModest f.nodes effect.sends effect.outs
+  pub value : new.value ≡ effect.value
+  pub stamp : new.stamp ≡ max old.stamp m.stamp + 1
+  pub turns : new.turns.items ≡ old.turns.items ++ record { stamp = max old.stamp m.stamp + 1; step = record { node = v; from = m.from; draws = [] }; number = m.number } ∷ []
+  pub words : IsWord (max old.stamp m.stamp + 1) × IsWord v × IsWord m.from × IsWord m.number
+  pub sent : new.sent ≡ counted old.sent effect.sends
+  pub mail : later.mail.items ≡ before.mail.items ++ posted v (max old.stamp m.stamp + 1) old.sent effect.sends
+  pub outs : later.outs.items ≡ before.outs.items ++ outputs_from (vec_len old.emitted + vec_len before.outs) effect.outs
+  pub same_mail : new.mail ≡ old.mail
+  pub same_inputs : new.inputs ≡ old.inputs
+  pub same_emitted : new.emitted ≡ old.emitted
+
+-- nothing waits for the node
+abbrev pub HasNone : Node → Type 0
+HasNone n = (n.mail.items ≡ []) × (n.inputs.items ≡ [])
+
+-- the node took a message: mail before inputs, each in order
+pub record Takes (old : Node) (m : Message) (new : Node) : Type 0 where
+  pub next : ((old.mail.items ≡ m ∷ new.mail.items) × (new.inputs.items ≡ old.inputs.items)) ⊎ ((old.mail.items ≡ []) × (new.mail.items ≡ []) × (old.inputs.items ≡ m ∷ new.inputs.items))
+  pub rest : new ≡ record old { mail = new.mail; inputs = new.inputs }
+
+-- the node looked for a message, and there was none
+pub record FindsNone (old new : Node) : Type 0 where
+  pub before : HasNone old
+  pub later : HasNone new
+  pub rest : new ≡ record old { mail = new.mail; inputs = new.inputs }
+
+-- the node made turns one after another, each with the message that came next
+pub data Runs (f : Facts) (v : ℕ) (old : Node) : Node → Pending → Type 0 where
+  none : (p : Pending) → p.mail.items ≡ [] → p.outs.items ≡ [] → Runs f v old old p
+  looked : (n new : Node) (p : Pending) → Runs f v old n p → FindsNone n new → Runs f v old new p
+  more : (n mid new : Node) (m : Message) (p q : Pending) → Runs f v old n p → length n.turns.items < f.turns → Takes n m mid → IsTurned f v m mid new p q → Runs f v old new q
+
+-- how many turns it may still make
+abbrev pub turns_left : Facts → Node → ℕ
+turns_left f n = f.turns - length n.turns.items
+
+-- a stamp that no turn of the node takes past its type
+abbrev pub IsEarly : Facts → Node → ℕ → Type 0
+IsEarly f n stamp = stamp + turns_left f n ≤ 2 ^ 40
+
+-- no number of the node passes its type, however many turns it makes
+pub record IsSound (f : Facts) (n : Node) (pending : ℕ) : Type 0 where
+  pub clock : IsEarly f n n.stamp
+  pub mail : AllByRecursion (λ (m : Message). IsEarly f n m.stamp) n.mail.items
+  pub inputs : AllByRecursion (λ (m : Message). IsEarly f n m.stamp) n.inputs.items
+  pub counts : AllByRecursion (λ k. k ≤ 16 * length n.turns.items) n.sent
+  pub outs : length n.emitted.items + pending ≤ 16 * length n.turns.items
+
+-- it can make no turn now
+abbrev pub IsIdle : Facts → Node → Type 0
+IsIdle f n = HasNone n ⊎ (f.turns ≤ length n.turns.items)

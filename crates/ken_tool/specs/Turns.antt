@@ -1,0 +1,36 @@
+-- One node's turns, as the code makes them.
+use Rattle.std.specs.Prelude.{◌≡◌, ℕ, ◌+◌, ◌*◌, ◌<◌, ◌≤◌, ◌^◌, max, List, [], ◌∷◌, ◌++◌, map, length, ◌==◌, slice_index, slice_set, filter, Some, vec_len, ◌⊎◌}
+use Rattle.std.specs.List.{AllByRecursion}
+use Rattle.ken_model.specs.declared.messages.Message.{Message}
+use Rattle.ken_model.specs.declared.messages.Send.{Send}
+use Rattle.ken_model.specs.declared.messages.Out.{Out}
+
+-- no line feed, so that the text is one line's
+abbrev pub IsOneLine : List ℕ → Type 0
+IsOneLine bytes = AllByRecursion (λ b. (b ≡ 10) → ⊥) bytes
+
+-- few sends and outputs, to nodes of the run, and without line feeds
+pub record IsModest (nodes : ℕ) (sends : List Send) (outs : List (List ℕ)) : Type 0 where
+  pub few_sends : length sends ≤ 16
+  pub few_outs : length outs ≤ 16
+  pub known : AllByRecursion (λ (s : Send). (s.to < nodes) × IsOneLine s.bytes) sends
+  pub one_line : AllByRecursion IsOneLine outs
+
+-- what a turn of node v with that stamp sends, numbered after the counts of what it sent to each node
+unfoldable pub posted : ℕ → ℕ → List ℕ → List Send → List Message
+posted v stamp counts [] = []
+posted v stamp counts (s ∷ ss) = record { from = v; to = s.to; number = slice_index counts s.to + 1; stamp = stamp; bytes = s.bytes } ∷ posted v stamp (slice_set counts s.to (slice_index counts s.to + 1)) ss
+
+-- the counts after it
+unfoldable pub counted : List ℕ → List Send → List ℕ
+counted counts [] = counts
+counted counts (s ∷ ss) = counted (slice_set counts s.to (slice_index counts s.to + 1)) ss
+
+-- outputs, numbered on from n
+unfoldable pub outputs_from : ℕ → List (List ℕ) → List Out
+outputs_from n [] = []
+outputs_from n (x ∷ xs) = record { number = n + 1; text = x } ∷ outputs_from (n + 1) xs
+
+-- all counts have room for k more
+abbrev pub HasRoom : ℕ → List ℕ → Type 0
+HasRoom k counts = AllByRecursion (λ n. n + k < 2 ^ 64) counts

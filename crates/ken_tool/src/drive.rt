@@ -1,0 +1,131 @@
+// A run on one thread: the nodes in turn, until none of them can make a turn.
+ghost use Rattle.std.specs.Prelude.{◌≡◌, ◌<◌, ◌++◌, [], ℕ, true, false, length, slice_index_or, IfOk, OnOk};
+ghost use Rattle.std.specs.List.{AllByRecursion, list_any};
+ghost use Rattle.ken_model.specs.Facts.{IsWithinLimits, IsPlainRun};
+ghost use Rattle.ken_model.specs.Network.{inputs_for};
+ghost use Rattle.ken_tool.specs.declared.node.Node.{Node};
+ghost use Rattle.ken_tool.specs.Running.{sent_to, IsRunning, turns_made};
+ghost use Rattle.ken_tool.specs.Drive.{IsDelivered, IsVisited, IsFresh, IsGiven, is_ready};
+ghost use Rattle.ken_tool.specs.Ended.{IsRunOf};
+
+use crate::ended::gather;
+use crate::node::Node;
+use ken_model::{Facts, Lines, Message, Out};
+use std::alloc::{AllocError, Global};
+
+/// Nodes that have made no turn, without their inputs.
+fn fresh(alloc: Global, facts: &Facts) -> Result<Vec<Node>, AllocError>
+    ensures long { IfOk result (λ nodes. length nodes.items ≡ facts.now.nodes) }
+    ensures fresh { IfOk result (λ nodes. AllByRecursion (λ n. IsFresh facts.now.size n × (n.inputs.items ≡ [])) nodes.items) }
+{
+    let mut nodes = Vec::new(alloc);
+    for _node in 0..facts.nodes {
+        nodes.push(Node::new(alloc, facts.size))?;
+    }
+    Ok(nodes)
+}
+
+/// Puts all inputs where their nodes find them, in order. After an error the run can't go on.
+fn give_inputs(alloc: Global, facts: &Facts, nodes: &mut [Node]) -> Result<(), AllocError>
+    requires limits { IsWithinLimits facts.now }
+    requires long { length nodes.old ≡ facts.now.nodes }
+    requires fresh { AllByRecursion (λ n. IsFresh facts.now.size n × (n.inputs.items ≡ [])) nodes.old }
+    ensures { OnOk result ((v : ℕ) (d : Node) → v < facts.now.nodes
+        → IsGiven facts.now.size (slice_index_or nodes.new v d) [] (inputs_for facts.now v)) }
+{
+    for input in facts.inputs.as_slice() {
+        nodes[input.node as usize].give(alloc, input)?;
+    }
+    Ok(())
+}
+
+/// The nodes at the start: empty heaps, no turns, and the inputs of each in order.
+fn start(alloc: Global, facts: &Facts) -> Result<Vec<Node>, AllocError>
+    requires limits { IsWithinLimits facts.now }
+    requires plain { IsPlainRun facts.now }
+    ensures { IfOk result (λ nodes. IsRunning facts.now nodes.items) }
+{
+    let mut nodes = fresh(alloc, facts)?;
+    give_inputs(alloc, facts, &mut nodes)?;
+    Ok(nodes)
+}
+
+/// Puts messages where their receivers find them, in order. After an error the run can't go on.
+fn deliver(nodes: &mut [Node], mail: Vec<Message>) -> Result<(), AllocError>
+    requires known { AllByRecursion (λ m. m.to < length nodes.old) mail.items }
+    ensures { OnOk result ((w : ℕ) (d : Node) → w < length nodes.old
+        → IsDelivered (slice_index_or nodes.old w d) (slice_index_or nodes.new w d) (sent_to w mail.items)) }
+{
+    for message in mail {
+        let to = message.to as usize;
+        nodes[to].mail.push_back(message)?;
+    }
+    Ok(())
+}
+
+/// Emits the outputs of a node, each once. After an error the run can't go on.
+fn emit(node: &mut Node, mut outs: Vec<Out>) -> Result<(), AllocError>
+    ensures rest { node.new ≡ record node.old { emitted = node.new.emitted } }
+    ensures emitted { OnOk result (node.new.emitted.items ≡ node.old.emitted.items ++ outs.items) }
+{
+    node.emitted.append(&mut outs)
+}
+
+/// Visits a node: it makes all its turns, then what they sent is there for the others, then their outputs are emitted.
+/// After an error the run can't go on.
+fn visit(alloc: Global, facts: &Facts, nodes: &mut [Node], node: u8) -> Result<(), AllocError>
+    requires limits { IsWithinLimits facts.now }
+    requires known { node < facts.now.nodes }
+    requires running { IsRunning facts.now nodes.old }
+    ensures running { OnOk result (IsRunning facts.now nodes.new) }
+    ensures visited { OnOk result (IsVisited facts.now node nodes.old nodes.new) }
+{
+    let at = node as usize;
+    let pending = nodes[at].run(alloc, facts, node)?;
+    deliver(nodes, pending.mail)?;
+    emit(&mut nodes[at], pending.outs)
+}
+
+/// Visits each node once. After an error the run can't go on.
+fn pass(alloc: Global, facts: &Facts, nodes: &mut [Node]) -> Result<(), AllocError>
+    requires limits { IsWithinLimits facts.now }
+    requires running { IsRunning facts.now nodes.old }
+    ensures running { OnOk result (IsRunning facts.now nodes.new) }
+    ensures grown { OnOk result (list_any (is_ready facts.now) nodes.old ≡ true → turns_made nodes.old < turns_made nodes.new) }
+{
+    for node in 0..facts.nodes {
+        visit(alloc, facts, nodes, node)?;
+    }
+    Ok(())
+}
+
+/// Whether some node can make a turn.
+fn is_any_ready(facts: &Facts, nodes: &[Node]) -> bool
+    ensures { result ≡ list_any (is_ready facts.now) nodes.now }
+{
+    nodes.iter().any(|node| node.is_ready(facts))
+}
+
+/// Makes passes until no node can make a turn. After an error the run can't go on.
+fn drain(alloc: Global, facts: &Facts, nodes: &mut [Node]) -> Result<(), AllocError>
+    requires limits { IsWithinLimits facts.now }
+    requires running { IsRunning facts.now nodes.old }
+    ensures running { OnOk result (IsRunning facts.now nodes.new) }
+    ensures idle { OnOk result (list_any (is_ready facts.now) nodes.new ≡ false) }
+{
+    'passes: while is_any_ready(facts, nodes) {
+        pass(alloc, facts, nodes)?;
+    }
+    Ok(())
+}
+
+/// Runs a script: the lines of its report. After an error there is no report.
+pub(crate) fn run(alloc: Global, facts: &Facts) -> Result<Lines, AllocError>
+    requires limits { IsWithinLimits facts.now }
+    requires plain { IsPlainRun facts.now }
+    ensures { IfOk result (IsRunOf facts.now) }
+{
+    let mut nodes = start(alloc, facts)?;
+    drain(alloc, facts, &mut nodes)?;
+    gather(alloc, nodes)
+}

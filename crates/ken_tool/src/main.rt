@@ -1,0 +1,41 @@
+//! The program `ken`: rollback recovery over a simulated group of nodes. `ken run` reads a script on standard input and
+//! writes the report of its run.
+#![tactic(auto)]
+
+mod drive;
+mod handler;
+mod ended;
+mod node;
+mod print;
+mod status;
+mod timeline;
+mod tool;
+mod world;
+
+use ken_io::{StdSink, StdSource};
+use std::process::ExitCode;
+use std::env;
+use status::Status;
+use tool::ken;
+use world::MemWorld;
+
+fn main(rt: HostRuntime) -> ExitCode {
+    let status = match command_line(&rt) {
+        Ok(words) => {
+            let mut source = StdSource::new(rt.stdin());
+            let mut sink = StdSink::new(rt.stdout());
+            ken(&rt, rt.alloc(), &words, &mut source, &mut sink, &mut MemWorld)
+        }
+        Err(status) => status,
+    };
+    if status != Status::Settled {
+        let _ = eprintln!(rt; "{status}");
+    }
+    ExitCode::from(status.exit_code())
+}
+
+/// The words of the command line. Words that aren't text are no plain words.
+fn command_line(rt: &HostRuntime) -> Result<Vec<String>, Status> {
+    let args = env::args(rt).map_err(|_| Status::Usage)?;
+    args.collect(rt.alloc()).map_err(|_| Status::Memory)
+}

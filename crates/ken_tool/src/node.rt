@@ -1,0 +1,203 @@
+// A node of a run: its heap, its turns, and what waits for it.
+ghost use Rattle.std.specs.Prelude.{◌≡◌, ◌⊎◌, ◌+◌, ◌*◌, ◌<◌, ◌≤◌, ◌^◌, max, List, [], ◌∷◌, ◌++◌, ℕ, length, slice_index, Some, IfOk, OnOk, MatchOption, vec_len, MatchBool};
+ghost use Rattle.std.specs.List.{AllByRecursion};
+ghost use Rattle.ken_tool.specs.Turns.{posted, counted, outputs_from, HasRoom};
+ghost use Rattle.ken_model.specs.Facts.{IsWithinLimits};
+ghost use Rattle.ken_tool.specs.Turned.{IsTurned, FindsNone, Takes, Runs, IsSound, IsIdle};
+
+ghost use Rattle.ken_tool.specs.Drive.{is_ready, input_at, IsFresh};
+
+use crate::handler::on_message;
+use ken_model::{Facts, Input, Items, Message, OUTSIDE, Octets, Out, Send, Step, TurnLine, Value};
+use std::alloc::{AllocError, Global};
+use std::collections::VecDeque;
+
+/// What a node has sent and output since it was visited, and nobody has seen yet.
+#[derive(Debug, Drop)]
+pub(crate) struct Pending {
+    pub mail: Vec<Message>,
+    pub outs: Vec<Out>,
+}
+
+#[derive(Debug, Drop)]
+pub(crate) struct Node {
+    pub value: Value,
+    pub stamp: u64,
+    /// Its turns so far.
+    pub turns: Vec<TurnLine>,
+    /// How many messages it sent to each node.
+    pub sent: [u64; 8],
+    /// Messages of nodes that it hasn't taken, as they came.
+    pub mail: VecDeque<Message>,
+    /// Inputs that it hasn't taken.
+    pub inputs: VecDeque<Message>,
+    /// Its outputs so far, as they were emitted.
+    pub emitted: Vec<Out>,
+}
+
+impl Pending {
+    fn new(alloc: Global) -> Self
+        ensures { (result.mail.items ≡ []) × (result.outs.items ≡ []) }
+    {
+        Pending {
+            mail: Vec::new(alloc),
+            outs: Vec::new(alloc),
+        }
+    }
+}
+
+impl Node {
+    /// A node with an empty heap, which has made no turn.
+    pub(crate) fn new(alloc: Global, size: u64) -> Self
+        ensures fresh { IsFresh size result }
+        ensures inputs { result.inputs.items ≡ [] }
+    {
+        Node {
+            value: Value {
+                size,
+                root: 0,
+                blocks: Items::new(Vec::new(alloc)),
+            },
+            stamp: 0,
+            turns: Vec::new(alloc),
+            sent: [0; 8],
+            mail: VecDeque::new(alloc),
+            inputs: VecDeque::new(alloc),
+            emitted: Vec::new(alloc),
+        }
+    }
+
+    /// Puts an input with those that wait for the node. After an error the run can't go on.
+    pub(crate) fn give(&mut self, alloc: Global, input: &Input) -> Result<(), AllocError>
+        requires { length self.old.inputs.items + 1 < 2 ^ 64 }
+        ensures rest { self.new ≡ record self.old { inputs = self.new.inputs } }
+        ensures inputs { OnOk result (self.new.inputs.items ≡ self.old.inputs.items
+            ++ input_at (length self.old.inputs.items + 1) input.now ∷ []) }
+    {
+        let bytes = Vec::from_slice(alloc, input.text.as_slice())?;
+        let number = self.inputs.len() as u64 + 1;
+        self.inputs.push_back(Message {
+            from: OUTSIDE,
+            to: input.node,
+            number,
+            stamp: 0,
+            bytes: Octets::new(bytes),
+        })?;
+        Ok(())
+    }
+
+    /// Whether it can make a turn: something waits for it, and it has turns left.
+    pub(crate) fn is_ready(&self, facts: &Facts) -> bool
+        ensures { result ≡ is_ready facts.now self.now }
+    {
+        (self.turns.len() as u64) < facts.turns && !(self.mail.is_empty() && self.inputs.is_empty())
+    }
+
+    /// The next message, mail before inputs.
+    fn take(&mut self) -> Option<Message>
+        ensures next { MatchOption result (FindsNone self.old self.new) (λ m. Takes self.old m self.new) }
+    {
+        match self.mail.pop_front() {
+            Some(message) => Some(message),
+            None => self.inputs.pop_front(),
+        }
+    }
+
+    /// Numbers a message, and puts it with those that are to leave.
+    #[tactic(auto, unfolding(crate::specs::Turns::posted, crate::specs::Turns::counted))]
+    fn post(&mut self, node: u8, stamp: u64, send: Send, mail: &mut Vec<Message>) -> Result<(), AllocError>
+        requires known { send.to < 8 }
+        requires room { slice_index self.old.sent send.to + 1 < 2 ^ 64 }
+        ensures rest { self.new ≡ record self.old { sent = self.new.sent } }
+        ensures sent { OnOk result (self.new.sent ≡ counted self.old.sent (send ∷ [])) }
+        ensures mail { OnOk result (mail.new.items ≡ mail.old.items ++ posted node stamp self.old.sent (send ∷ [])) }
+    {
+        let to = send.to;
+        let number = self.sent[to as usize] + 1;
+        mail.push(Message {
+            from: node,
+            to,
+            number,
+            stamp,
+            bytes: send.bytes,
+        })?;
+        self.sent[to as usize] = number;
+        Ok(())
+    }
+
+    /// Numbers all messages of a turn, in order.
+    #[tactic(auto, unfolding(crate::specs::Turns::posted, crate::specs::Turns::counted))]
+    fn post_all(&mut self, node: u8, stamp: u64, sends: Vec<Send>, mail: &mut Vec<Message>) -> Result<(), AllocError>
+        requires known { AllByRecursion (λ s. s.to < 8) sends.items }
+        requires room { HasRoom (length sends.items) self.old.sent }
+        ensures rest { self.new ≡ record self.old { sent = self.new.sent } }
+        ensures sent { OnOk result (self.new.sent ≡ counted self.old.sent sends.items) }
+        ensures mail { OnOk result (mail.new.items ≡ mail.old.items ++ posted node stamp self.old.sent sends.items) }
+    {
+        for send in sends {
+            self.post(node, stamp, send, mail)?;
+        }
+        Ok(())
+    }
+
+    /// Numbers the outputs of a turn, in order.
+    #[tactic(auto, unfolding(crate::specs::Turns::outputs_from))]
+    fn output_all(&self, outs: Vec<Octets>, made: &mut Vec<Out>) -> Result<(), AllocError>
+        requires { vec_len self.now.emitted + vec_len made.old + length outs.items < 2 ^ 64 }
+        ensures { OnOk result (made.new.items ≡ made.old.items ++ outputs_from (vec_len self.now.emitted + vec_len made.old) outs.items) }
+    {
+        for text in outs {
+            let number = (self.emitted.len() + made.len()) as u64 + 1;
+            made.push(Out { number, text })?;
+        }
+        Ok(())
+    }
+
+    /// Makes the turn that takes a message. After an error the run can't go on.
+    fn turn(
+        &mut self,
+        alloc: Global,
+        facts: &Facts,
+        node: u8,
+        message: Message,
+        pending: &mut Pending,
+    ) -> Result<(), AllocError>
+        requires nodes { (0 < facts.now.nodes) × (facts.now.nodes ≤ 8) × (node < 255) }
+        requires clock { max self.old.stamp message.stamp + 1 < 2 ^ 64 }
+        requires counts { HasRoom 16 self.old.sent }
+        requires outs { vec_len self.old.emitted + vec_len pending.old.outs + 16 < 2 ^ 64 }
+        ensures { OnOk result (IsTurned facts.now node message self.old self.new pending.old pending.new) }
+    {
+        let answer = on_message(alloc, facts.kind, node, facts.nodes, &mut self.value, &message)?;
+        let stamp = self.stamp.max(message.stamp) + 1;
+        self.stamp = stamp;
+        self.turns.push(TurnLine {
+            stamp,
+            step: Step {
+                node,
+                from: message.from,
+                draws: Items::new(Vec::new(alloc)),
+            },
+            number: message.number,
+        })?;
+        self.post_all(node, stamp, answer.sends, &mut pending.mail)?;
+        self.output_all(answer.outs, &mut pending.outs)
+    }
+
+    /// Makes all turns that the node can make now, and hands over what is to leave it.
+    /// After an error the run can't go on.
+    pub(crate) fn run(&mut self, alloc: Global, facts: &Facts, node: u8) -> Result<Pending, AllocError>
+        requires limits { IsWithinLimits facts.now }
+        requires known { node < facts.now.nodes }
+        requires sound { IsSound facts.now self.old 0 }
+        ensures runs { IfOk result (Runs facts.now node self.old self.new) }
+        ensures idle { OnOk result (IsIdle facts.now self.new) }
+    {
+        let mut pending = Pending::new(alloc);
+        'turns: while (self.turns.len() as u64) < facts.turns {
+            let Some(message) = self.take() else { break };
+            self.turn(alloc, facts, node, message, &mut pending)?;
+        }
+        Ok(pending)
+    }
+}

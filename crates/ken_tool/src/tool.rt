@@ -1,0 +1,78 @@
+// The top call.
+ghost use Rattle.std.specs.Prelude.{◌≡◌, ◌↔◌, ◌≤◌, false, map, string_bytes, IfOk, IfErr, IsErrOf};
+ghost use Rattle.ken_io.specs.Causes.{Rose};
+ghost use Rattle.ken_tool.specs.Headline.{are_plain, Ran, IsQuiet, IsRunOfSource, IsRefusal, IsOut};
+
+use crate::drive;
+use crate::print;
+use crate::status::Status;
+use crate::world::World;
+use ken_io::{Sink, Source, read_all};
+use ken_model::Lines;
+use ken_script::LIMIT;
+use std::alloc::Global;
+
+/// Does what the program does: reads a script, runs it, and writes its report. `words` begins with the program's name.
+///
+/// Whatever the status, a call waits for nobody and returns. `Memory` comes where memory is wanted, and else as each
+/// status says.
+pub fn ken<R, S: Source, K: Sink, W: World>(
+    _rt: &R,
+    alloc: Global,
+    words: &[String],
+    source: &mut S,
+    sink: &mut K,
+    _world: &mut W,
+) -> Status
+    ensures usage { (result ≡ Status.Usage) ↔ (are_plain (map string_bytes words.now) ≡ false) }
+    ensures runs { Ran (S.left source.old) (K.took sink.old) (K.took sink.new) result }
+    ensures read { result ≡ Status.Read → Rose (S.faults source.old) (S.faults source.new) }
+    ensures write { result ≡ Status.Write → Rose (K.faults sink.old) (K.faults sink.new) }
+    ensures source_faults { S.faults source.old ≤ S.faults source.new }
+    ensures sink_faults { K.faults sink.old ≤ K.faults sink.new }
+    ensures unread { result ≡ Status.Usage → source.new ≡ source.old }
+    ensures unwritten { IsQuiet result → sink.new ≡ sink.old }
+{
+    if !is_plain(words) {
+        return Status::Usage;
+    }
+    match run(alloc, source) {
+        Ok(lines) => written(alloc, sink, &lines),
+        Err(status) => status,
+    }
+}
+
+/// Whether the words are the program's name and `run`.
+fn is_plain(words: &[String]) -> bool
+    ensures { result ≡ are_plain (map string_bytes words.now) }
+{
+    match words {
+        [_, word] => word.as_str() == "run",
+        _ => false,
+    }
+}
+
+/// Reads a script and runs it.
+fn run<S: Source>(alloc: Global, source: &mut S) -> Result<Lines, Status>
+    ensures ran { IfOk result (IsRunOfSource (S.left source.old)) }
+    ensures refused { IfErr result (IsRefusal (S.left source.old)) }
+    ensures read { IsErrOf result Status.Read → Rose (S.faults source.old) (S.faults source.new) }
+    ensures faults { S.faults source.old ≤ S.faults source.new }
+{
+    let bytes = read_all(alloc, source, LIMIT)?;
+    let script = ken_script::read(alloc, bytes.as_slice())?;
+    let lines = drive::run(alloc, &script.facts)?;
+    Ok(lines)
+}
+
+/// Writes a report, and answers how its run ended.
+fn written<K: Sink>(alloc: Global, sink: &mut K, lines: &Lines) -> Status
+    ensures out { IsOut (K.took sink.old) (K.took sink.new) lines.now result }
+    ensures write { result ≡ Status.Write → Rose (K.faults sink.old) (K.faults sink.new) }
+    ensures faults { K.faults sink.old ≤ K.faults sink.new }
+{
+    match print::print(alloc, sink, lines) {
+        Ok(()) => Status::from(lines.ending),
+        Err(fault) => Status::from(fault),
+    }
+}
