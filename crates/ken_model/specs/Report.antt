@@ -1,6 +1,6 @@
 -- The text of a report.
-use Rattle.std.specs.Prelude.{ℕ, ◌+◌, List, [], ◌∷◌, ◌++◌, map, length, ◌==◌, if◌then◌else◌, codes, decimal, flat_map}
-use Rattle.std.specs.List.{join_with_byte}
+use Rattle.std.specs.Prelude.{◌≡◌, ℕ, ◌+◌, List, [], ◌∷◌, ◌++◌, map, length, ◌==◌, if◌then◌else◌, codes, decimal, flat_map}
+use Rattle.std.specs.List.{join_with_byte, AllByRecursion}
 use Rattle.ken_model.specs.declared.values.Block.{Block}
 use Rattle.ken_model.specs.declared.values.Value.{Value}
 use Rattle.ken_model.specs.declared.messages.Step.{Step}
@@ -14,6 +14,10 @@ use Rattle.ken_model.specs.declared.reports.Ending.TheVariants.{Settled, Cut}
 use Rattle.ken_model.specs.Network.{start, outside}
 use Rattle.ken_model.specs.Schedule.{play, turn_lines}
 use Rattle.ken_model.specs.Ending.{nodes_of, waiting}
+
+-- no line feed, so that a text is part of one line
+abbrev pub IsOneLine : List ℕ → Type 0
+IsOneLine bytes = AllByRecursion (λ b. (b ≡ 10) → ⊥) bytes
 
 -- words with a space between two, and a line feed at the end
 unfoldable pub line : List (List ℕ) → List ℕ

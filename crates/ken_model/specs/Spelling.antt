@@ -1,5 +1,5 @@
 -- A report's text read back: the schedule, emissions and restarts that its lines name.
-use Rattle.std.specs.Prelude.{◌≡◌, ℕ, ◌<◌, ◌^◌, List, [], ◌∷◌, map, length, ◌==◌, if◌then◌else◌, bytes_eq, codes, Option, Some, None, filter_map}
+use Rattle.std.specs.Prelude.{ℕ, ◌<◌, ◌^◌, List, [], ◌∷◌, map, length, ◌==◌, if◌then◌else◌, bytes_eq, codes, Option, Some, None, filter_map}
 use Rattle.std.specs.List.{join_with_byte, slice_split, AllByRecursion}
 use Rattle.ken_model.specs.declared.values.Value.{Value}
 use Rattle.ken_model.specs.declared.values.Block.{Block}
@@ -10,6 +10,7 @@ use Rattle.ken_model.specs.declared.reports.RestartLine.{RestartLine}
 use Rattle.ken_model.specs.declared.reports.Lines.{Lines}
 use Rattle.ken_model.specs.Numbers.{value_from}
 use Rattle.ken_model.specs.Network.{outside}
+use Rattle.ken_model.specs.Report.{IsOneLine}
 
 pub record Spelling : Type 0 where
   pub schedule : List Step
@@ -61,7 +62,7 @@ pub record IsPrintableTurn (l : TurnLine) : Type 0 where
 pub record IsPrintableEmission (e : Emission) : Type 0 where
   pub node : IsWord e.node
   pub number : IsWord e.out.number
-  pub text : AllByRecursion (λ b. (b ≡ 10) → ⊥) e.out.text
+  pub text : IsOneLine e.out.text
 
 pub record IsPrintableHeap (value : Value) : Type 0 where
   pub root : IsWord value.root

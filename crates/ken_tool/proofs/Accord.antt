@@ -1,14 +1,13 @@
 -- The turns of nodes that run agree with each other, and the gathered lines are their history.
-use Rattle.std.proofs.Common.{◌≡◌, ℕ, ◌+◌, ◌<◌, ◌≤◌, List, [], ◌∷◌, ◌++◌, map, length, slice_index_or, Bool, true, false, ◌==◌, refl, sym, ap, subst, ◌∙◌, ⊎_elim, arith, append-nil, eq-eqb, ne_eqb}
+use Rattle.std.proofs.Common.{◌≡◌, ℕ, ◌<◌, List, [], ◌++◌, map, slice_index_or, true, false, ◌==◌, sym, ap, subst, ◌∙◌, ⊎_elim, arith, append-nil, eq-eqb, ne_eqb}
 use Rattle.std.proofs.lemmas.Bool.{cases_eq, cases_lt}
-use Rattle.ken_model.specs.declared.messages.Message.{Message}
 use Rattle.ken_model.specs.declared.facts.Facts.{Facts}
 use Rattle.ken_model.specs.declared.reports.Lines.{Lines}
 use Rattle.ken_model.specs.Facts.{IsWithinLimits}
 use Rattle.ken_model.specs.Network.{Turn, outside, inputs_for, first_place}
 use Rattle.ken_model.specs.History.{AreTurns, InAccord, IsHistory, IsPrefixOf, consumed, messages, sent_by, line_at}
 use Rattle.ken_tool.specs.declared.node.Node.{Node}
-use Rattle.ken_tool.specs.Running.{IsRunning, IsStanding, from}
+use Rattle.ken_tool.specs.Running.{IsRunning, from}
 use Rattle.ken_tool.specs.Ended.{IsGathered}
 
 -- a link of the outside
@@ -30,9 +29,9 @@ pub flow-running : (f : Facts) (nodes : List Node) (limits : IsWithinLimits f) (
 flow-running f nodes limits r d u v lt = ⊎_elim
     (λ e. ap (λ k. r.flow k v) e ∙ r.inputs v lt ∙ sym (messages-outside f r.history u v e))
     (λ ne. ⊎_elim
-      (λ known. sym (messages-inside f r.history u v ne ∙ (r.each u d known).sent v ∙ append-nil (r.flow u v)))
-      (λ past. r.strangers u v past ne ∙ sym (messages-inside f r.history u v ne ∙ sent_by-nothing u v (r.history u) (r.nobody u past)))
-      (cases_lt u f.nodes))
+    (λ known. sym (messages-inside f r.history u v ne ∙ (r.each u d known).sent v ∙ append-nil (r.flow u v)))
+    (λ past. r.strangers u v past ne ∙ sym (messages-inside f r.history u v ne ∙ sent_by-nothing u v (r.history u) (r.nobody u past)))
+    (cases_lt u f.nodes))
     (cases_eq u outside)
 
 turns_of_nobody : (f : Facts) (v : ℕ) (ts : List Turn) → ts ≡ [] → AreTurns f v (first_place f) ts
@@ -45,20 +44,20 @@ accord-running f nodes limits r d = record {
   turns = λ v. ⊎_elim (λ lt. (r.each v d lt).turns) (λ past. turns_of_nobody f v (r.history v) (r.nobody v past)) (cases_lt v f.nodes);
   nobody = r.nobody outside (omega (arith, limits.few_nodes));
   order = λ u v. ⊎_elim
-    (λ lt. (let n = slice_index_or nodes v d in
+      (λ lt. (let n = slice_index_or nodes v d in
       let whole : IsPrefixOf (consumed u (r.history v)) (messages f r.history u v) =
-        (from u n.mail.items ++ from u n.inputs.items, sym (flow-running f nodes limits r d u v lt) ∙ sym ((r.each v d lt).reached u)) in whole))
-    (λ past. (let none : IsPrefixOf (consumed u (r.history v)) (messages f r.history u v) =
-        (messages f r.history u v, ap (λ ts. consumed u ts ++ messages f r.history u v) (sym (r.nobody v past))) in none))
-    (cases_lt v f.nodes)
+      (from u n.mail.items ++ from u n.inputs.items, sym (flow-running f nodes limits r d u v lt) ∙ sym ((r.each v d lt).reached u)) in whole))
+      (λ past. (let none : IsPrefixOf (consumed u (r.history v)) (messages f r.history u v) =
+      (messages f r.history u v, ap (λ ts. consumed u ts ++ messages f r.history u v) (sym (r.nobody v past))) in none))
+      (cases_lt v f.nodes);
 }
 
 -- the gathered lines are their history
 pub history-gathered : (f : Facts) (nodes : List Node) (r : IsRunning f nodes) (d : Node) (l : Lines) → IsGathered nodes l → IsHistory r.history l.turns
 history-gathered f nodes r d l g = record {
   parts = λ v. ⊎_elim
-    (λ lt. g.parts v d (omega (arith, r.width)) ∙ (r.each v d lt).lines)
-    (λ past. g.others v (omega (arith, r.width)) ∙ ap (map (line_at v)) (sym (r.nobody v past)))
-    (cases_lt v f.nodes);
-  rises = g.rises
+      (λ lt. g.parts v d (omega (arith, r.width)) ∙ (r.each v d lt).lines)
+      (λ past. g.others v (omega (arith, r.width)) ∙ ap (map (line_at v)) (sym (r.nobody v past)))
+      (cases_lt v f.nodes);
+  rises = g.rises;
 }

@@ -1,7 +1,6 @@
 -- Outputs that were emitted once each, in order, are legal emissions.
-use Rattle.std.proofs.Common.{◌≡◌, ℕ, zero, suc, ◌+◌, ◌-◌, ◌*◌, ◌<◌, ◌≤◌, ◌^◌, max, List, [], ◌∷◌, ◌++◌, map, length, slice_get, slice_index_or, Bool, true, false, ◌==◌, Some, filter, refl, sym, ap, subst, ◌∙◌, ⊎_elim, arith, append-nil, append_assoc, length-append, eq-eqb, ne_eqb}
+use Rattle.std.proofs.Common.{◌≡◌, ℕ, zero, suc, ◌+◌, ◌-◌, ◌<◌, ◌≤◌, ◌^◌, max, List, [], ◌∷◌, ◌++◌, length, slice_get, slice_index_or, true, false, ◌==◌, Some, refl, sym, ap, subst, ◌∙◌, arith, append-nil, append_assoc, length-append, eq-eqb, ne_eqb}
 use Rattle.std.specs.List.{AllByRecursion}
-use Rattle.std.proofs.lemmas.Bool.{cases_eq}
 use Rattle.std.proofs.lemmas.List.{map-append}
 use Rattle.std.proofs.lemmas.List.Elements.{filter-append}
 use Rattle.ken_model.specs.declared.messages.Out.{Out}
@@ -9,7 +8,8 @@ use Rattle.ken_model.specs.declared.reports.Emission.{Emission}
 use Rattle.ken_model.specs.Emissions.{emitted_by, AreEmitted, largest_of, AreByNode}
 use Rattle.ken_model.specs.Spelling.{IsWord, IsPrintableEmission}
 use Rattle.ken_tool.specs.declared.node.Node.{Node}
-use Rattle.ken_tool.specs.Turns.{IsOneLine, outputs_from}
+use Rattle.ken_model.specs.Report.{IsOneLine}
+use Rattle.ken_tool.specs.Turns.{outputs_from}
 use Rattle.ken_tool.specs.Ended.{emissions_at, emissions_from}
 use Rattle.ken_tool.proofs.Standing.{AllByRecursion-append}
 
@@ -76,7 +76,7 @@ emitted_on front (x ∷ xs) =
     let next : max n (n + 1) ≡ n + 1 = omega arith in
     let rest = emitted_on (front ++ x ∷ []) xs in
     let there : AreEmitted (front ++ x ∷ xs) (n + 1) (outputs_from (n + 1) xs) =
-      subst (λ k. AreEmitted (front ++ x ∷ xs) k (outputs_from k xs)) more (subst (λ l. AreEmitted l (length (front ++ x ∷ [])) (outputs_from (length (front ++ x ∷ [])) xs)) (append_assoc front (x ∷ []) xs) rest) in
+    subst (λ k. AreEmitted (front ++ x ∷ xs) k (outputs_from k xs)) more (subst (λ l. AreEmitted l (length (front ++ x ∷ [])) (outputs_from (length (front ++ x ∷ [])) xs)) (append_assoc front (x ∷ []) xs) rest) in
     (omega arith, omega arith, ap (slice_get (front ++ x ∷ xs)) place ∙ at_front front xs x, subst (λ k. AreEmitted (front ++ x ∷ xs) k (outputs_from (n + 1) xs)) (sym next) there)
 
 pub AreEmitted-outputs : (outs : List (List ℕ)) → AreEmitted outs 0 (outputs_from 0 outs)
@@ -105,5 +105,5 @@ printable_emissions k [] few each = tt
 printable_emissions k (n ∷ ns) few each =
     let here = each 0 n (omega arith) in
     AllByRecursion-append IsPrintableEmission (emissions_at k n.emitted.items) _
-      (subst (λ l. AllByRecursion IsPrintableEmission (emissions_at k l)) (sym here.all) (printable_outputs k 0 here.outs (omega arith) (omega (arith, here.few)) here.one_line))
-      (printable_emissions (k + 1) ns (omega arith) (λ i d lt. each (suc i) d (omega arith)))
+    (subst (λ l. AllByRecursion IsPrintableEmission (emissions_at k l)) (sym here.all) (printable_outputs k 0 here.outs (omega arith) (omega (arith, here.few)) here.one_line))
+    (printable_emissions (k + 1) ns (omega arith) (λ i d lt. each (suc i) d (omega arith)))

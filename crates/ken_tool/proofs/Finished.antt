@@ -1,6 +1,6 @@
 -- A run in which no node can make a turn has ended: the gathered lines are its report.
-use Rattle.std.proofs.Common.{◌≡◌, ℕ, zero, suc, ◌+◌, ◌-◌, ◌*◌, ◌<◌, ◌≤◌, ◌^◌, List, [], ◌∷◌, ◌++◌, map, length, slice_index_or, sum_by, Bool, true, false, ◌==◌, if◌then◌else◌, refl, sym, ap, subst, ◌∙◌, ⊎_elim, arith, append-nil, length-append, eq-eqb, ne_eqb}
-use Rattle.std.specs.List.{AllByRecursion, list_any, range_with_len}
+use Rattle.std.proofs.Common.{◌≡◌, ℕ, suc, ◌+◌, ◌<◌, ◌≤◌, List, [], ◌∷◌, map, length, slice_index_or, sum_by, true, false, ◌==◌, sym, ap, subst, ◌∙◌, ⊎_elim, arith, append-nil, eq-eqb, ne_eqb}
+use Rattle.std.specs.List.{AllByRecursion, list_any}
 use Rattle.std.proofs.lemmas.Bool.{cases_eq, cases_lt}
 use Rattle.std.proofs.lemmas.List.{length-map, get_or-map, same_lists}
 use Rattle.std.proofs.lemmas.List.FromFn.{length-map-range_with_len, get_or-map-range_with_len}
@@ -8,13 +8,12 @@ use Rattle.ken_model.specs.declared.values.Value.{Value}
 use Rattle.ken_model.specs.declared.facts.Facts.{Facts}
 use Rattle.ken_model.specs.declared.reports.TurnLine.{TurnLine}
 use Rattle.ken_model.specs.declared.reports.RestartLine.{RestartLine}
-use Rattle.ken_model.specs.declared.reports.Ending.{Ending}
 use Rattle.ken_model.specs.declared.reports.Ending.TheVariants.{Settled, Cut}
 use Rattle.ken_model.specs.declared.reports.Lines.{Lines}
 use Rattle.ken_model.specs.Facts.{IsWithinLimits}
 use Rattle.ken_model.specs.Network.{Network, Place, first_place, start}
-use Rattle.ken_model.specs.Schedule.{IsLegal, play, turn_lines}
-use Rattle.ken_model.specs.History.{place_of, lines_at, Shows}
+use Rattle.ken_model.specs.Schedule.{play, turn_lines}
+use Rattle.ken_model.specs.History.{place_of, Shows}
 use Rattle.ken_model.specs.Emissions.{AreLegalEmissions, AreAllEmitted, emitted_by, AreEmitted, AreByNode, largest_of}
 use Rattle.ken_model.specs.Ending.{Ends, IsSettled, IsCut, nodes_of, waiting}
 use Rattle.ken_model.specs.Report.{lines_of}
@@ -23,7 +22,7 @@ use Rattle.ken_model.specs.Laws.{steps_of, IsPlayed}
 use Rattle.ken_model.proofs.Agreement.{agreement_is_legal}
 use Rattle.ken_tool.specs.declared.node.Node.{Node}
 use Rattle.ken_tool.specs.Turns.{outputs_from}
-use Rattle.ken_tool.specs.Running.{IsRunning, IsStanding, turns_made}
+use Rattle.ken_tool.specs.Running.{IsRunning}
 use Rattle.ken_tool.specs.Drive.{is_ready}
 use Rattle.ken_tool.specs.Ended.{IsGathered, IsRunOf, emissions_from, waits}
 use Rattle.ken_tool.proofs.Visited.{AreTurns-few, few_turns_made}
@@ -63,7 +62,7 @@ module _ (f : Facts) (nodes : List Node) (l : Lines) (limits : IsWithinLimits f)
         outs = (place_of f ts).outs;
         all = sym (append-nil _) ∙ s.outputs;
         few = omega (arith, s.few_outputs, AreTurns-few f i (first_place f) ts (omega arith) s.turns, few_turns);
-        one_line = s.one_line
+        one_line = s.one_line;
       }
 
   heap_at : (i : ℕ) (e : Node) → i < f.nodes → IsPrintableHeap (slice_index_or nodes i e).value
@@ -90,7 +89,7 @@ module _ (f : Facts) (nodes : List Node) (l : Lines) (limits : IsWithinLimits f)
   legal_emissions = record {
     by_node = subst (λ es. AreByNode f.nodes 0 es) (sym g.emissions) (AreByNode-from f.nodes 0 nodes (omega (arith, r.width)));
     each = λ v lt. subst (λ os. AreEmitted (w.place v).outs 0 os) (sym (emissions_are v lt)) (AreEmitted-outputs (w.place v).outs);
-    all = all_emitted
+    all = all_emitted;
   }
 
   heaps_are : l.heaps ≡ map (λ v. (w.place v).value) (nodes_of f)
@@ -99,9 +98,9 @@ module _ (f : Facts) (nodes : List Node) (l : Lines) (limits : IsWithinLimits f)
       let value_of : Node → Value = λ n. n.value in
       let long : length (map value_of nodes) ≡ length (map value_at (nodes_of f)) = length-map nodes value_of ∙ r.width ∙ sym (length-map-range_with_len value_at 0 f.nodes) in
       let at : (k : ℕ) (e : Value) → k < length (map value_of nodes) → slice_index_or (map value_of nodes) k e ≡ slice_index_or (map value_at (nodes_of f)) k e =
-        λ k e lt. (let in_nodes : k < length nodes = omega (arith, length-map nodes value_of) in
-          let known : k < f.nodes = omega (arith, r.width) in
-          get_or-map value_of nodes k d e in_nodes ∙ (r.each k d known).value ∙ ap (λ (p : Place). p.value) (sym (place_is k)) ∙ sym (get_or-map-range_with_len value_at 0 f.nodes k k e known (omega arith))) in
+      λ k e lt. (let in_nodes : k < length nodes = omega (arith, length-map nodes value_of) in
+      let known : k < f.nodes = omega (arith, r.width) in
+      get_or-map value_of nodes k d e in_nodes ∙ (r.each k d known).value ∙ ap (λ (p : Place). p.value) (sym (place_is k)) ∙ sym (get_or-map-range_with_len value_at 0 f.nodes k k e known (omega arith))) in
       g.heaps ∙ same_lists _ _ long at
 
   lines_are : waiting f w ≡ sum_by waits nodes → l ≡ lines_of f (steps_of l.turns) l.emissions l.restarts l.ending
@@ -114,26 +113,26 @@ module _ (f : Facts) (nodes : List Node) (l : Lines) (limits : IsWithinLimits f)
   printable : IsPrintable l
   printable = record {
     turns = all_lines IsPrintableTurn l.turns (λ v. ⊎_elim
-      (λ lt. subst (AllByRecursion IsPrintableTurn) (sym (g.parts v d lt)) (r.each v d (omega (arith, r.width))).printable)
-      (λ past. subst (AllByRecursion IsPrintableTurn) (sym (g.others v past)) tt)
-      (cases_lt v (length nodes)));
+        (λ lt. subst (AllByRecursion IsPrintableTurn) (sym (g.parts v d lt)) (r.each v d (omega (arith, r.width))).printable)
+        (λ past. subst (AllByRecursion IsPrintableTurn) (sym (g.others v past)) tt)
+        (cases_lt v (length nodes)));
     emissions = subst (AllByRecursion IsPrintableEmission) (sym g.emissions) (printable_emissions 0 nodes (omega (arith, r.width, limits.few_nodes)) (λ i e lt. emits_all i e (omega (arith, r.width))));
     restarts = subst (AllByRecursion (λ (x : RestartLine). IsWord x.node × IsWord x.turns)) (sym g.restarts) tt;
     heaps = subst (AllByRecursion IsPrintableHeap) (sym g.heaps) (all_map IsPrintableHeap (λ (n : Node). n.value) nodes (λ i e lt. heap_at i e (omega (arith, r.width))));
     few_heaps = omega (arith, ap length g.heaps, length-map nodes (λ (n : Node). n.value), r.width, limits.few_nodes);
     few_turns = omega (arith, g.count, few_turns_made f nodes d r, mul-le-mul few_nodes few_turns);
-    waiting = g.word
+    waiting = g.word;
   }
 
   -- the lines are the report of a run
   module _ (waits_are : waiting f w ≡ sum_by waits nodes) (settled : sum_by waits nodes ≡ 0 → IsSettled w) (cut : ((sum_by waits nodes ≡ 0) → ⊥) → IsCut f w) where
     ends : Ends f w l.emissions l.ending
     ends = ⊎_elim
-      (λ none. (let q : (l.waiting == 0) ≡ true = eq-eqb l.waiting 0 none in
+        (λ none. (let q : (l.waiting == 0) ≡ true = eq-eqb l.waiting 0 none in
         let is : l.ending ≡ Settled = rw q at g.ending in subst (Ends f w l.emissions) (sym is) (all_emitted, settled (sym g.waiting ∙ none))))
-      (λ some. (let q : (l.waiting == 0) ≡ false = ne_eqb l.waiting 0 some in
+        (λ some. (let q : (l.waiting == 0) ≡ false = ne_eqb l.waiting 0 some in
         let is : l.ending ≡ Cut = rw q at g.ending in subst (Ends f w l.emissions) (sym is) (all_emitted, cut (λ none. some (g.waiting ∙ none)))))
-      (cases_eq l.waiting 0)
+        (cases_eq l.waiting 0)
 
 -- a run in which no node can make a turn: the gathered lines are its report
 pub run_of-gathered : (f : Facts) (nodes : List Node) (l : Lines) → IsWithinLimits f → IsRunning f nodes → list_any (is_ready f) nodes ≡ false → IsGathered nodes l → IsRunOf f l
@@ -149,5 +148,5 @@ run_of-gathered f (n ∷ ns) l limits r idle g =
       lines = lines_are f nodes l limits r g n waits_are;
       emissions = legal_emissions f nodes l limits r g n;
       ends = ends f nodes l limits r g n waits_are (settled-running f nodes limits r net shown) (λ some. cut-running f nodes limits r net shown some idle);
-      printable = printable f nodes l limits r g n
+      printable = printable f nodes l limits r g n;
     }

@@ -1,5 +1,5 @@
 -- What a handler sends and outputs is little, goes to nodes of the run, and holds no line feed.
-use Rattle.std.proofs.Common.{◌≡◌, ℕ, ◌+◌, ◌-◌, ◌<◌, ◌≤◌, ◌^◌, ◌%◌, List, [], ◌∷◌, length, Bool, true, false, if◌then◌else◌, nat_lt, Option, Some, None, decimal, codes, refl, sym, ap, subst, ◌∙◌, arith}
+use Rattle.std.proofs.Common.{◌≡◌, ℕ, ◌+◌, ◌-◌, ◌<◌, ◌≤◌, ◌^◌, ◌%◌, List, [], ◌∷◌, length, Bool, true, false, if◌then◌else◌, nat_lt, Option, Some, None, decimal, refl, arith}
 use Rattle.std.specs.List.{AllByRecursion}
 use Rattle.std.proofs.lemmas.List.Elements.{recursion_from_All}
 use Rattle.ken_model.specs.declared.kinds.Kind.{Kind}
@@ -7,11 +7,11 @@ use Rattle.ken_model.specs.declared.kinds.Kind.TheVariants.{Ring}
 use Rattle.ken_model.specs.declared.values.Value.{Value}
 use Rattle.ken_model.specs.declared.messages.Message.{Message}
 use Rattle.ken_model.specs.declared.messages.Send.{Send}
-use Rattle.ken_model.specs.Handler.{Effect, after, ring}
+use Rattle.ken_model.specs.Handler.{after, ring}
 use Rattle.ken_model.specs.Numbers.{num}
 use Rattle.ken_model.proofs.NumbersRead.{All-decimal}
-use Rattle.ken_model.proofs.NumbersSmall.{num-lt}
-use Rattle.ken_tool.specs.Turns.{IsOneLine, IsModest}
+use Rattle.ken_model.specs.Report.{IsOneLine}
+use Rattle.ken_tool.specs.Turns.{IsModest}
 
 -- today every kind is ring
 pub after-ring : (kind : Kind) (node nodes : ℕ) (value : Value) (m : Message) → after kind node nodes value m [] ≡ Some (ring node nodes value (num m.bytes))

@@ -1,5 +1,5 @@
 -- The turns of nodes that run stand in the order of their stamps.
-use Rattle.std.proofs.Common.{◌≡◌, ℕ, zero, suc, ◌+◌, ◌<◌, ◌≤◌, max, List, [], ◌∷◌, map, length, slice_index_or, Option, Some, None, option_map, refl, sym, ap, subst, ◌∙◌, arith}
+use Rattle.std.proofs.Common.{◌≡◌, ℕ, suc, ◌+◌, ◌<◌, max, List, [], ◌∷◌, map, length, slice_index_or, Option, Some, None, option_map, refl, sym, subst, arith}
 use Rattle.std.specs.List.{AllByRecursion}
 use Rattle.ken_model.specs.declared.messages.Message.{Message}
 use Rattle.ken_model.specs.declared.facts.Facts.{Facts}
@@ -45,7 +45,7 @@ in_turn_from k (n ∷ ns) each =
 pub AreInTurn-running : (f : Facts) (nodes : List Node) → IsRunning f nodes → AreInTurn 0 nodes
 AreInTurn-running f nodes r = in_turn_from 0 nodes (λ i d lt.
     (let s = r.each i d (omega (arith, r.width)) in
-     let zero_more : 0 + i ≡ i = omega arith in
-     let lines = sym s.lines in
-     subst (λ j. IsInTurn j (slice_index_or nodes i d)) (sym zero_more)
-       (subst (AllByRecursion (λ (l : TurnLine). l.step.node ≡ i)) lines (own_lines i (r.history i)), subst (StampsRise 0) lines (StampsRise-turns f i (first_place f) (r.history i) s.turns))))
+    let zero_more : 0 + i ≡ i = omega arith in
+    let lines = sym s.lines in
+    subst (λ j. IsInTurn j (slice_index_or nodes i d)) (sym zero_more)
+    (subst (AllByRecursion (λ (l : TurnLine). l.step.node ≡ i)) lines (own_lines i (r.history i)), subst (StampsRise 0) lines (StampsRise-turns f i (first_place f) (r.history i) s.turns))))

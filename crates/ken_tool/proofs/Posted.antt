@@ -1,5 +1,5 @@
 -- What a turn sends, by its receivers.
-use Rattle.std.proofs.Common.{◌≡◌, ℕ, zero, suc, ◌+◌, ◌<◌, ◌≤◌, List, [], ◌∷◌, ◌++◌, length, slice_index, slice_set, Bool, true, false, ◌==◌, if◌then◌else◌, refl, sym, ap, subst, ◌∙◌, ⊎_elim, arith, eq-eqb, ne_eqb}
+use Rattle.std.proofs.Common.{◌≡◌, ℕ, ◌+◌, ◌<◌, ◌≤◌, List, [], ◌∷◌, length, slice_index, slice_set, true, false, ◌==◌, refl, sym, ap, subst, ◌∙◌, ⊎_elim, arith, eq-eqb, ne_eqb}
 use Rattle.std.specs.List.{AllByRecursion}
 use Rattle.std.proofs.lemmas.Bool.{cases_eq}
 use Rattle.std.proofs.lemmas.List.{length-set, get_or-set_same, get_or-set_other}
@@ -7,7 +7,8 @@ use Rattle.ken_model.specs.declared.messages.Message.{Message}
 use Rattle.ken_model.specs.declared.messages.Send.{Send}
 use Rattle.ken_model.specs.declared.facts.Facts.{Facts}
 use Rattle.ken_model.specs.Network.{numbered}
-use Rattle.ken_tool.specs.Turns.{IsOneLine, posted, counted}
+use Rattle.ken_model.specs.Report.{IsOneLine}
+use Rattle.ken_tool.specs.Turns.{posted, counted}
 use Rattle.ken_tool.specs.Running.{sent_to, IsPosted}
 
 -- each is for a node that has a count
@@ -40,9 +41,9 @@ counted_at v w n stamp counts (s ∷ ss) known =
     let next = counted_at v w (n + 1) stamp (one_more counts s.to) ss (still_counted counts s.to _ ss known.1) in
     let same = counted_at v w n stamp (one_more counts s.to) ss (still_counted counts s.to _ ss known.1) in
     ⊎_elim
-      (λ e. let q : (s.to == w) ≡ true = eq-eqb s.to w e in rw q (omega (arith, next, count_same counts s.to w known.0 e)))
-      (λ ne. let q : (s.to == w) ≡ false = ne_eqb s.to w ne in rw q (omega (arith, same, count_other counts s.to w ne)))
-      (cases_eq s.to w)
+    (λ e. let q : (s.to == w) ≡ true = eq-eqb s.to w e in rw q (omega (arith, next, count_same counts s.to w known.0 e)))
+    (λ ne. let q : (s.to == w) ≡ false = ne_eqb s.to w ne in rw q (omega (arith, same, count_other counts s.to w ne)))
+    (cases_eq s.to w)
 
 -- what is sent to a node has the numbers after its count
 pub sent_to-posted : (v w stamp : ℕ) (counts : List ℕ) (ss : List Send) → AreCounted (length counts) ss → sent_to w (posted v stamp counts ss) ≡ numbered v w (slice_index counts w) stamp ss
@@ -52,11 +53,11 @@ sent_to-posted v w stamp counts (s ∷ ss) known =
     let rest = sent_to-posted v w stamp (one_more counts s.to) ss (still_counted counts s.to _ ss known.1) in
     let message : ℕ → Message = λ to. record { from = v; to = to; number = slice_index counts to + 1; stamp = stamp; bytes = s.bytes } in
     ⊎_elim
-      (λ e. let q : (s.to == w) ≡ true = eq-eqb s.to w e in
-        rw q (ap (λ k. message k ∷ sent_to w (posted v stamp (one_more counts s.to) ss)) e ∙ ap (λ l. message w ∷ l) (rest ∙ ap (λ k. numbered v w k stamp ss) (count_same counts s.to w known.0 e))))
-      (λ ne. let q : (s.to == w) ≡ false = ne_eqb s.to w ne in
-        rw q (rest ∙ ap (λ k. numbered v w k stamp ss) (count_other counts s.to w ne)))
-      (cases_eq s.to w)
+    (λ e. let q : (s.to == w) ≡ true = eq-eqb s.to w e in
+    rw q (ap (λ k. message k ∷ sent_to w (posted v stamp (one_more counts s.to) ss)) e ∙ ap (λ l. message w ∷ l) (rest ∙ ap (λ k. numbered v w k stamp ss) (count_same counts s.to w known.0 e))))
+    (λ ne. let q : (s.to == w) ≡ false = ne_eqb s.to w ne in
+    rw q (rest ∙ ap (λ k. numbered v w k stamp ss) (count_other counts s.to w ne)))
+    (cases_eq s.to w)
 
 -- all that a turn sends is from its node, to nodes of the run, with its stamp
 pub ArePosted-posted : (f : Facts) (v latest stamp : ℕ) (counts : List ℕ) (ss : List Send) → stamp ≤ latest → AllByRecursion (λ (s : Send). (s.to < f.nodes) × IsOneLine s.bytes) ss → AllByRecursion (IsPosted f v latest) (posted v stamp counts ss)

@@ -1,5 +1,5 @@
 -- What nodes that run hold can be printed.
-use Rattle.std.proofs.Common.{◌≡◌, ℕ, zero, suc, ◌+◌, ◌*◌, ◌<◌, ◌≤◌, ◌^◌, ◌%◌, max, List, [], ◌∷◌, ◌++◌, map, length, slice_index_or, Bool, true, false, ◌==◌, Option, Some, None, option_map, refl, sym, ap, subst, ◌∙◌, ⊎_elim, arith, eq-eqb, ne_eqb}
+use Rattle.std.proofs.Common.{◌≡◌, ℕ, ◌+◌, max, List, [], ◌∷◌, true, false, ◌==◌, Option, Some, None, option_map, refl, ap, subst, ⊎_elim, arith, eq-eqb, ne_eqb}
 use Rattle.std.specs.List.{AllByRecursion}
 use Rattle.std.proofs.lemmas.Bool.{cases_eq}
 use Rattle.ken_model.specs.declared.kinds.Kind.{Kind}
@@ -19,11 +19,13 @@ pub all_lines : (P : TurnLine → Type 0) (ls : List TurnLine) → ((v : ℕ) �
 all_lines P [] each = tt
 all_lines P (l ∷ ls) each =
     let own : (l.step.node == l.step.node) ≡ true = eq-eqb l.step.node l.step.node refl in
-    let here = rw own at (each l.step.node) in
-    (here.0, all_lines P ls (λ v. ⊎_elim
-      (λ e. (let q : (l.step.node == v) ≡ true = eq-eqb l.step.node v e in let both = rw q at (each v) in both.1))
-      (λ ne. (let q : (l.step.node == v) ≡ false = ne_eqb l.step.node v ne in rw q at (each v)))
-      (cases_eq l.step.node v)))
+    let here = rw own at (each l.step.node) in (
+      here.0,
+      all_lines P ls (λ v. ⊎_elim
+          (λ e. (let q : (l.step.node == v) ≡ true = eq-eqb l.step.node v e in let both = rw q at (each v) in both.1))
+          (λ ne. (let q : (l.step.node == v) ≡ false = ne_eqb l.step.node v ne in rw q at (each v)))
+          (cases_eq l.step.node v)),
+    )
 
 -- a turn leaves a heap that can be printed
 printable_ring : (node nodes : ℕ) (value : Value) (o : Option ℕ) → IsPrintableHeap value → IsPrintableHeap (ring node nodes value o).value

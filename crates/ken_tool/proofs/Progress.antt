@@ -1,6 +1,6 @@
 -- A pass in which some node can make a turn makes one.
-use Rattle.std.proofs.Common.{◌≡◌, ℕ, zero, suc, ◌+◌, ◌-◌, ◌*◌, ◌<◌, ◌≤◌, max, ◌⊎◌, inl, inr, List, [], ◌∷◌, ◌++◌, length, slice_index_or, Bool, true, false, ◌&&◌, ◌||◌, nat_lt, refl, sym, ap, subst, ◌∙◌, ⊎_elim, arith, rules, tests, length-append}
-use Rattle.std.specs.List.{list_any, filter}
+use Rattle.std.proofs.Common.{◌≡◌, ℕ, zero, suc, ◌+◌, ◌-◌, ◌*◌, ◌<◌, ◌≤◌, max, ◌⊎◌, inl, inr, List, [], ◌∷◌, length, slice_index_or, Bool, true, false, ◌&&◌, ◌||◌, nat_lt, refl, sym, ap, subst, ◌∙◌, ⊎_elim, arith, length-append}
+use Rattle.std.specs.List.{list_any}
 use Rattle.std.proofs.lemmas.Bool.{cases_eq, cases_lt, false≢true}
 use Rattle.std.proofs.lemmas.Bool.Decides.{nat_tests}
 use Rattle.std.proofs.lemmas.List.{nil_from_length, get_or_default}
@@ -9,10 +9,10 @@ use Rattle.ken_model.specs.declared.facts.Facts.{Facts}
 use Rattle.ken_model.specs.Facts.{IsWithinLimits}
 use Rattle.ken_tool.specs.declared.node.Node.{Node}
 use Rattle.ken_tool.specs.declared.node.Pending.{Pending}
-use Rattle.ken_tool.specs.Turned.{IsTurned, Takes, FindsNone, HasNone, Runs, IsIdle}
+use Rattle.ken_tool.specs.Turned.{Runs, IsIdle}
 use Rattle.ken_tool.specs.Running.{IsRunning, turns_made, sent_to}
 use Rattle.ken_tool.specs.Drive.{IsDelivered, IsVisited, is_ready}
-use Rattle.ken_tool.proofs.Visited.{turns_of, before, total, rose, runs_longer, few_turns_made}
+use Rattle.ken_tool.proofs.Visited.{turns_of, total, rose, runs_longer, few_turns_made}
 
 -- what waits for a node
 abbrev IsWaitedFor : Node → Type 0
@@ -52,14 +52,14 @@ runs_forward f v old n p runs idle ready =
     let means = ready_means f old ready in
     let longer = runs_longer f v old n p runs in
     ⊎_elim
-      (λ grew. grew)
-      (λ stayed. (let same : turns_of n ≡ turns_of old = omega arith in
-        let still = runs_still f v old n p runs same in
-        absurd (⊎_elim
-          (λ none. ⊎_elim (λ m. omega (arith, ap length (sym still.0 ∙ none.0))) (λ i. omega (arith, ap length (sym still.1 ∙ none.1))) means.1)
-          (λ full. omega (arith, means.0))
-          idle)))
-      (cases_lt (turns_of old) (turns_of n))
+    (λ grew. grew)
+    (λ stayed. (let same : turns_of n ≡ turns_of old = omega arith in
+    let still = runs_still f v old n p runs same in
+    absurd (⊎_elim
+    (λ none. ⊎_elim (λ m. omega (arith, ap length (sym still.0 ∙ none.0))) (λ i. omega (arith, ap length (sym still.1 ∙ none.1))) means.1)
+    (λ full. omega (arith, means.0))
+    idle)))
+    (cases_lt (turns_of old) (turns_of n))
 
 -- a list of which some element passes
 pub record HasSome {A : Type 0} (p : A → Bool) (xs : List A) : Type 0 where
@@ -110,14 +110,14 @@ mid_pass_next f v first old new limits r vis known long mid =
       grown = omega (arith, mid.grown);
       still = λ w d le lt ready. ready_delivered f (slice_index_or old w d) (slice_index_or new w d) (sent_to w vis.pending.mail.items) (vis.others w d (λ e. omega arith) (omega arith)) (mid.still w d (omega arith) lt ready);
       moved = λ w d lt in' ready. ⊎_elim
-        (λ here. (let was : is_ready f (slice_index_or first v d) ≡ true = subst (λ k. is_ready f (slice_index_or first k d) ≡ true) here ready in
+          (λ here. (let was : is_ready f (slice_index_or first v d) ≡ true = subst (λ k. is_ready f (slice_index_or first k d) ≡ true) here ready in
           let in_first : v < length first = subst (λ k. k < length first) here in' in
           let at : slice_index_or old v d ≡ slice_index_or old v vis.node = get_or_default old v d vis.node (omega arith) in
           let now : is_ready f (slice_index_or old v vis.node) ≡ true = subst (λ n. is_ready f n ≡ true) at (mid.still v d (omega arith) in_first was) in
           let forward = runs_forward f v (slice_index_or old v vis.node) vis.node vis.pending (vis.runs vis.node) vis.idle now in
           omega (arith, mid.grown, whole, forward)))
-        (λ ne. omega (arith, mid.moved w d (omega arith) in' ready, grew))
-        (cases_eq w v)
+          (λ ne. omega (arith, mid.moved w d (omega arith) in' ready, grew))
+          (cases_eq w v);
     }
 
 -- the end of a pass

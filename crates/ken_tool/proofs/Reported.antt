@@ -1,6 +1,5 @@
 -- The text of a run's lines is a report.
-use Rattle.std.proofs.Common.{◌≡◌, ◌⊎◌, inl, inr, ℕ, ◌+◌, List, [], ◌∷◌, ◌++◌, Option, Some, None, IfSome, take, refl, sym, ap, subst, ◌∙◌}
-use Rattle.std.specs.Io.KnownBytes.{Appends}
+use Rattle.std.proofs.Common.{◌≡◌, inl, inr, ℕ, ◌+◌, List, [], Option, Some, None, IfSome, take, refl, sym, ap, subst}
 use Rattle.std.proofs.KnownBytes.{Appends-nil}
 use Rattle.ken_io.specs.Transfers.{AppendsFront}
 use Rattle.ken_model.specs.declared.reports.Ending.{Ending}
@@ -57,7 +56,7 @@ told_by (Some xs) read front = record {
   whole = xs;
   told = refl;
   says = λ s h. says_by_its_front xs s (subst (λ b. Says b s) front h);
-  breaks = λ rule index h. breaks_by_its_front xs rule index (subst (λ b. Breaks b rule index) front h)
+  breaks = λ rule index h. breaks_by_its_front xs rule index (subst (λ b. Breaks b rule index) front h);
 }
 
 -- some bytes that a source may have given

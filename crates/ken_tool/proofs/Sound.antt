@@ -1,12 +1,11 @@
 -- No number of a node passes its type.
-use Rattle.std.proofs.Common.{◌≡◌, ℕ, suc, ◌+◌, ◌-◌, ◌*◌, ◌<◌, ◌≤◌, ◌^◌, max, ◌⊎◌, List, [], ◌∷◌, ◌++◌, length, refl, sym, ap, subst, ◌∙◌, ⊎_elim, arith, length-append}
+use Rattle.std.proofs.Common.{◌≡◌, ℕ, suc, ◌+◌, ◌*◌, ◌<◌, ◌≤◌, List, [], ◌∷◌, length, refl, sym, ap, subst, ◌∙◌, ⊎_elim, arith, length-append}
 use Rattle.std.specs.List.{AllByRecursion}
 use Rattle.ken_model.specs.declared.messages.Message.{Message}
-use Rattle.ken_model.specs.declared.messages.Out.{Out}
 use Rattle.ken_model.specs.declared.facts.Facts.{Facts}
 use Rattle.ken_tool.specs.declared.node.Node.{Node}
 use Rattle.ken_tool.specs.declared.node.Pending.{Pending}
-use Rattle.ken_tool.specs.Turns.{HasRoom, counted, outputs_from}
+use Rattle.ken_tool.specs.Turns.{HasRoom, outputs_from}
 use Rattle.ken_tool.specs.Turned.{IsTurned, Takes, IsSound, IsEarly, turns_left}
 use Rattle.ken_tool.proofs.Counts.{HasRoom-at_most, AreAtMost, AreAtMost-weaker, AreAtMost-counted}
 
@@ -30,9 +29,9 @@ pub leaves_early : (f : Facts) (old : Node) (m : Message) (new : Node) (pending 
 leaves_early f old m new pending sound takes =
     let P : List Message → Type 0 = λ ms. AllByRecursion (λ (x : Message). IsEarly f old x.stamp) ms in
     let from_mail : (old.mail.items ≡ m ∷ new.mail.items) × (new.inputs.items ≡ old.inputs.items) → LeavesEarly f old m new =
-      λ h. (let mail : P (m ∷ new.mail.items) = subst P h.0 sound.mail in record { message = mail.0; mail = mail.1; inputs = subst P (sym h.1) sound.inputs }) in
+    λ h. (let mail : P (m ∷ new.mail.items) = subst P h.0 sound.mail in record { message = mail.0; mail = mail.1; inputs = subst P (sym h.1) sound.inputs }) in
     let from_inputs : (old.mail.items ≡ []) × (new.mail.items ≡ []) × (old.inputs.items ≡ m ∷ new.inputs.items) → LeavesEarly f old m new =
-      λ h. (let inputs : P (m ∷ new.inputs.items) = subst P h.2 sound.inputs in record { message = inputs.0; mail = subst P (sym h.1) tt; inputs = inputs.1 }) in
+    λ h. (let inputs : P (m ∷ new.inputs.items) = subst P h.2 sound.inputs in record { message = inputs.0; mail = subst P (sym h.1) tt; inputs = inputs.1 }) in
     ⊎_elim from_mail from_inputs takes.next
 
 -- a turn keeps it so
@@ -53,9 +52,9 @@ sound_after f v n mid new m p q sound more takes turned =
       mail = subst P (ap (λ (x : _). x.items) (sym turned.same_mail)) (AreEarly-fewer f n new mid.mail.items (omega arith) early.mail);
       inputs = subst P (ap (λ (x : _). x.items) (sym turned.same_inputs)) (AreEarly-fewer f n new mid.inputs.items (omega arith) early.inputs);
       counts = (let c : AreAtMost (16 * length n.turns.items) mid.sent = subst (AreAtMost (16 * length n.turns.items)) (sym same_sent) sound.counts in
-        let d = AreAtMost-counted _ mid.sent turned.effect.sends c in
-        subst (AreAtMost (16 * length new.turns.items)) (sym turned.sent) (AreAtMost-weaker _ (16 * length new.turns.items) _ (omega (arith, turned.modest.few_sends)) d));
-      outs = omega (arith, sound.outs, turned.modest.few_outs)
+          let d = AreAtMost-counted _ mid.sent turned.effect.sends c in
+          subst (AreAtMost (16 * length new.turns.items)) (sym turned.sent) (AreAtMost-weaker _ (16 * length new.turns.items) _ (omega (arith, turned.modest.few_sends)) d));
+      outs = omega (arith, sound.outs, turned.modest.few_outs);
     }
 
 -- room for all that a turn may send

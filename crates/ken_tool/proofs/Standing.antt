@@ -1,5 +1,5 @@
 -- A node's turn: what it stands for before, it stands for after, with one turn more.
-use Rattle.std.proofs.Common.{◌≡◌, ℕ, zero, suc, ◌+◌, ◌-◌, ◌*◌, ◌<◌, ◌≤◌, max, ◌⊎◌, List, [], ◌∷◌, ◌++◌, map, length, slice_index, Bool, true, false, cond, ◌==◌, Some, option_map, vec_len, refl, sym, ap, subst, ◌∙◌, ⊎_elim, arith, append_assoc, append-nil, length-append}
+use Rattle.std.proofs.Common.{◌≡◌, ℕ, suc, ◌+◌, ◌*◌, ◌<◌, ◌≤◌, max, ◌⊎◌, List, [], ◌∷◌, ◌++◌, map, length, slice_index, Bool, ◌==◌, Some, vec_len, refl, sym, ap, subst, ◌∙◌, ⊎_elim, arith, append_assoc, length-append}
 use Rattle.std.specs.List.{AllByRecursion}
 use Rattle.std.proofs.lemmas.List.{map_push, length-map, length_push}
 use Rattle.std.proofs.lemmas.List.Elements.{filter-append}
@@ -13,7 +13,8 @@ use Rattle.ken_model.proofs.Turns.{places-push, consumed-append, sent_by-push}
 use Rattle.ken_model.specs.Spelling.{IsPrintableTurn}
 use Rattle.ken_tool.specs.declared.node.Node.{Node}
 use Rattle.ken_tool.specs.declared.node.Pending.{Pending}
-use Rattle.ken_tool.specs.Turns.{IsOneLine, posted, counted, outputs_from}
+use Rattle.ken_model.specs.Report.{IsOneLine}
+use Rattle.ken_tool.specs.Turns.{posted, outputs_from}
 use Rattle.ken_tool.specs.Turned.{IsTurned, Takes, FindsNone, Runs}
 use Rattle.ken_tool.specs.Running.{IsStanding, IsLetter, IsPosted, from, sent_to}
 use Rattle.ken_tool.proofs.Counts.{AreAtMost, AreAtMost-weaker, AreAtMost-counted}
@@ -66,12 +67,12 @@ reached_one u m cs mail inputs left_mail left_inputs next =
     let others = from u left_inputs in
     let is_from : Message → Bool = λ x. x.from == u in
     let by_mail : (mail ≡ m ∷ left_mail) × (left_inputs ≡ inputs) → (cs ++ here) ++ (rest ++ others) ≡ cs ++ (from u mail ++ from u inputs) =
-      λ h. append_assoc cs here (rest ++ others) ∙ ap (λ l. cs ++ l) (sym (append_assoc here rest others)
-        ∙ ap (λ l. l ++ others) (sym (filter-append is_from (m ∷ []) left_mail))
-        ∙ ap (λ l. from u l ++ others) (sym h.0) ∙ ap (λ l. from u mail ++ from u l) h.1) in
+    λ h. append_assoc cs here (rest ++ others) ∙ ap (λ l. cs ++ l) (sym (append_assoc here rest others)
+    ∙ ap (λ l. l ++ others) (sym (filter-append is_from (m ∷ []) left_mail))
+    ∙ ap (λ l. from u l ++ others) (sym h.0) ∙ ap (λ l. from u mail ++ from u l) h.1) in
     let by_inputs : (mail ≡ []) × (left_mail ≡ []) × (inputs ≡ m ∷ left_inputs) → (cs ++ here) ++ (rest ++ others) ≡ cs ++ (from u mail ++ from u inputs) =
-      λ h. ap (λ l. (cs ++ here) ++ (from u l ++ others)) h.1 ∙ append_assoc cs here others
-        ∙ ap (λ l. cs ++ l) (sym (filter-append is_from (m ∷ []) left_inputs) ∙ ap (from u) (sym h.2) ∙ ap (λ l. from u l ++ from u inputs) (sym h.0)) in
+    λ h. ap (λ l. (cs ++ here) ++ (from u l ++ others)) h.1 ∙ append_assoc cs here others
+    ∙ ap (λ l. cs ++ l) (sym (filter-append is_from (m ∷ []) left_inputs) ∙ ap (from u) (sym h.2) ∙ ap (λ l. from u l ++ from u inputs) (sym h.0)) in
     ⊎_elim by_mail by_inputs next
 
 -- what left a node, after one more turn
@@ -79,8 +80,8 @@ sent_one : (v w stamp : ℕ) (left : List Message) (mail : List Message) (counts
     → sent_by v w 0 ts ≡ left ++ sent_to w mail → sent_by v w 0 (ts ++ t ∷ []) ≡ left ++ sent_to w (mail ++ posted v stamp counts ss)
 sent_one v w stamp left mail counts ss ts t is_stamp is_sends known count sent =
     let same : numbered v w (length (sent_by v w 0 ts)) t.stamp t.effect.sends ≡ sent_to w (posted v stamp counts ss) =
-      ap (λ k. numbered v w k t.stamp t.effect.sends) (sym count) ∙ ap (λ k. numbered v w (slice_index counts w) k t.effect.sends) is_stamp
-      ∙ ap (λ l. numbered v w (slice_index counts w) stamp l) is_sends ∙ sym (sent_to-posted v w stamp counts ss known) in
+    ap (λ k. numbered v w k t.stamp t.effect.sends) (sym count) ∙ ap (λ k. numbered v w (slice_index counts w) k t.effect.sends) is_stamp
+    ∙ ap (λ l. numbered v w (slice_index counts w) stamp l) is_sends ∙ sym (sent_to-posted v w stamp counts ss known) in
     sent_by-push v w ts t ∙ ap (λ l. l ++ numbered v w (length (sent_by v w 0 ts)) t.stamp t.effect.sends) sent
     ∙ append_assoc left (sent_to w mail) _ ∙ ap (λ l. left ++ (sent_to w mail ++ l)) same ∙ ap (λ l. left ++ l) (sym (filter-append (λ (x : Message). x.to == w) mail _))
 
@@ -111,7 +112,7 @@ standing_looked f v base arrived left n new ts mail outs s found =
       senders = subst (AllByRecursion (λ (m : Message). m.from < f.nodes)) (sym mail_same) s.senders;
       inputs = subst P (sym inputs_same) s.inputs;
       given = subst (AllByRecursion (λ (m : Message). m.from ≡ outside)) (sym inputs_same) s.given;
-      pending = s.pending
+      pending = s.pending;
     }
 
 -- what is left after the message that comes next
@@ -124,26 +125,26 @@ leaves_letters : (latest : ℕ) (old : Node) (m : Message) (new : Node) → AllB
 leaves_letters latest old m new mail inputs takes =
     let P : List Message → Type 0 = λ ms. AllByRecursion (IsLetter latest) ms in
     let by_mail : (old.mail.items ≡ m ∷ new.mail.items) × (new.inputs.items ≡ old.inputs.items) → LeavesLetters latest m new =
-      λ h. (let all : P (m ∷ new.mail.items) = subst P h.0 mail in record { message = all.0; mail = all.1; inputs = subst P (sym h.1) inputs }) in
+    λ h. (let all : P (m ∷ new.mail.items) = subst P h.0 mail in record { message = all.0; mail = all.1; inputs = subst P (sym h.1) inputs }) in
     let by_inputs : (old.mail.items ≡ []) × (new.mail.items ≡ []) × (old.inputs.items ≡ m ∷ new.inputs.items) → LeavesLetters latest m new =
-      λ h. (let all : P (m ∷ new.inputs.items) = subst P h.2 inputs in record { message = all.0; mail = subst P (sym h.1) tt; inputs = all.1 }) in
+    λ h. (let all : P (m ∷ new.inputs.items) = subst P h.2 inputs in record { message = all.0; mail = subst P (sym h.1) tt; inputs = all.1 }) in
     ⊎_elim by_mail by_inputs takes.next
 
 given_after : (old : Node) (m : Message) (new : Node) → AllByRecursion (λ (x : Message). x.from ≡ outside) old.inputs.items → Takes old m new → AllByRecursion (λ (x : Message). x.from ≡ outside) new.inputs.items
 given_after old m new given takes =
     let P : List Message → Type 0 = λ ms. AllByRecursion (λ (x : Message). x.from ≡ outside) ms in
     ⊎_elim
-      (λ h. subst P (sym h.1) given)
-      (λ h. (let all : P (m ∷ new.inputs.items) = subst P h.2 given in all.1))
-      takes.next
+    (λ h. subst P (sym h.1) given)
+    (λ h. (let all : P (m ∷ new.inputs.items) = subst P h.2 given in all.1))
+    takes.next
 
 senders_after : (f : Facts) (old : Node) (m : Message) (new : Node) → AllByRecursion (λ (x : Message). x.from < f.nodes) old.mail.items → Takes old m new → AllByRecursion (λ (x : Message). x.from < f.nodes) new.mail.items
 senders_after f old m new senders takes =
     let P : List Message → Type 0 = λ ms. AllByRecursion (λ (x : Message). x.from < f.nodes) ms in
     ⊎_elim
-      (λ h. (let all : P (m ∷ new.mail.items) = subst P h.0 senders in all.1))
-      (λ h. subst P (sym h.1) tt)
-      takes.next
+    (λ h. (let all : P (m ∷ new.mail.items) = subst P h.0 senders in all.1))
+    (λ h. subst P (sym h.1) tt)
+    takes.next
 
 later_letters : (latest later : ℕ) (ms : List Message) → latest ≤ later → AllByRecursion (IsLetter latest) ms → AllByRecursion (IsLetter later) ms
 later_letters latest later ms le all = AllByRecursion-weaker (IsLetter latest) (IsLetter later) ms (λ m h. (omega (arith, h.0), h.1)) all
@@ -182,25 +183,25 @@ standing_turned f v base arrived left n mid new m ts p q s more takes turned few
     record {
       turns = AreTurns-push f v (first_place f) ts t s.turns (omega arith) made;
       printable = subst (AllByRecursion IsPrintableTurn) (sym turned.turns) (AllByRecursion-append IsPrintableTurn mid.turns.items _
-        (subst (AllByRecursion IsPrintableTurn) (ap (λ (x : Node). x.turns.items) (sym takes.rest)) s.printable)
-        (record { stamp = turned.words.0; node = turned.words.1; from = turned.words.2; number = turned.words.3; draws = tt }, tt));
+          (subst (AllByRecursion IsPrintableTurn) (ap (λ (x : Node). x.turns.items) (sym takes.rest)) s.printable)
+          (record { stamp = turned.words.0; node = turned.words.1; from = turned.words.2; number = turned.words.3; draws = tt }, tt));
       lines = turned.turns ∙ ap (λ l. l ++ line_at v t ∷ []) lines ∙ sym (map_push (line_at v) ts t);
       value = turned.value ∙ ap (λ (x : Place). x.value) (sym place);
       stamp = turned.stamp ∙ ap (λ (x : Place). x.stamp) (sym place);
       outputs = ap (λ l. l ++ q.outs.items) new_emitted ∙ ap (λ l. n.emitted.items ++ l) turned.outs ∙ sym (append_assoc n.emitted.items p.outs.items _)
-        ∙ ap (λ l. l ++ outputs_from (vec_len mid.emitted + vec_len p.outs) effect.outs) s.outputs ∙ ap (λ k. outputs_from 0 (place_of f ts).outs ++ outputs_from k effect.outs) numbers
-        ∙ sym (outputs_from-append 0 (place_of f ts).outs effect.outs) ∙ ap (outputs_from 0) (sym outs);
+          ∙ ap (λ l. l ++ outputs_from (vec_len mid.emitted + vec_len p.outs) effect.outs) s.outputs ∙ ap (λ k. outputs_from 0 (place_of f ts).outs ++ outputs_from k effect.outs) numbers
+          ∙ sym (outputs_from-append 0 (place_of f ts).outs effect.outs) ∙ ap (outputs_from 0) (sym outs);
       few_outputs = omega (arith, ap length outs, length-append (place_of f ts).outs effect.outs, s.few_outputs, turned.modest.few_outs);
       one_line = subst (AllByRecursion IsOneLine) (sym outs) (AllByRecursion-append IsOneLine (place_of f ts).outs effect.outs s.one_line turned.modest.one_line);
       wide = ap length turned.sent ∙ length-counted mid.sent effect.sends ∙ wide;
       counts = λ w. (let more = numbered v w (length (sent_by v w 0 ts)) t.stamp effect.sends in
-        ap (λ l. slice_index l w) turned.sent ∙ counted_at v w (length (sent_by v w 0 ts)) t.stamp mid.sent effect.sends known
-        ∙ ap (λ k. k + length more) (counts w) ∙ sym (length-append (sent_by v w 0 ts) more) ∙ ap length (sym (sent_by-push v w ts t)));
+          ap (λ l. slice_index l w) turned.sent ∙ counted_at v w (length (sent_by v w 0 ts)) t.stamp mid.sent effect.sends known
+          ∙ ap (λ k. k + length more) (counts w) ∙ sym (length-append (sent_by v w 0 ts) more) ∙ ap length (sym (sent_by-push v w ts t)));
       few_sent = (let before : AreAtMost (16 * length ts) mid.sent = subst (AreAtMost (16 * length ts)) (sym sent_same) s.few_sent in
-        subst (AreAtMost (16 * length (ts ++ t ∷ []))) (sym turned.sent) (AreAtMost-weaker _ (16 * length (ts ++ t ∷ [])) _ (omega (arith, turned.modest.few_sends)) (AreAtMost-counted (16 * length ts) mid.sent effect.sends before)));
+          subst (AreAtMost (16 * length (ts ++ t ∷ []))) (sym turned.sent) (AreAtMost-weaker _ (16 * length (ts ++ t ∷ [])) _ (omega (arith, turned.modest.few_sends)) (AreAtMost-counted (16 * length ts) mid.sent effect.sends before)));
       reached = λ u. ap (λ l. consumed u (ts ++ t ∷ []) ++ (from u l ++ from u new.inputs.items)) new_mail ∙ ap (λ l. consumed u (ts ++ t ∷ []) ++ (from u mid.mail.items ++ from u l)) new_inputs
-        ∙ ap (λ l. l ++ (from u mid.mail.items ++ from u mid.inputs.items)) (consumed-append u ts (t ∷ []))
-        ∙ reached_one u m (consumed u ts) n.mail.items n.inputs.items mid.mail.items mid.inputs.items takes.next ∙ s.reached u;
+          ∙ ap (λ l. l ++ (from u mid.mail.items ++ from u mid.inputs.items)) (consumed-append u ts (t ∷ []))
+          ∙ reached_one u m (consumed u ts) n.mail.items n.inputs.items mid.mail.items mid.inputs.items takes.next ∙ s.reached u;
       sent = λ w. sent_one v w t.stamp (left w) p.mail.items mid.sent effect.sends ts t refl refl known (counts w) (s.sent w) ∙ ap (λ l. left w ++ sent_to w l) (sym turned.mail);
       clock = omega (arith, stamp_now, turned.stamp);
       queue = subst Q (sym new_mail) (later _ letters.mail);
@@ -208,7 +209,7 @@ standing_turned f v base arrived left n mid new m ts p q s more takes turned few
       inputs = subst Q (sym new_inputs) (later _ letters.inputs);
       given = subst (AllByRecursion (λ (x : Message). x.from ≡ outside)) (sym new_inputs) (given_after n m mid s.given takes);
       pending = (let before : AllByRecursion (IsPosted f v (base + length (ts ++ t ∷ []))) p.mail.items = AllByRecursion-weaker (IsPosted f v (base + length ts)) _ p.mail.items (λ x h. (h.0, h.1, (omega (arith, h.2.0), h.2.1))) s.pending in
-        subst (AllByRecursion (IsPosted f v (base + length (ts ++ t ∷ [])))) (sym turned.mail) (AllByRecursion-append _ p.mail.items _ before (ArePosted-posted f v _ t.stamp mid.sent effect.sends stamp_now turned.modest.known)))
+          subst (AllByRecursion (IsPosted f v (base + length (ts ++ t ∷ [])))) (sym turned.mail) (AllByRecursion-append _ p.mail.items _ before (ArePosted-posted f v _ t.stamp mid.sent effect.sends stamp_now turned.modest.known)));
     }
 
 -- a node that made turns stands for some turns

@@ -1,5 +1,5 @@
 -- The start: no turns, and the inputs of each node in order.
-use Rattle.std.proofs.Common.{◌≡◌, ℕ, zero, suc, ◌+◌, ◌-◌, ◌*◌, ◌<◌, ◌≤◌, List, [], ◌∷◌, ◌++◌, length, replicate, slice_index, slice_index_or, Bool, true, false, ◌==◌, if◌then◌else◌, refl, sym, ap, subst, ◌∙◌, ⊎_elim, arith, append-nil, eq-eqb, ne_eqb, get_or}
+use Rattle.std.proofs.Common.{◌≡◌, ℕ, ◌+◌, ◌*◌, ◌<◌, ◌≤◌, List, [], ◌∷◌, ◌++◌, length, replicate, slice_index, slice_index_or, true, false, ◌==◌, if◌then◌else◌, refl, sym, ap, subst, ◌∙◌, ⊎_elim, arith, append-nil, eq-eqb, ne_eqb}
 use Rattle.std.specs.List.{AllByRecursion}
 use Rattle.std.proofs.lemmas.Bool.{cases_eq}
 use Rattle.std.proofs.lemmas.List.{get_or-replicate, get_or_past, length-replicate}
@@ -7,14 +7,15 @@ use Rattle.std.proofs.lemmas.Bool.{cases_lt}
 use Rattle.ken_model.specs.declared.messages.Message.{Message}
 use Rattle.ken_model.specs.declared.facts.Facts.{Facts}
 use Rattle.ken_model.specs.declared.facts.Input.{Input}
-use Rattle.ken_model.specs.Facts.{IsWithinLimits, IsPlainRun, ArePlain, IsPlain}
-use Rattle.ken_model.specs.Network.{Turn, outside, inputs_from, inputs_for, first_place}
+use Rattle.ken_model.specs.Facts.{IsWithinLimits, IsPlainRun, ArePlain}
+use Rattle.ken_model.specs.Network.{outside, inputs_from, inputs_for}
 use Rattle.ken_model.specs.History.{AreTurns, sent_by}
 use Rattle.ken_model.specs.Spelling.{IsPrintableTurn}
 use Rattle.ken_tool.specs.declared.node.Node.{Node}
-use Rattle.ken_tool.specs.Turns.{IsOneLine, outputs_from}
-use Rattle.ken_tool.specs.Running.{IsStanding, IsRunning, IsLetter, from, turns_made}
-use Rattle.ken_tool.specs.Drive.{IsFresh, IsGiven}
+use Rattle.ken_model.specs.Report.{IsOneLine}
+use Rattle.ken_tool.specs.Turns.{outputs_from}
+use Rattle.ken_tool.specs.Running.{IsStanding, IsRunning, IsLetter, from}
+use Rattle.ken_tool.specs.Drive.{IsGiven}
 use Rattle.ken_tool.proofs.Standing.{AllByRecursion-weaker}
 use Rattle.ken_tool.proofs.Visited.{from-all, from-none}
 
@@ -27,9 +28,9 @@ inputs_are_letters : (v n latest : ℕ) (is : List Input) → AllByRecursion (λ
 inputs_are_letters v n latest [] plain = tt
 inputs_are_letters v n latest (i ∷ is) plain =
     ⊎_elim
-      (λ e. let q : (i.node == v) ≡ true = eq-eqb i.node v e in rw q ((refl, (omega arith, plain_line i.text plain.0)), inputs_are_letters v (n + 1) latest is plain.1))
-      (λ ne. let q : (i.node == v) ≡ false = ne_eqb i.node v ne in rw q (inputs_are_letters v n latest is plain.1))
-      (cases_eq i.node v)
+    (λ e. let q : (i.node == v) ≡ true = eq-eqb i.node v e in rw q ((refl, (omega arith, plain_line i.text plain.0)), inputs_are_letters v (n + 1) latest is plain.1))
+    (λ ne. let q : (i.node == v) ≡ false = ne_eqb i.node v ne in rw q (inputs_are_letters v n latest is plain.1))
+    (cases_eq i.node v)
 
 -- nobody else has inputs
 pub inputs_nowhere : (v n nodes : ℕ) (is : List Input) → nodes ≤ v → AllByRecursion (λ (i : Input). (i.node < nodes) × (length i.text ≤ 512)) is → inputs_from v n is ≡ []
@@ -61,9 +62,9 @@ standing_first f v base n limits plain known given =
     let inside : (v ≡ outside) → ⊥ = λ e. omega (arith, limits.few_nodes) in
     let from_outside : AllByRecursion (λ (m : Message). m.from ≡ outside) (inputs_for f v) = AllByRecursion-weaker _ _ (inputs_for f v) (λ m h. h.0) letters in
     let reached : (u : ℕ) → from u (inputs_for f v) ≡ first_flow f u v = λ u. ⊎_elim
-      (λ e. subst (λ k. from k (inputs_for f v) ≡ first_flow f k v) (sym e) (from-all outside (inputs_for f v) from_outside ∙ sym (flow_inputs f v)))
-      (λ ne. from-none u outside (inputs_for f v) (λ e. ne (sym e)) from_outside ∙ sym (flow_inside f u v ne))
-      (cases_eq u outside) in
+    (λ e. subst (λ k. from k (inputs_for f v) ≡ first_flow f k v) (sym e) (from-all outside (inputs_for f v) from_outside ∙ sym (flow_inputs f v)))
+    (λ ne. from-none u outside (inputs_for f v) (λ e. ne (sym e)) from_outside ∙ sym (flow_inside f u v ne))
+    (cases_eq u outside) in
     record {
       turns = tt;
       lines = fresh.turns;
@@ -83,7 +84,7 @@ standing_first f v base n limits plain known given =
       senders = subst (AllByRecursion (λ (m : Message). m.from < f.nodes)) (sym fresh.mail) tt;
       inputs = subst (AllByRecursion (IsLetter (base + 0))) (sym inputs) (AllByRecursion-weaker _ _ (inputs_for f v) (λ m h. h.1) letters);
       given = subst (AllByRecursion (λ (m : Message). m.from ≡ outside)) (sym inputs) from_outside;
-      pending = tt
+      pending = tt;
     }
 
 -- the nodes at the start are running
@@ -94,10 +95,10 @@ running_first f nodes limits plain long given = record {
   flow = first_flow f;
   nobody = λ v past. refl;
   nowhere = λ u v past. ⊎_elim
-    (λ e. subst (λ k. first_flow f k v ≡ []) (sym e) (flow_inputs f v ∙ inputs_nowhere v 0 f.nodes f.inputs past limits.inputs))
-    (λ ne. flow_inside f u v ne)
-    (cases_eq u outside);
+      (λ e. subst (λ k. first_flow f k v ≡ []) (sym e) (flow_inputs f v ∙ inputs_nowhere v 0 f.nodes f.inputs past limits.inputs))
+      (λ ne. flow_inside f u v ne)
+      (cases_eq u outside);
   strangers = λ u v past ne. flow_inside f u v ne;
   inputs = λ v lt. flow_inputs f v;
-  each = λ v d lt. standing_first f v _ (slice_index_or nodes v d) limits plain lt (given v d lt)
+  each = λ v d lt. standing_first f v _ (slice_index_or nodes v d) limits plain lt (given v d lt);
 }

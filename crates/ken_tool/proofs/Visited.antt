@@ -1,5 +1,5 @@
 -- A visit of a node keeps what the nodes stand for.
-use Rattle.std.proofs.Common.{◌≡◌, ℕ, zero, suc, ◌+◌, ◌-◌, ◌*◌, ◌<◌, ◌≤◌, ◌^◌, max, ◌⊎◌, inl, inr, List, [], ◌∷◌, ◌++◌, map, length, slice_index, slice_index_or, slice_set, sum_by, sum, All, Bool, true, false, ◌==◌, if◌then◌else◌, refl, sym, ap, subst, ◌∙◌, ⊎_elim, arith, append_assoc, append-nil, length-append, eq-eqb, ne_eqb}
+use Rattle.std.proofs.Common.{◌≡◌, ℕ, ◌+◌, ◌-◌, ◌*◌, ◌<◌, ◌≤◌, ◌^◌, max, ◌⊎◌, inl, inr, List, [], ◌∷◌, ◌++◌, map, length, slice_index, slice_index_or, slice_set, sum, Bool, true, false, ◌==◌, if◌then◌else◌, refl, sym, ap, subst, ◌∙◌, ⊎_elim, arith, append_assoc, append-nil, length-append, eq-eqb, ne_eqb}
 use Rattle.std.specs.List.{AllByRecursion}
 use Rattle.std.proofs.lemmas.Bool.{cases_eq}
 use Rattle.std.proofs.lemmas.List.{length-map, length-set, get_or-set_same, get_or-set_other, get_or-map, same_lists, get_or_default}
@@ -9,8 +9,8 @@ use Rattle.ken_model.specs.declared.messages.Message.{Message}
 use Rattle.ken_model.specs.declared.messages.Out.{Out}
 use Rattle.ken_model.specs.declared.facts.Facts.{Facts}
 use Rattle.ken_model.specs.Facts.{IsWithinLimits}
-use Rattle.ken_model.specs.Network.{Place, Turn, outside, first_place, inputs_for, place_after}
-use Rattle.ken_model.specs.History.{AreTurns, places, place_of, consumed, sent_by, line_at}
+use Rattle.ken_model.specs.Network.{Place, Turn, outside, first_place, place_after}
+use Rattle.ken_model.specs.History.{AreTurns, place_of, consumed, line_at}
 use Rattle.ken_model.specs.Spelling.{IsPrintableTurn}
 use Rattle.ken_tool.specs.declared.node.Node.{Node}
 use Rattle.ken_tool.specs.declared.node.Pending.{Pending}
@@ -46,9 +46,9 @@ All-sent_to : (P : Message → Type 0) (w : ℕ) (ms : List Message) → AllByRe
 All-sent_to P w [] all = tt
 All-sent_to P w (m ∷ ms) all =
     ⊎_elim
-      (λ e. let q : (m.to == w) ≡ true = eq-eqb m.to w e in rw q (all.0, All-sent_to P w ms all.1))
-      (λ ne. let q : (m.to == w) ≡ false = ne_eqb m.to w ne in rw q (All-sent_to P w ms all.1))
-      (cases_eq m.to w)
+    (λ e. let q : (m.to == w) ≡ true = eq-eqb m.to w e in rw q (all.0, All-sent_to P w ms all.1))
+    (λ ne. let q : (m.to == w) ≡ false = ne_eqb m.to w ne in rw q (All-sent_to P w ms all.1))
+    (cases_eq m.to w)
 
 -- how many turns a node has made
 abbrev pub turns_of : Node → ℕ
@@ -59,8 +59,8 @@ sum_by-places : (xs ys : List Node) (d : Node) → length xs ≡ length ys → (
 sum_by-places xs ys d long same =
     let lens : length (map turns_of xs) ≡ length (map turns_of ys) = length-map xs turns_of ∙ long ∙ sym (length-map ys turns_of) in
     let at : (k : ℕ) (e : ℕ) → k < length (map turns_of xs) → slice_index_or (map turns_of xs) k e ≡ slice_index_or (map turns_of ys) k e =
-      λ k e lt. (let lt_xs : k < length xs = omega (arith, length-map xs turns_of) in let lt_ys : k < length ys = omega arith in
-        get_or-map turns_of xs k d e lt_xs ∙ same k lt_xs ∙ sym (get_or-map turns_of ys k d e lt_ys)) in
+    λ k e lt. (let lt_xs : k < length xs = omega (arith, length-map xs turns_of) in let lt_ys : k < length ys = omega arith in
+    get_or-map turns_of xs k d e lt_xs ∙ same k lt_xs ∙ sym (get_or-map turns_of ys k d e lt_ys)) in
     sym (sum-map turns_of xs) ∙ ap sum (same_lists _ _ lens at) ∙ sum-map turns_of ys
 
 -- one place of a list of nodes is another node with its turns, and the rest have as many as before
@@ -69,11 +69,11 @@ turns_made-one : (xs ys : List Node) (v : ℕ) (node : Node) (d : Node) → v < 
     → turns_made ys + turns_of (slice_index_or xs v d) ≡ turns_made xs + turns_of node
 turns_made-one xs ys v node d in' long here others =
     let whole : turns_made ys ≡ turns_made (slice_set xs v node) =
-      sum_by-places ys (slice_set xs v node) d (long ∙ sym (length-set xs v node)) (λ k lt. (let lt_xs : k < length xs = omega arith in
-        ⊎_elim
-          (λ e. subst (λ j. turns_of (slice_index_or ys j d) ≡ turns_of (slice_index_or (slice_set xs v node) j d)) (sym e) (here ∙ ap turns_of (sym (get_or-set_same xs v node d in'))))
-          (λ ne. others k ne lt_xs ∙ ap turns_of (sym (get_or-set_other xs v k node d ne)))
-          (cases_eq k v))) in
+    sum_by-places ys (slice_set xs v node) d (long ∙ sym (length-set xs v node)) (λ k lt. (let lt_xs : k < length xs = omega arith in
+    ⊎_elim
+    (λ e. subst (λ j. turns_of (slice_index_or ys j d) ≡ turns_of (slice_index_or (slice_set xs v node) j d)) (sym e) (here ∙ ap turns_of (sym (get_or-set_same xs v node d in'))))
+    (λ ne. others k ne lt_xs ∙ ap turns_of (sym (get_or-set_other xs v k node d ne)))
+    (cases_eq k v))) in
     ap (λ k. k + turns_of (slice_index_or xs v d)) whole ∙ sum_by-set turns_of xs v node d in'
 
 -- what came to a node, with more from another
@@ -82,10 +82,10 @@ reached_more u cs mail inputs more arrived one reached =
     let is_from : Message → Bool = λ x. x.from == u in
     let split : from u (mail ++ more) ≡ from u mail ++ from u more = filter-append is_from mail more in
     ⊎_elim
-      (λ none. ap (λ l. cs ++ (l ++ from u inputs)) (split ∙ ap (λ l. from u mail ++ l) none ∙ append-nil (from u mail)) ∙ reached ∙ sym (append-nil arrived) ∙ ap (λ l. arrived ++ l) (sym none))
-      (λ none. ap (λ l. cs ++ (l ++ from u inputs)) split ∙ ap (λ l. cs ++ ((from u mail ++ from u more) ++ l)) none ∙ ap (λ l. cs ++ l) (append-nil (from u mail ++ from u more))
-        ∙ sym (append_assoc cs (from u mail) (from u more)) ∙ ap (λ l. l ++ from u more) (ap (λ l. cs ++ l) (sym (append-nil (from u mail)) ∙ ap (λ l. from u mail ++ l) (sym none)) ∙ reached))
-      one
+    (λ none. ap (λ l. cs ++ (l ++ from u inputs)) (split ∙ ap (λ l. from u mail ++ l) none ∙ append-nil (from u mail)) ∙ reached ∙ sym (append-nil arrived) ∙ ap (λ l. arrived ++ l) (sym none))
+    (λ none. ap (λ l. cs ++ (l ++ from u inputs)) split ∙ ap (λ l. cs ++ ((from u mail ++ from u more) ++ l)) none ∙ ap (λ l. cs ++ l) (append-nil (from u mail ++ from u more))
+    ∙ sym (append_assoc cs (from u mail) (from u more)) ∙ ap (λ l. l ++ from u more) (ap (λ l. cs ++ l) (sym (append-nil (from u mail)) ∙ ap (λ l. from u mail ++ l) (sym none)) ∙ reached))
+    one
 
 -- a node that got more mail from node v
 pub standing_delivered : (f : Facts) (x v base later : ℕ) (arrived left : ℕ → List Message) (n new : Node) (ts : List Turn) (mail : List Message) (outs : List Out) (more : List Message)
@@ -99,9 +99,9 @@ standing_delivered f x v base later arrived left n new ts mail outs more known i
     let Q : List Message → Type 0 = λ ms. AllByRecursion (IsLetter (later + length ts)) ms in
     let older : (ms : List Message) → AllByRecursion (IsLetter (base + length ts)) ms → Q ms = λ ms all. AllByRecursion-weaker (IsLetter (base + length ts)) (IsLetter (later + length ts)) ms (λ m h. (omega (arith, h.0), h.1)) all in
     let one : (u : ℕ) → (from u more ≡ []) ⊎ (from u n.inputs.items ≡ []) = λ u. ⊎_elim
-      (λ e. inl (from-none u v more (λ q. inside (q ∙ e)) from_v))
-      (λ ne. inr (from-none u outside n.inputs.items (λ q. ne (sym q)) s.given))
-      (cases_eq u outside) in
+    (λ e. inl (from-none u v more (λ q. inside (q ∙ e)) from_v))
+    (λ ne. inr (from-none u outside n.inputs.items (λ q. ne (sym q)) s.given))
+    (cases_eq u outside) in
     record {
       turns = s.turns;
       lines = ap (λ (y : Node). y.turns.items) got.rest ∙ s.lines;
@@ -115,14 +115,14 @@ standing_delivered f x v base later arrived left n new ts mail outs more known i
       counts = λ w. ap (λ l. slice_index l w) sent_same ∙ s.counts w;
       few_sent = subst (λ l. AllByRecursion (λ k. k ≤ 16 * length ts) l) (sym sent_same) s.few_sent;
       reached = λ u. ap (λ l. consumed u ts ++ (from u l ++ from u new.inputs.items)) got.mail ∙ ap (λ l. consumed u ts ++ (from u (n.mail.items ++ more) ++ from u l)) inputs_same
-        ∙ reached_more u (consumed u ts) n.mail.items n.inputs.items more (arrived u) (one u) (s.reached u);
+          ∙ reached_more u (consumed u ts) n.mail.items n.inputs.items more (arrived u) (one u) (s.reached u);
       sent = s.sent;
       clock = omega (arith, s.clock);
       queue = subst Q (sym got.mail) (AllByRecursion-append (IsLetter (later + length ts)) n.mail.items more (older _ s.queue) (AllByRecursion-weaker _ (IsLetter (later + length ts)) more (λ m h. h.1) letters));
       senders = subst (AllByRecursion (λ (m : Message). m.from < f.nodes)) (sym got.mail) (AllByRecursion-append (λ (m : Message). m.from < f.nodes) n.mail.items more s.senders (AllByRecursion-weaker _ _ more (λ m e. omega (arith, e, known)) from_v));
       inputs = subst Q (sym inputs_same) (older _ s.inputs);
       given = subst (AllByRecursion (λ (m : Message). m.from ≡ outside)) (sym inputs_same) s.given;
-      pending = AllByRecursion-weaker (IsPosted f x (base + length ts)) (IsPosted f x (later + length ts)) mail (λ m h. (h.0, h.1, (omega (arith, h.2.0), h.2.1))) s.pending
+      pending = AllByRecursion-weaker (IsPosted f x (base + length ts)) (IsPosted f x (later + length ts)) mail (λ m h. (h.0, h.1, (omega (arith, h.2.0), h.2.1))) s.pending;
     }
 
 -- a node whose outputs were emitted, and whose mail has left
@@ -154,7 +154,7 @@ standing_emitted f v base arrived reached left gone n new ts mail outs same_reac
       senders = subst (AllByRecursion (λ (m : Message). m.from < f.nodes)) (sym mail_same) s.senders;
       inputs = subst Q (sym inputs_same) s.inputs;
       given = subst (AllByRecursion (λ (m : Message). m.from ≡ outside)) (sym inputs_same) s.given;
-      pending = tt
+      pending = tt;
     }
 
 -- turns are only added
@@ -188,8 +188,8 @@ module _ (f : Facts) (v : ℕ) (old new : List Node) (limits : IsWithinLimits f)
   -- the turns after the visit: those before, and what node v made in it
   pub total : turns_made new + turns_of before ≡ turns_made old + turns_of vis.node
   total = turns_made-one old new v vis.node vis.node in_old vis.same_length
-    (ap (λ (y : Node). turns_of y) (vis.rest vis.node) ∙ ap (λ (y : Node). turns_of y) vis.delivered.rest)
-    (λ w ne lt. ap (λ (y : Node). turns_of y) (vis.others w vis.node ne lt).rest)
+      (ap (λ (y : Node). turns_of y) (vis.rest vis.node) ∙ ap (λ (y : Node). turns_of y) vis.delivered.rest)
+      (λ w ne lt. ap (λ (y : Node). turns_of y) (vis.others w vis.node ne lt).rest)
 
   all_now : base + length stood.history ≡ turns_made new
   unfolding base
@@ -226,7 +226,7 @@ module _ (f : Facts) (v : ℕ) (old new : List Node) (limits : IsWithinLimits f)
       let letters = posted v (base + length stood.history) (omega (arith, all_now)) in
       let delivered = standing_delivered f v v base base (λ u. r.flow u v) (r.flow v) vis.node vis.reached stood.history mail outs (more v) known inside (omega arith) letters stood.standing vis.delivered in
       let gone : (w : ℕ) → r.flow v w ++ sent_to w mail ≡ flow_now v w =
-        λ w. ap (λ l. r.flow v w ++ l) (sym (from-all v (more w) (AllByRecursion-weaker _ _ (more w) (λ m h. h.0) (posted w (turns_made new) (omega arith))))) in
+      λ w. ap (λ l. r.flow v w ++ l) (sym (from-all v (more w) (AllByRecursion-weaker _ _ (more w) (λ m h. h.0) (posted w (turns_made new) (omega arith))))) in
       let B : ℕ → Type 0 = λ b. IsStanding f v b (λ u. flow_now u v) (flow_now v) (slice_index_or new v d) stood.history [] [] in
       subst B later (standing_emitted f v base (λ u. r.flow u v ++ from u (more v)) (λ u. flow_now u v) (r.flow v) (flow_now v) vis.reached (slice_index_or new v d) stood.history mail outs (λ u. refl) gone (vis.rest d) (vis.emitted d) delivered)
 
@@ -246,7 +246,7 @@ module _ (f : Facts) (v : ℕ) (old new : List Node) (limits : IsWithinLimits f)
       let letters = posted x (turns_made new - turns_of now + length (r.history x)) (omega (arith, most)) in
       let delivered = standing_delivered f x v (turns_made old - turns_of was) (turns_made new - turns_of now) (λ u. r.flow u x) (r.flow x) was now (r.history x) [] [] (more x) known inside (omega (arith, rose)) letters stands got in
       let gone : (w : ℕ) → r.flow x w ++ sent_to w [] ≡ flow_now x w =
-        λ w. ap (λ l. r.flow x w ++ l) (sym (from-none x v (more w) (λ e. ne (sym e)) (AllByRecursion-weaker _ _ (more w) (λ m h. h.0) (posted w (turns_made new) (omega arith))))) in
+      λ w. ap (λ l. r.flow x w ++ l) (sym (from-none x v (more w) (λ e. ne (sym e)) (AllByRecursion-weaker _ _ (more w) (λ m h. h.0) (posted w (turns_made new) (omega arith))))) in
       standing_emitted f x (turns_made new - turns_of now) (λ u. r.flow u x ++ from u (more x)) (λ u. flow_now u x) (r.flow x) (flow_now x) now now (r.history x) [] [] (λ u. refl) gone refl (sym (append-nil now.emitted.items)) delivered
 
   -- past the nodes of the run nothing comes
@@ -278,9 +278,9 @@ module _ (f : Facts) (v : ℕ) (old new : List Node) (limits : IsWithinLimits f)
         strangers = λ u w past not_outside. ap (λ l. r.flow u w ++ l) (from-none u v (more w) (λ e. omega (arith, known)) (AllByRecursion-weaker _ _ (more w) (λ m h. h.0) (posted w (turns_made new) (omega arith)))) ∙ append-nil (r.flow u w) ∙ r.strangers u w past not_outside;
         inputs = λ x lt. ap (λ l. r.flow outside x ++ l) (from-none outside v (more x) inside (AllByRecursion-weaker _ _ (more x) (λ m h. h.0) (posted x (turns_made new) (omega arith)))) ∙ append-nil (r.flow outside x) ∙ r.inputs x lt;
         each = λ x d lt. ⊎_elim
-          (λ e. at_node (λ y. Stand (history_now y) y d) v x e (subst (λ ts. Stand ts v d) (sym (history_here v refl)) (node_now d)))
-          (λ ne. subst (λ ts. Stand ts x d) (sym (history_there x ne)) (other_now x d lt ne))
-          (cases_eq x v)
+            (λ e. at_node (λ y. Stand (history_now y) y d) v x e (subst (λ ts. Stand ts v d) (sym (history_here v refl)) (node_now d)))
+            (λ ne. subst (λ ts. Stand ts x d) (sym (history_there x ne)) (other_now x d lt ne))
+            (cases_eq x v);
       }
 
 -- letters are early for a node that can't pass the run's turns
@@ -291,8 +291,8 @@ early_letters f n latest ms room all = AllByRecursion-weaker (IsLetter latest) _
 pub few_turns_made : (f : Facts) (nodes : List Node) (d : Node) → IsRunning f nodes → turns_made nodes ≤ length nodes * f.turns
 few_turns_made f nodes d r =
     let each : (x : ℕ) → x < length nodes → turns_of (slice_index_or nodes x d) ≤ f.turns =
-      λ x lt. (let s = r.each x d (omega (arith, r.width)) in
-        omega (arith, AreTurns-few f x (first_place f) (r.history x) (omega arith) s.turns, ap length s.lines, length-map (r.history x) (line_at x))) in
+    λ x lt. (let s = r.each x d (omega (arith, r.width)) in
+    omega (arith, AreTurns-few f x (first_place f) (r.history x) (omega arith) s.turns, ap length s.lines, length-map (r.history x) (line_at x))) in
     sum_by-le turns_of f.turns nodes (All-from_get_or (λ (n : Node). turns_of n ≤ f.turns) nodes d each)
 
 -- no number of a node passes its type
@@ -310,13 +310,13 @@ sound_running f nodes v d limits r lt =
     let here : latest ≤ 800000 = omega (arith, get_or-le-sum_by turns_of nodes v d in_nodes) in
     let room : latest + f.turns ≤ 2 ^ 40 = omega (arith, limits.few_turns) in
     let outs : length n.emitted.items + 0 ≤ 16 * turns_of n =
-      omega (arith, length-append n.emitted.items [], ap length s.outputs, length-outputs_from 0 (place_of f ts).outs, s.few_outputs, append-nil n.emitted.items) in
+    omega (arith, length-append n.emitted.items [], ap length s.outputs, length-outputs_from 0 (place_of f ts).outs, s.few_outputs, append-nil n.emitted.items) in
     record {
       clock = omega (arith, s.clock);
       mail = early_letters f n latest n.mail.items room s.queue;
       inputs = early_letters f n latest n.inputs.items room s.inputs;
       counts = subst (λ k. AllByRecursion (λ c. c ≤ 16 * k) n.sent) (sym count) s.few_sent;
-      outs = outs
+      outs = outs;
     }
 
 -- what a node sends is for nodes of the run
@@ -344,7 +344,7 @@ visited_by f v old delivered node e d d' p in_old runs idle got long rest emitte
       emitted = λ x. ap (λ (y : Node). y.emitted.items) (new x) ∙ emitted;
       rest = λ x. subst (λ y. y ≡ record (slice_index_or delivered v d') { emitted = y.emitted }) (sym (new x)) rest;
       others = λ w x ne lt.
-        subst (λ y. IsDelivered (slice_index_or old w x) y (sent_to w p.mail.items)) (sym (get_or-set_other delivered v w e x ne))
+          subst (λ y. IsDelivered (slice_index_or old w x) y (sent_to w p.mail.items)) (sym (get_or-set_other delivered v w e x ne))
           (subst (λ y. IsDelivered y (slice_index_or delivered w x) (sent_to w p.mail.items)) (get_or-set_other old v w node x ne) (got w x (omega (arith, length-set old v node))));
-      same_length = length-set delivered v e ∙ long ∙ length-set old v node
+      same_length = length-set delivered v e ∙ long ∙ length-set old v node;
     }

@@ -1,5 +1,5 @@
 -- What a visit of a node changes.
-use Rattle.std.specs.Prelude.{◌≡◌, ℕ, ◌+◌, ◌<◌, ◌≤◌, List, [], ◌∷◌, ◌++◌, length, replicate, Bool, ◌&&◌, ◌||◌, nat_lt, slice_index_or}
+use Rattle.std.specs.Prelude.{◌≡◌, ℕ, ◌<◌, List, [], ◌++◌, length, replicate, Bool, ◌&&◌, ◌||◌, nat_lt, slice_index_or}
 use Rattle.ken_model.specs.declared.messages.Message.{Message}
 use Rattle.ken_model.specs.declared.facts.Facts.{Facts}
 use Rattle.ken_model.specs.declared.facts.Input.{Input}

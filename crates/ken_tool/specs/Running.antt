@@ -1,5 +1,5 @@
 -- What the nodes of a run stand for: each node's own turns, and what has come to it and left it.
-use Rattle.std.specs.Prelude.{◌≡◌, ℕ, ◌+◌, ◌-◌, ◌*◌, ◌<◌, ◌≤◌, List, [], ◌∷◌, ◌++◌, map, length, filter, ◌==◌, slice_index, slice_index_or, sum_by}
+use Rattle.std.specs.Prelude.{◌≡◌, ℕ, ◌+◌, ◌-◌, ◌*◌, ◌<◌, ◌≤◌, List, [], ◌++◌, map, length, filter, ◌==◌, slice_index, slice_index_or, sum_by}
 use Rattle.std.specs.List.{AllByRecursion}
 use Rattle.ken_model.specs.declared.messages.Message.{Message}
 use Rattle.ken_model.specs.declared.messages.Out.{Out}
@@ -8,7 +8,8 @@ use Rattle.ken_model.specs.Network.{Turn, outside, first_place, inputs_for}
 use Rattle.ken_model.specs.History.{AreTurns, place_of, consumed, sent_by, line_at}
 use Rattle.ken_model.specs.Spelling.{IsPrintableTurn}
 use Rattle.ken_tool.specs.declared.node.Node.{Node}
-use Rattle.ken_tool.specs.Turns.{IsOneLine, outputs_from}
+use Rattle.ken_model.specs.Report.{IsOneLine}
+use Rattle.ken_tool.specs.Turns.{outputs_from}
 
 -- the messages of a sender
 abbrev pub from : ℕ → List Message → List Message

@@ -1,5 +1,5 @@
 -- What the code of one turn leaves.
-use Rattle.std.specs.Prelude.{◌≡◌, ℕ, ◌+◌, ◌-◌, ◌*◌, ◌<◌, ◌≤◌, ◌^◌, max, ◌⊎◌, length, List, [], ◌∷◌, ◌++◌, Some, vec_len}
+use Rattle.std.specs.Prelude.{◌≡◌, ℕ, ◌+◌, ◌-◌, ◌*◌, ◌<◌, ◌≤◌, ◌^◌, max, ◌⊎◌, length, [], ◌∷◌, ◌++◌, Some, vec_len}
 use Rattle.std.specs.List.{AllByRecursion}
 use Rattle.ken_model.specs.declared.messages.Message.{Message}
 use Rattle.ken_model.specs.Handler.{Effect, after}

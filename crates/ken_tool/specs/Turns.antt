@@ -1,13 +1,10 @@
 -- One node's turns, as the code makes them.
-use Rattle.std.specs.Prelude.{◌≡◌, ℕ, ◌+◌, ◌*◌, ◌<◌, ◌≤◌, ◌^◌, max, List, [], ◌∷◌, ◌++◌, map, length, ◌==◌, slice_index, slice_set, filter, Some, vec_len, ◌⊎◌}
+use Rattle.std.specs.Prelude.{ℕ, ◌+◌, ◌<◌, ◌≤◌, ◌^◌, List, [], ◌∷◌, length, slice_index, slice_set}
 use Rattle.std.specs.List.{AllByRecursion}
+use Rattle.ken_model.specs.Report.{IsOneLine}
 use Rattle.ken_model.specs.declared.messages.Message.{Message}
 use Rattle.ken_model.specs.declared.messages.Send.{Send}
 use Rattle.ken_model.specs.declared.messages.Out.{Out}
-
--- no line feed, so that the text is one line's
-abbrev pub IsOneLine : List ℕ → Type 0
-IsOneLine bytes = AllByRecursion (λ b. (b ≡ 10) → ⊥) bytes
 
 -- few sends and outputs, to nodes of the run, and without line feeds
 pub record IsModest (nodes : ℕ) (sends : List Send) (outs : List (List ℕ)) : Type 0 where

@@ -51,7 +51,13 @@ pub(crate) fn on_message(
 }
 
 /// The ring: a turn counts itself in the root, and sends what is left of the count on to the next node.
-fn ring(alloc: Global, node: u8, nodes: u8, value: &mut Value, payload: &[u8]) -> Result<Answer, AllocError>
+fn ring(
+    alloc: Global,
+    node: u8,
+    nodes: u8,
+    value: &mut Value,
+    payload: &[u8],
+) -> Result<Answer, AllocError>
     requires { (0 < nodes) × (node < 255) }
     ensures effect { IfOk result (λ a. ring_effect node nodes value.old (num payload.now)
         ≡ record { value = value.new; sends = a.sends.items; outs = a.outs.items }) }

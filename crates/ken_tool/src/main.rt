@@ -3,8 +3,8 @@
 #![tactic(auto)]
 
 mod drive;
-mod handler;
 mod ended;
+mod handler;
 mod node;
 mod print;
 mod status;
@@ -13,9 +13,9 @@ mod tool;
 mod world;
 
 use ken_io::{StdSink, StdSource};
-use std::process::ExitCode;
-use std::env;
 use status::Status;
+use std::env;
+use std::process::ExitCode;
 use tool::ken;
 use world::MemWorld;
 
@@ -24,7 +24,14 @@ fn main(rt: HostRuntime) -> ExitCode {
         Ok(words) => {
             let mut source = StdSource::new(rt.stdin());
             let mut sink = StdSink::new(rt.stdout());
-            ken(&rt, rt.alloc(), &words, &mut source, &mut sink, &mut MemWorld)
+            ken(
+                &rt,
+                rt.alloc(),
+                &words,
+                &mut source,
+                &mut sink,
+                &mut MemWorld,
+            )
         }
         Err(status) => status,
     };

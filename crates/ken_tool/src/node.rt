@@ -4,7 +4,6 @@ ghost use Rattle.std.specs.List.{AllByRecursion};
 ghost use Rattle.ken_tool.specs.Turns.{posted, counted, outputs_from, HasRoom};
 ghost use Rattle.ken_model.specs.Facts.{IsWithinLimits};
 ghost use Rattle.ken_tool.specs.Turned.{IsTurned, FindsNone, Takes, Runs, IsSound, IsIdle};
-
 ghost use Rattle.ken_tool.specs.Drive.{is_ready, input_at, IsFresh};
 
 use crate::handler::on_message;
@@ -105,7 +104,13 @@ impl Node {
 
     /// Numbers a message, and puts it with those that are to leave.
     #[tactic(auto, unfolding(crate::specs::Turns::posted, crate::specs::Turns::counted))]
-    fn post(&mut self, node: u8, stamp: u64, send: Send, mail: &mut Vec<Message>) -> Result<(), AllocError>
+    fn post(
+        &mut self,
+        node: u8,
+        stamp: u64,
+        send: Send,
+        mail: &mut Vec<Message>,
+    ) -> Result<(), AllocError>
         requires known { send.to < 8 }
         requires room { slice_index self.old.sent send.to + 1 < 2 ^ 64 }
         ensures rest { self.new ≡ record self.old { sent = self.new.sent } }
@@ -127,7 +132,13 @@ impl Node {
 
     /// Numbers all messages of a turn, in order.
     #[tactic(auto, unfolding(crate::specs::Turns::posted, crate::specs::Turns::counted))]
-    fn post_all(&mut self, node: u8, stamp: u64, sends: Vec<Send>, mail: &mut Vec<Message>) -> Result<(), AllocError>
+    fn post_all(
+        &mut self,
+        node: u8,
+        stamp: u64,
+        sends: Vec<Send>,
+        mail: &mut Vec<Message>,
+    ) -> Result<(), AllocError>
         requires known { AllByRecursion (λ s. s.to < 8) sends.items }
         requires room { HasRoom (length sends.items) self.old.sent }
         ensures rest { self.new ≡ record self.old { sent = self.new.sent } }
@@ -168,7 +179,14 @@ impl Node {
         requires outs { vec_len self.old.emitted + vec_len pending.old.outs + 16 < 2 ^ 64 }
         ensures { OnOk result (IsTurned facts.now node message self.old self.new pending.old pending.new) }
     {
-        let answer = on_message(alloc, facts.kind, node, facts.nodes, &mut self.value, &message)?;
+        let answer = on_message(
+            alloc,
+            facts.kind,
+            node,
+            facts.nodes,
+            &mut self.value,
+            &message,
+        )?;
         let stamp = self.stamp.max(message.stamp) + 1;
         self.stamp = stamp;
         self.turns.push(TurnLine {
@@ -186,7 +204,12 @@ impl Node {
 
     /// Makes all turns that the node can make now, and hands over what is to leave it.
     /// After an error the run can't go on.
-    pub(crate) fn run(&mut self, alloc: Global, facts: &Facts, node: u8) -> Result<Pending, AllocError>
+    pub(crate) fn run(
+        &mut self,
+        alloc: Global,
+        facts: &Facts,
+        node: u8,
+    ) -> Result<Pending, AllocError>
         requires limits { IsWithinLimits facts.now }
         requires known { node < facts.now.nodes }
         requires sound { IsSound facts.now self.old 0 }

@@ -3,10 +3,9 @@ ghost use Rattle.std.specs.Prelude.{◌≡◌, ◌↔◌, ◌≤◌, false, map,
 ghost use Rattle.ken_io.specs.Causes.{Rose};
 ghost use Rattle.ken_tool.specs.Headline.{are_plain, Ran, IsQuiet, IsRunOfSource, IsRefusal, IsOut};
 
-use crate::drive;
-use crate::print;
 use crate::status::Status;
 use crate::world::World;
+use crate::{drive, print};
 use ken_io::{Sink, Source, read_all};
 use ken_model::Lines;
 use ken_script::LIMIT;

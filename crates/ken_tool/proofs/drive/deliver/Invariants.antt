@@ -11,5 +11,5 @@ use Rattle.ken_tool.proofs.drive.deliver.Given as goal
 abbrev pub invariant-loop-message : goal.invariant-loop-message
 invariant-loop-message l = record {
   known : AllByRecursion (λ (m : Message). m.to < length l.fn.nodes) (into_iter_items l.message-iterator);
-  each : (w : ℕ) (d : Node) → w < length l.fn.nodes → IsDelivering (slice_index_or l.fn.nodes w d) (slice_index_or l.nodes w d) (sent_to w (into_iter_items l.message-iterator)) (sent_to w l.fn.mail.items)
+  each : (w : ℕ) (d : Node) → w < length l.fn.nodes → IsDelivering (slice_index_or l.fn.nodes w d) (slice_index_or l.nodes w d) (sent_to w (into_iter_items l.message-iterator)) (sent_to w l.fn.mail.items);
 }

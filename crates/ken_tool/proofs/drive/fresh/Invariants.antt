@@ -7,5 +7,5 @@ use Rattle.ken_tool.proofs.drive.fresh.Given as goal
 abbrev pub invariant-loop-node : goal.invariant-loop-node
 invariant-loop-node l = record {
   long : length l.nodes.items ≡ l._node;
-  fresh : AllByRecursion (λ (n : Node). IsFresh l.facts.size n × (n.inputs.items ≡ [])) l.nodes.items
+  fresh : AllByRecursion (λ (n : Node). IsFresh l.facts.size n × (n.inputs.items ≡ [])) l.nodes.items;
 }

@@ -1,4 +1,4 @@
-use Rattle.std.proofs.Common.{◌≡◌, ℕ, ◌<◌, ◌≤◌, length, drop, slice_index_or}
+use Rattle.std.proofs.Common.{ℕ, ◌<◌, length, drop, slice_index_or}
 use Rattle.ken_model.specs.Network.{inputs_from, inputs_for}
 use Rattle.ken_tool.specs.declared.node.Node.{Node}
 use Rattle.ken_tool.specs.Drive.{IsGiven}

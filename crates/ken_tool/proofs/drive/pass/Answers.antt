@@ -5,7 +5,7 @@ use Rattle.ken_tool.proofs.drive.pass.Goals as goal
 pub loop-node-preserved : goal.loop-node-preserved
 loop-node-preserved c = record {
   running = c.in_ok-visit.ensures.running;
-  mid = mid_pass_next c.args.facts.now c.loop-node.node c.args.nodes.now c.loop-node.nodes c.visit.new.nodes c.requires.limits c.loop-node.invariant.running c.in_ok-visit.ensures.visited c.loop-node-test.true c.loop-node.auto.nodes c.loop-node.invariant.mid
+  mid = mid_pass_next c.args.facts.now c.loop-node.node c.args.nodes.now c.loop-node.nodes c.visit.new.nodes c.requires.limits c.loop-node.invariant.running c.in_ok-visit.ensures.visited c.loop-node-test.true c.loop-node.auto.nodes c.loop-node.invariant.mid;
 }
 
 pub returns-clause-grown : goal.returns-clause-grown

@@ -22,4 +22,4 @@ pub returns : goal.returns
 returns c =
     let is = drained (goal.at.returns c).In_ok-drain in
     IfOk-weaker c.gather.result _ _
-      (λ l g. run_of-gathered c.args.facts.now c.drain.new.nodes l c.requires.limits c.in_ok-drain.ensures.running c.in_ok-drain.ensures.idle (subst (λ nodes. IsGathered nodes l) is g)) c.gather.ensures
+    (λ l g. run_of-gathered c.args.facts.now c.drain.new.nodes l c.requires.limits c.in_ok-drain.ensures.running c.in_ok-drain.ensures.idle (subst (λ nodes. IsGathered nodes l) is g)) c.gather.ensures

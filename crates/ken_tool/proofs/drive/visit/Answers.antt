@@ -1,4 +1,4 @@
-use Rattle.std.proofs.Common.{◌≡◌, ◌<◌, ◌++◌, length, slice_index_or, slice_set, subst, sym, arith}
+use Rattle.std.proofs.Common.{◌≡◌, ◌<◌, ◌++◌, length, slice_index_or, slice_set, subst, arith}
 use Rattle.std.specs.List.{AllByRecursion}
 use Rattle.std.proofs.lemmas.List.{length-set}
 use Rattle.std.proofs.lemmas.Result.{on_ok_weaker}
@@ -20,7 +20,7 @@ deliver-requires c =
 visited : (c : After-emit) → c.emit.new.node.emitted.items ≡ (slice_index_or c.deliver.new.nodes c.args.node c.index-nodes-at-2.result).emitted.items ++ c.in_ok-pending.pending.outs.items → IsVisited c.args.facts.now c.args.node c.args.nodes.now (slice_set c.deliver.new.nodes c.args.node c.emit.new.node)
 visited c emitted =
     visited_by c.args.facts.now c.args.node c.args.nodes.now c.deliver.new.nodes c.run.new.self c.emit.new.node c.index-nodes-at.result c.index-nodes-at-2.result c.in_ok-pending.pending
-      (omega (arith, c.requires.running.width)) c.in_ok-pending.ensures.runs c.in_ok-pending.ensures.idle c.in_ok-deliver.ensures c.deliver.auto.nodes c.emit.ensures.rest emitted
+    (omega (arith, c.requires.running.width)) c.in_ok-pending.ensures.runs c.in_ok-pending.ensures.idle c.in_ok-deliver.ensures c.deliver.auto.nodes c.emit.ensures.rest emitted
 
 pub returns-clause-running : goal.returns-clause-running
 returns-clause-running c = on_ok_weaker c.emit.result (λ e. running_visited c.args.facts.now c.args.node _ _ c.requires.limits c.requires.running (visited c e) c.requires.known) c.emit.ensures.emitted

@@ -1,7 +1,6 @@
-use Rattle.std.proofs.Common.{◌≡◌, [], Some, ap, sym, ◌∙◌, subst}
+use Rattle.std.proofs.Common.{Some, ap, ◌∙◌, subst}
 use Rattle.std.proofs.lemmas.Result.{IfOk-weaker}
 use Rattle.ken_model.specs.Handler.{Effect}
-use Rattle.ken_model.specs.Numbers.{num}
 use Rattle.ken_tool.specs.Turns.{IsModest}
 use Rattle.ken_tool.proofs.Handlers.{after-ring, modest_ring}
 use Rattle.ken_model.proofs.NumbersSmall.{num-lt}

@@ -7,5 +7,5 @@ use Rattle.ken_tool.proofs.node.Node.output_all.Given as goal
 abbrev pub invariant-loop-text : goal.invariant-loop-text
 invariant-loop-text l = record {
   made : l.made.items ++ outputs_from (vec_len l.self.emitted + vec_len l.made) (into_iter_items l.text-iterator) ≡ l.fn.made.items ++ outputs_from (vec_len l.self.emitted + vec_len l.fn.made) l.fn.outs.items;
-  room : vec_len l.self.emitted + vec_len l.made + length (into_iter_items l.text-iterator) < 2 ^ 64
+  room : vec_len l.self.emitted + vec_len l.made + length (into_iter_items l.text-iterator) < 2 ^ 64;
 }

@@ -1,5 +1,4 @@
 use Rattle.std.proofs.Common.{rules, append_assoc}
-use Rattle.std.specs.List.{AllByRecursion}
 use Rattle.ken_tool.specs.Turns.{posted, counted}
 use Rattle.ken_tool.proofs.Counts.{HasRoom-set}
 use Rattle.ken_tool.proofs.node.Node.post_all.Goals as goal
@@ -13,5 +12,5 @@ loop-send-preserved c =
       sent = search rules;
       mail = rw (c.in_ok-post.ensures.mail, c.in_ok-post.ensures.sent, append_assoc) (rw s.0 at c.loop-send.invariant.mail);
       known = search rules;
-      room = rw c.in_ok-post.ensures.sent (HasRoom-set _ _ _ (rw s.0 at c.loop-send.invariant.room))
+      room = rw c.in_ok-post.ensures.sent (HasRoom-set _ _ _ (rw s.0 at c.loop-send.invariant.room));
     }

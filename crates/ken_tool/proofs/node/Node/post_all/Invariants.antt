@@ -12,5 +12,5 @@ invariant-loop-send l = record {
   sent : counted l.self.sent (into_iter_items l.send-iterator) ≡ counted l.fn.self.sent l.fn.sends.items;
   mail : l.mail.items ++ posted l.node l.stamp l.self.sent (into_iter_items l.send-iterator) ≡ l.fn.mail.items ++ posted l.node l.stamp l.fn.self.sent l.fn.sends.items;
   known : AllByRecursion (λ (s : Send). s.to < 8) (into_iter_items l.send-iterator);
-  room : AllByRecursion (λ n. n + length (into_iter_items l.send-iterator) < 2 ^ 64) l.self.sent
+  room : AllByRecursion (λ n. n + length (into_iter_items l.send-iterator) < 2 ^ 64) l.self.sent;
 }

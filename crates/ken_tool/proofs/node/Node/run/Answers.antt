@@ -1,6 +1,6 @@
-use Rattle.std.proofs.Common.{◌≡◌, ◌+◌, ◌*◌, ◌<◌, ◌≤◌, length, List, ap, sym, subst, arith, rules}
+use Rattle.std.proofs.Common.{◌<◌, length, ap, sym, subst, arith}
 use Rattle.ken_tool.specs.declared.node.Node.{Node}
-use Rattle.ken_tool.specs.Turned.{Runs, IsSound}
+use Rattle.ken_tool.specs.Turned.{Runs}
 use Rattle.ken_tool.proofs.Sound.{sound_after, room_for_turn}
 use Rattle.ken_tool.proofs.node.Node.run.Goals as goal
 use Rattle.ken_tool.proofs.node.Node.run.Goals.{else-turns-test, then-turns-test+in_default}
@@ -8,7 +8,7 @@ use Rattle.ken_tool.proofs.node.Node.run.Goals.{else-turns-test, then-turns-test
 pub turns-init : goal.turns-init
 turns-init c = record {
   sound = (let e = ap length c.new-pending.ensures.1 in record { clock = c.requires.sound.clock; mail = c.requires.sound.mail; inputs = c.requires.sound.inputs; counts = c.requires.sound.counts; outs = omega (arith, c.requires.sound.outs, e) });
-  runs = Runs.none _ c.new-pending.ensures.0 c.new-pending.ensures.1
+  runs = Runs.none _ c.new-pending.ensures.0 c.new-pending.ensures.1;
 }
 
 pub turn-requires-clause-counts : goal.turn-requires-clause-counts
@@ -20,7 +20,7 @@ turns-preserved c =
     let more : length c.turns.self.turns.items < c.args.facts.now.turns = omega (arith, c.turns.self.turns.ok.0) in
     record {
       sound = sound_after _ _ c.turns.self c.take.new.self _ _ c.turns.pending _ c.turns.invariant.sound more c.in-Some.ensures.next c.in_ok-turn.ensures;
-      runs = Runs.more _ _ _ _ _ _ c.turns.invariant.runs more c.in-Some.ensures.next c.in_ok-turn.ensures
+      runs = Runs.more _ _ _ _ _ _ c.turns.invariant.runs more c.in-Some.ensures.next c.in_ok-turn.ensures;
     }
 
 pub returns-clause-runs : goal.returns-clause-runs

@@ -5,7 +5,7 @@ use Rattle.ken_tool.proofs.node.Node.run.Given as goal
 abbrev pub invariant-turns : goal.invariant-turns
 invariant-turns l = record {
   sound : IsSound l.facts l.self (length l.pending.outs.items);
-  runs : Runs l.facts l.node l.fn.self l.self l.pending
+  runs : Runs l.facts l.node l.fn.self l.self l.pending;
 }
 
 abbrev pub decreases-turns : goal.decreases-turns
