@@ -9,30 +9,7 @@ use Rattle.ken_model.specs.History.{AreTurns, InAccord, IsHistory, IsPrefixOf, c
 use Rattle.ken_tool.specs.declared.node.Node.{Node}
 use Rattle.ken_tool.specs.Running.{IsRunning, from}
 use Rattle.ken_tool.specs.Ended.{IsGathered}
-
--- a link of the outside
-messages-outside : (f : Facts) (h : ℕ → List Turn) (u v : ℕ) → u ≡ outside → messages f h u v ≡ inputs_for f v
-unfolding messages
-messages-outside f h u v e = let q : (u == outside) ≡ true = eq-eqb u outside e in rw q
-
--- another link
-messages-inside : (f : Facts) (h : ℕ → List Turn) (u v : ℕ) → ((u ≡ outside) → ⊥) → messages f h u v ≡ sent_by u v 0 (h u)
-unfolding messages
-messages-inside f h u v ne = let q : (u == outside) ≡ false = ne_eqb u outside ne in rw q
-
-sent_by-nothing : (u v : ℕ) (ts : List Turn) → ts ≡ [] → sent_by u v 0 ts ≡ []
-unfolding sent_by
-sent_by-nothing u v ts e = ap (sent_by u v 0) e
-
--- what came on a link is all that was sent on it
-pub flow-running : (f : Facts) (nodes : List Node) (limits : IsWithinLimits f) (r : IsRunning f nodes) (d : Node) (u v : ℕ) → v < f.nodes → r.flow u v ≡ messages f r.history u v
-flow-running f nodes limits r d u v lt = ⊎_elim
-    (λ e. ap (λ k. r.flow k v) e ∙ r.inputs v lt ∙ sym (messages-outside f r.history u v e))
-    (λ ne. ⊎_elim
-    (λ known. sym (messages-inside f r.history u v ne ∙ (r.each u d known).sent v ∙ append-nil (r.flow u v)))
-    (λ past. r.strangers u v past ne ∙ sym (messages-inside f r.history u v ne ∙ sent_by-nothing u v (r.history u) (r.nobody u past)))
-    (cases_lt u f.nodes))
-    (cases_eq u outside)
+use Rattle.ken_tool.proofs.Waiting.{flow-messages}
 
 turns_of_nobody : (f : Facts) (v : ℕ) (ts : List Turn) → ts ≡ [] → AreTurns f v (first_place f) ts
 unfolding AreTurns
@@ -46,7 +23,7 @@ accord-running f nodes limits r d = record {
   order = λ u v. ⊎_elim
       (λ lt. (let n = slice_index_or nodes v d in
       let whole : IsPrefixOf (consumed u (r.history v)) (messages f r.history u v) =
-      (from u n.mail.items ++ from u n.inputs.items, sym (flow-running f nodes limits r d u v lt) ∙ sym ((r.each v d lt).reached u)) in whole))
+      (from u n.mail.items ++ from u n.inputs.items, sym (flow-messages f nodes limits r u v) ∙ sym ((r.each v d lt).reached u)) in whole))
       (λ past. (let none : IsPrefixOf (consumed u (r.history v)) (messages f r.history u v) =
       (messages f r.history u v, ap (λ ts. consumed u ts ++ messages f r.history u v) (sym (r.nobody v past))) in none))
       (cases_lt v f.nodes);

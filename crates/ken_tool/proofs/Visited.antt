@@ -310,7 +310,7 @@ sound_running f nodes v d limits r lt =
     let here : latest ≤ 800000 = omega (arith, get_or-le-sum_by turns_of nodes v d in_nodes) in
     let room : latest + f.turns ≤ 2 ^ 40 = omega (arith, limits.few_turns) in
     let outs : length n.emitted.items + 0 ≤ 16 * turns_of n =
-    omega (arith, length-append n.emitted.items [], ap length s.outputs, length-outputs_from 0 (place_of f ts).outs, s.few_outputs, append-nil n.emitted.items) in
+    omega (arith, length-append n.emitted.items [], ap length s.outputs, length-outputs_from 0 (place_of f ts).outs, s.few_outputs) in
     record {
       clock = omega (arith, s.clock);
       mail = early_letters f n latest n.mail.items room s.queue;

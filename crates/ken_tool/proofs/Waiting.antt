@@ -78,7 +78,7 @@ module _ (f : Facts) (nodes : List Node) (limits : IsWithinLimits f) (r : IsRunn
   flow-outside v = ⊎_elim (λ lt. r.inputs v lt) (λ past. r.nowhere outside v past ∙ sym (inputs_nowhere v 0 f.nodes f.inputs past limits.inputs)) (cases_lt v f.nodes)
 
   -- what came on a link is all that its sender sent
-  flow-messages : (u v : ℕ) → r.flow u v ≡ messages f r.history u v
+  pub flow-messages : (u v : ℕ) → r.flow u v ≡ messages f r.history u v
   flow-messages u v = go (known_sender f u)
     where
       go : IsKnown f u → r.flow u v ≡ messages f r.history u v

@@ -1,15 +1,20 @@
 // A node of a run: its heap, its turns, and what waits for it.
-ghost use Rattle.std.specs.Prelude.{◌≡◌, ◌⊎◌, ◌+◌, ◌*◌, ◌<◌, ◌≤◌, ◌^◌, max, List, [], ◌∷◌, ◌++◌, ℕ, length, slice_index, Some, IfOk, OnOk, MatchOption, vec_len, MatchBool};
+ghost use Rattle.std.specs.Prelude.{◌≡◌, ◌+◌, ◌<◌, ◌≤◌, ◌^◌, max, [], ◌∷◌, ◌++◌, length, slice_index, IfOk, OnOk, MatchOption, vec_len};
 ghost use Rattle.std.specs.List.{AllByRecursion};
-ghost use Rattle.ken_tool.specs.Turns.{posted, counted, outputs_from, HasRoom};
 ghost use Rattle.ken_model.specs.Facts.{IsWithinLimits};
+ghost use Rattle.ken_tool.specs.Turns.{posted, counted, outputs_from, HasRoom};
 ghost use Rattle.ken_tool.specs.Turned.{IsTurned, FindsNone, Takes, Runs, IsSound, IsIdle};
 ghost use Rattle.ken_tool.specs.Drive.{is_ready, input_at, IsFresh};
 
 use crate::handler::on_message;
-use ken_model::{Facts, Input, Items, Message, OUTSIDE, Octets, Out, Send, Step, TurnLine, Value};
+use ken_model::{
+    Facts, Input, Items, MAX_NODES, Message, OUTSIDE, Octets, Out, Send, Step, TurnLine, Value,
+};
 use std::alloc::{AllocError, Global};
 use std::collections::VecDeque;
+
+/// How many nodes there may be, as an index.
+const NODES: usize = MAX_NODES as usize;
 
 /// What a node has sent and output since it was visited, and nobody has seen yet.
 #[derive(Debug, Drop)]
@@ -25,7 +30,7 @@ pub(crate) struct Node {
     /// Its turns so far.
     pub turns: Vec<TurnLine>,
     /// How many messages it sent to each node.
-    pub sent: [u64; 8],
+    pub sent: [u64; NODES],
     /// Messages of nodes that it hasn't taken, as they came.
     pub mail: VecDeque<Message>,
     /// Inputs that it hasn't taken.
@@ -59,7 +64,7 @@ impl Node {
             },
             stamp: 0,
             turns: Vec::new(alloc),
-            sent: [0; 8],
+            sent: [0; NODES],
             mail: VecDeque::new(alloc),
             inputs: VecDeque::new(alloc),
             emitted: Vec::new(alloc),

@@ -1,6 +1,7 @@
 // The top call.
-ghost use Rattle.std.specs.Prelude.{◌≡◌, ◌↔◌, ◌≤◌, false, map, string_bytes, IfOk, IfErr, IsErrOf};
+ghost use Rattle.std.specs.Prelude.{◌≡◌, ◌↔◌, ◌+◌, ◌≤◌, false, map, string_bytes, IfOk, IfErr, IsErrOf};
 ghost use Rattle.ken_io.specs.Causes.{Rose};
+ghost use Rattle.ken_io.specs.Transfers.{TakesAtMost};
 ghost use Rattle.ken_tool.specs.Headline.{are_plain, Ran, IsQuiet, IsRunOfSource, IsRefusal, IsOut};
 
 use crate::status::Status;
@@ -27,6 +28,7 @@ pub fn ken<R, S: Source, K: Sink, W: World>(
     ensures runs { Ran (S.left source.old) (K.took sink.old) (K.took sink.new) result }
     ensures read { result ≡ Status.Read → Rose (S.faults source.old) (S.faults source.new) }
     ensures write { result ≡ Status.Write → Rose (K.faults sink.old) (K.faults sink.new) }
+    ensures taken { TakesAtMost (LIMIT + 1) (S.left source.old) (S.left source.new) }
     ensures source_faults { S.faults source.old ≤ S.faults source.new }
     ensures sink_faults { K.faults sink.old ≤ K.faults sink.new }
     ensures unread { result ≡ Status.Usage → source.new ≡ source.old }
@@ -56,6 +58,7 @@ fn run<S: Source>(alloc: Global, source: &mut S) -> Result<Lines, Status>
     ensures ran { IfOk result (IsRunOfSource (S.left source.old)) }
     ensures refused { IfErr result (IsRefusal (S.left source.old)) }
     ensures read { IsErrOf result Status.Read → Rose (S.faults source.old) (S.faults source.new) }
+    ensures taken { TakesAtMost (LIMIT + 1) (S.left source.old) (S.left source.new) }
     ensures faults { S.faults source.old ≤ S.faults source.new }
 {
     let bytes = read_all(alloc, source, LIMIT)?;
