@@ -8,6 +8,8 @@ mod laws;
 mod lists;
 mod messages;
 mod reports;
+#[cfg(test)]
+mod tests;
 mod values;
 
 pub use facts::{Facts, Input, MAX_INPUTS, MAX_NODES, MAX_PAGES, MAX_TEXT, MAX_TURNS, PAGE};

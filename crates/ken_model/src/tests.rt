@@ -1,0 +1,24 @@
+use crate::{Items, Kind, Octets, agreement_is_legal, report_spells_its_run};
+use std::test::Fail;
+
+#[test]
+fn each_public_call_answers(rt: HostRuntime) -> Result<(), Fail> {
+    assert_eq!(rt; Kind::of(b"ring"), Some(Kind::Ring));
+    assert_eq!(rt; Kind::of(b"Ring"), None);
+
+    let octets = Octets::new(b"ken".to_vec(rt.alloc())?);
+    assert_eq!(rt; octets.len(), 3);
+    assert!(rt; !octets.is_empty());
+    assert_eq!(rt; octets.as_slice(), b"ken".as_slice());
+    assert_eq!(rt; octets.into_vec().as_slice(), b"ken".as_slice());
+
+    let items = Items::new([7, 8].to_vec(rt.alloc())?);
+    assert_eq!(rt; items.len(), 2);
+    assert!(rt; !items.is_empty());
+    assert_eq!(rt; items.as_slice(), [7, 8].as_slice());
+    assert_eq!(rt; items.into_vec().as_slice(), [7, 8].as_slice());
+
+    agreement_is_legal();
+    report_spells_its_run();
+    Ok(())
+}
