@@ -7,7 +7,7 @@ use Rattle.ken_model.specs.declared.facts.Facts.{Facts}
 use Rattle.ken_model.specs.declared.reports.TurnLine.{TurnLine}
 use Rattle.ken_model.specs.Network.{Network, Turn, outside, first_place, start, turn_of, applied}
 use Rattle.ken_model.specs.Schedule.{IsLegalFrom, played, turn_lines}
-use Rattle.ken_model.specs.History.{AreTurns, consumed, messages, InAccord, line_at, lines_at, Rises, Shows}
+use Rattle.ken_model.specs.History.{AreTurns, consumed, messages, InAccord, line_at, lines_at, Rises, Shows, step_at}
 use Rattle.ken_model.specs.Laws.{steps_of, AgreementIsLegal}
 use Rattle.ken_model.proofs.Elements.{slice_get-front, All-unmap, mapped_to, with_others}
 use Rattle.ken_model.proofs.Turns.{AreTurns-append, consumed-append, turn_at-later, Rises-stamps, messages-split}
@@ -78,7 +78,7 @@ module _ (f : Facts) (h made ahead : ℕ → List Turn) (w : Network) (stamp nod
       rw (few, next) turns_ahead.1
 
   -- the middle after the turn
-  moved : IsMidway f h (one_more made v t) (one_less ahead v) (applied w v t) t.stamp v ls
+  moved : IsMidway f h (one_more made v t) (one_less ahead v) (applied w (step_at v t) t) t.stamp v ls
   unfolding Rises
   moved =
       let same = eq-eqb v v refl in
@@ -92,7 +92,7 @@ module _ (f : Facts) (h made ahead : ℕ → List Turn) (w : Network) (stamp nod
       }
 
   -- so the turn is the next step, and what is said of the rest is said of all
-  goes_on : (IsMidway f h (one_more made v t) (one_less ahead v) (applied w v t) t.stamp v ls → IsPlayedFrom f h (applied w v t) t.stamp v ls) → IsPlayedFrom f h w stamp node (line_at v t ∷ ls)
+  goes_on : (IsMidway f h (one_more made v t) (one_less ahead v) (applied w (step_at v t) t) t.stamp v ls → IsPlayedFrom f h (applied w (step_at v t) t) t.stamp v ls) → IsPlayedFrom f h w stamp node (line_at v t ∷ ls)
   unfolding Rises IsLegalFrom turn_lines played
   goes_on rest =
       let later = rest moved in
@@ -113,7 +113,7 @@ played_from f h accord (l ∷ ls) made ahead w stamp node mid =
     let m = mapped_to (line_at v) l (lines_at v ls) (ahead v) (rw (eq-eqb v v refl) at (mid.parts v)) in
     let P : TurnLine → Type 0 = λ x. IsPlayedFrom f h w stamp node (x ∷ ls) in
     let Q : TurnLine → Type 0 = λ x. IsMidway f h made ahead w stamp node (x ∷ ls) in
-    let rest = played_from f h accord ls (one_more made v m.head) (one_less ahead v) (applied w v m.head) m.head.stamp v in
+    let rest = played_from f h accord ls (one_more made v m.head) (one_less ahead v) (applied w (step_at v m.head) m.head) m.head.stamp v in
     subst P (sym m.gives) (goes_on f h made ahead w stamp node v m.head m.tail ls accord (subst Q m.gives mid) m.whole rest)
 
 -- the law

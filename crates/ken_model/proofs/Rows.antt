@@ -1,15 +1,15 @@
 -- Worked reports, computed from the definitions.
-use Rattle.std.proofs.Common.{◌≡◌, ℕ, List, [], ◌∷◌, ◌++◌, refl, codes}
+use Rattle.std.proofs.Common.{inl, None, arith, ◌≡◌, ℕ, List, [], ◌∷◌, ◌++◌, refl, codes}
 use Rattle.std.specs.Fmt.{digits}
 use Rattle.ken_model.specs.declared.kinds.Kind.TheVariants.{Ring}
 use Rattle.ken_model.specs.declared.facts.Facts.{Facts}
 use Rattle.ken_model.specs.declared.messages.Step.{Step}
 use Rattle.ken_model.specs.declared.reports.Emission.{Emission}
-use Rattle.ken_model.specs.declared.reports.Ending.TheVariants.{Settled}
+use Rattle.ken_model.specs.declared.reports.Ending.TheVariants.{Settled, Cut}
 use Rattle.ken_model.specs.Numbers.{num}
 use Rattle.ken_model.specs.Handler.{after}
-use Rattle.ken_model.specs.Network.{turn_at}
-use Rattle.ken_model.specs.Schedule.{played, turn_lines}
+use Rattle.ken_model.specs.Network.{turn_at, turn_of}
+use Rattle.ken_model.specs.Schedule.{IsLegal, IsLegalFrom, play, played, turn_lines}
 use Rattle.ken_model.specs.Ending.{waiting}
 use Rattle.ken_model.specs.Report.{line, text, heap_lines, closing, lines_of, report}
 use Rattle.ken_model.specs.Spelling.{spell, step_in, emission_in, restart_in}
@@ -37,3 +37,35 @@ its_report = refl
 its_spelling : spell ring_of_three ≡ record { schedule = schedule; emissions = emissions; restarts = [] }
 unfolding three schedule emissions ends ring_of_three spell step_in emission_in restart_in
 its_spelling = refl
+
+-- its schedule is legal: each step is defined in its place, and the stamps rise
+its_legality : IsLegal three schedule
+unfolding three schedule num after turn_at IsLegalFrom digits
+its_legality =
+    (_, refl, inl (omega arith), (_, refl, inl (omega arith), (_, refl, inl (omega arith), tt)))
+
+-- one node that has one turn, and the input `5`: what is left of the count waits
+one : Facts
+one = record { nodes = 1; kind = Ring; size = 4096; turns = 1; inputs = record { node = 0; text = codes "5" } ∷ [] }
+
+first_step : List Step
+first_step = record { node = 0; from = 255; draws = [] } ∷ []
+
+cut_after_one : report one first_step (record { node = 0; out = record { number = 1; text = codes "5" } } ∷ []) [] Cut
+    ≡ ends (codes "turn 1 0 out 1 -") (ends (codes "emit 0 1 5") (ends (codes "heap 0 1") (ends (codes "end cut 1 1") [])))
+unfolding one first_step ends num after turn_at played turn_lines waiting line text heap_lines closing lines_of digits
+cut_after_one = refl
+
+-- a second step isn't defined: the node has made all its turns
+no_second_turn : turn_of one (play one first_step) (record { node = 0; from = 0; draws = [] }) ≡ None
+unfolding one first_step num after turn_at played digits
+no_second_turn = refl
+
+-- a payload that is no number
+odd : Facts
+odd = record { nodes = 1; kind = Ring; size = 4096; turns = 1000; inputs = record { node = 0; text = codes "aa" } ∷ [] }
+
+bad_payload : report odd first_step (record { node = 0; out = record { number = 1; text = codes "bad" } } ∷ []) [] Settled
+    ≡ ends (codes "turn 1 0 out 1 -") (ends (codes "emit 0 1 bad") (ends (codes "heap 0 0") (ends (codes "end settled 1") [])))
+unfolding odd first_step ends num after turn_at played turn_lines waiting line text heap_lines closing lines_of digits
+bad_payload = refl

@@ -5,7 +5,7 @@ use Rattle.std.proofs.lemmas.Bool.{cases_eq, false≢true, eqb-true}
 use Rattle.ken_model.specs.declared.messages.Message.{Message}
 use Rattle.ken_model.specs.declared.facts.Facts.{Facts}
 use Rattle.ken_model.specs.Network.{Place, Network, Turn, outside, inputs_for, numbered, place_after, start, applied}
-use Rattle.ken_model.specs.History.{place_of, consumed, sent_by, messages, Shows}
+use Rattle.ken_model.specs.History.{place_of, consumed, sent_by, messages, Shows, step_at}
 use Rattle.ken_model.proofs.Turns.{places-push, consumed-append, sent_by-push}
 
 -- before the first turn
@@ -58,7 +58,7 @@ taken_more u true n ts t e = rw (and-true, e) (sym (length-consumed-push u ts t)
 taken_more u false n ts t e = rw and-false e
 
 -- after one more turn of a node
-pub Shows-one_more : (f : Facts) (h : ℕ → List Turn) (w : Network) (v : ℕ) (t : Turn) → (v ≡ outside → ⊥) → Shows f h w → Shows f (one_more h v t) (applied w v t)
+pub Shows-one_more : (f : Facts) (h : ℕ → List Turn) (w : Network) (v : ℕ) (t : Turn) → (v ≡ outside → ⊥) → Shows f h w → Shows f (one_more h v t) (applied w (step_at v t) t)
 unfolding messages
 Shows-one_more f h w v t node shows = record {
   place = λ x. place_more f (x == v) (w.place x) (h x) t (shows.place x);

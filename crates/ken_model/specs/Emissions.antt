@@ -1,4 +1,4 @@
--- Legal emissions: outputs in the order of their numbers, each perhaps again after a restart.
+-- Legal emissions: each output in the order of the numbers, and any that came before perhaps again.
 use Rattle.std.specs.Prelude.{◌≡◌, ℕ, ◌+◌, ◌-◌, ◌<◌, ◌≤◌, max, List, [], ◌∷◌, map, length, ◌==◌, Some, filter, slice_get}
 use Rattle.ken_model.specs.declared.messages.Out.{Out}
 use Rattle.ken_model.specs.declared.reports.Emission.{Emission}
@@ -19,7 +19,7 @@ abbrev pub largest_of : ℕ → List Out → ℕ
 largest_of largest [] = largest
 largest_of largest (o ∷ os) = largest_of (max largest o.number) os
 
--- the emissions stand node by node, from that node on
+-- emissions in the order of a report: they stand node by node, from that node on, and each is of a node of the run
 unfoldable pub AreByNode : ℕ → ℕ → List Emission → Type 0
 AreByNode nodes node [] = Unit {0}
 AreByNode nodes node (e ∷ es) = (node ≤ e.node) × (e.node < nodes) × AreByNode nodes e.node es
@@ -30,6 +30,5 @@ AreAllEmitted f w es = (v : ℕ) → v < f.nodes → largest_of 0 (emitted_by v 
 
 -- legal emissions
 pub record AreLegalEmissions (f : Facts) (w : Network) (es : List Emission) : Type 0 where
-  pub by_node : AreByNode f.nodes 0 es
   pub each : (v : ℕ) → v < f.nodes → AreEmitted (w.place v).outs 0 (emitted_by v es)
   pub all : AreAllEmitted f w es

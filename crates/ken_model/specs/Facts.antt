@@ -5,7 +5,7 @@ use Rattle.ken_model.specs.declared.facts.Facts.{Facts}
 use Rattle.ken_model.specs.declared.facts.Input.{Input}
 use Rattle.ken_model.specs.declared.facts.TheConstants.{MAX_NODES, MAX_TURNS, PAGE, MAX_PAGES, MAX_INPUTS, MAX_TEXT}
 
--- a byte that a script may hold: no control character, and no byte past ASCII
+-- a byte that an input's text may hold: no control character, and no byte past ASCII
 abbrev pub IsPlain : ℕ → Type 0
 IsPlain b = (32 ≤ b) × (b ≤ 126)
 
@@ -22,6 +22,6 @@ pub record IsWithinLimits (f : Facts) : Type 0 where
   pub few_inputs : length f.inputs ≤ MAX_INPUTS
   pub inputs : AllByRecursion (λ (i : Input). (i.node < f.nodes) × (length i.text ≤ MAX_TEXT)) f.inputs
 
--- no input holds a line feed, nor any other byte that a script may not hold
+-- no input holds a line feed, nor another byte that its text may not hold
 abbrev pub IsPlainRun : Facts → Type 0
 IsPlainRun f = AllByRecursion (λ (i : Input). ArePlain i.text) f.inputs

@@ -26,7 +26,7 @@ without_draws (_ ∷ _) e = None
 abbrev pub refused : Value → Effect
 refused value = record { value = value; sends = []; outs = codes "bad" ∷ [] }
 
--- ring counts its turns in the root, and sends what is left of a count on to the next node
+-- ring takes a count: it adds 1 to the root, and sends what is left of the count on to the next node
 abbrev pub ring_counts : ℕ → ℕ → Value → ℕ → Effect
 ring_counts node nodes value n = record {
   value = record value { root = (value.root + 1) % 2 ^ 64 };

@@ -1,6 +1,7 @@
 -- The turns of each node by itself. Nothing here says in which order turns of different nodes were made.
 use Rattle.std.specs.Prelude.{◌≡◌, ℕ, ◌+◌, ◌<◌, List, [], ◌∷◌, ◌++◌, map, length, ◌==◌, if◌then◌else◌, Some, filter}
 use Rattle.ken_model.specs.declared.messages.Message.{Message}
+use Rattle.ken_model.specs.declared.messages.Step.{Step}
 use Rattle.ken_model.specs.declared.facts.Facts.{Facts}
 use Rattle.ken_model.specs.declared.reports.TurnLine.{TurnLine}
 use Rattle.ken_model.specs.Network.{Place, Network, Turn, outside, first_place, inputs_for, numbered, turn_at, place_after}
@@ -42,9 +43,13 @@ pub record InAccord (f : Facts) (h : ℕ → List Turn) : Type 0 where
   pub nobody : h outside ≡ []
   pub order : (u v : ℕ) → IsPrefixOf (consumed u (h v)) (messages f h u v)
 
--- a turn of node v, as a line of the report
+-- a turn of node v, as a step of a schedule
+abbrev pub step_at : ℕ → Turn → Step
+step_at v t = record { node = v; from = t.message.from; draws = t.draws }
+
+-- and as a line of the report
 abbrev pub line_at : ℕ → Turn → TurnLine
-line_at v t = record { stamp = t.stamp; step = record { node = v; from = t.message.from; draws = t.draws }; number = t.message.number }
+line_at v t = record { stamp = t.stamp; step = step_at v t; number = t.message.number }
 
 -- the lines of node v
 abbrev pub lines_at : ℕ → List TurnLine → List TurnLine

@@ -76,21 +76,21 @@ turn_of f w s = if nat_lt (w.place s.node).turns f.turns then option_and_then (t
 abbrev pub place_after : Place → Turn → Place
 place_after p t = record { value = t.effect.value; stamp = t.stamp; turns = p.turns + 1; outs = p.outs ++ t.effect.outs }
 
--- the link (u, v) after a turn of a node: its own sends are at the end of its links, and its message is delivered
-abbrev pub link_after : ℕ → Turn → ℕ → ℕ → Link → Link
-link_after node t u v l = record {
-  sent = if u == node then l.sent ++ numbered u v (length l.sent) t.stamp t.effect.sends else l.sent;
-  taken = if (u == t.message.from) && (v == node) then l.taken + 1 else l.taken;
+-- the link (u, v) after a step and its turn: the node's sends are at the end of its links, and the message is delivered
+abbrev pub link_after : Step → Turn → ℕ → ℕ → Link → Link
+link_after s t u v l = record {
+  sent = if u == s.node then l.sent ++ numbered u v (length l.sent) t.stamp t.effect.sends else l.sent;
+  taken = if (u == s.from) && (v == s.node) then l.taken + 1 else l.taken;
 }
 
--- the network after a turn of a node: nothing else changes
-abbrev pub applied : Network → ℕ → Turn → Network
-applied w node t = record { place = λ v. if v == node then place_after (w.place v) t else w.place v; link = λ u v. link_after node t u v (w.link u v) }
+-- the network after a step and its turn: nothing else changes
+abbrev pub applied : Network → Step → Turn → Network
+applied w s t = record { place = λ v. if v == s.node then place_after (w.place v) t else w.place v; link = λ u v. link_after s t u v (w.link u v) }
 
-abbrev pub applied_or_same : Network → ℕ → Option Turn → Network
-applied_or_same w node None = w
-applied_or_same w node (Some t) = applied w node t
+abbrev pub applied_or_same : Network → Step → Option Turn → Network
+applied_or_same w s None = w
+applied_or_same w s (Some t) = applied w s t
 
 -- the network after a step: as it was where the step isn't defined
 abbrev pub stepped : Facts → Network → Step → Network
-stepped f w s = applied_or_same w s.node (turn_of f w s)
+stepped f w s = applied_or_same w s (turn_of f w s)

@@ -13,7 +13,7 @@ ComesBefore stamp node later_stamp later_node = (stamp < later_stamp) ⊎ ((stam
 -- each step is defined in its place, and the pairs (stamp, node) rise strictly, from one that comes before all
 unfoldable pub IsLegalFrom : Facts → Network → ℕ → ℕ → List Step → Type 0
 IsLegalFrom f w stamp node [] = Unit {0}
-IsLegalFrom f w stamp node (s ∷ ss) = (t : Turn) × (turn_of f w s ≡ Some t) × ComesBefore stamp node t.stamp s.node × IsLegalFrom f (applied w s.node t) t.stamp s.node ss
+IsLegalFrom f w stamp node (s ∷ ss) = (t : Turn) × (turn_of f w s ≡ Some t) × ComesBefore stamp node t.stamp s.node × IsLegalFrom f (applied w s t) t.stamp s.node ss
 
 -- a legal schedule; a turn's stamp is at least 1, so the pair (0, 0) comes before all
 abbrev pub IsLegal : Facts → List Step → Type 0

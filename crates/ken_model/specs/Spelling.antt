@@ -1,5 +1,5 @@
 -- A report's text read back: the schedule, emissions and restarts that its lines name.
-use Rattle.std.specs.Prelude.{ℕ, ◌<◌, ◌^◌, List, [], ◌∷◌, map, length, ◌==◌, if◌then◌else◌, bytes_eq, codes, Option, Some, None, filter_map}
+use Rattle.std.specs.Prelude.{◌&&◌, ℕ, ◌<◌, ◌^◌, List, [], ◌∷◌, map, length, ◌==◌, if◌then◌else◌, bytes_eq, codes, Option, Some, None, filter_map}
 use Rattle.std.specs.List.{join_with_byte, slice_split, AllByRecursion}
 use Rattle.ken_model.specs.declared.values.Value.{Value}
 use Rattle.ken_model.specs.declared.values.Block.{Block}
@@ -39,7 +39,7 @@ emission_in _ = None
 
 -- restart NODE at TURNS
 unfoldable pub restart_in : List (List ℕ) → Option RestartLine
-restart_in (a ∷ b ∷ c ∷ d ∷ []) = if bytes_eq a (codes "restart") then Some (record { node = value_from 0 b; turns = value_from 0 d }) else None
+restart_in (a ∷ b ∷ c ∷ d ∷ []) = if bytes_eq a (codes "restart") && bytes_eq c (codes "at") then Some (record { node = value_from 0 b; turns = value_from 0 d }) else None
 restart_in _ = None
 
 -- what a text spells

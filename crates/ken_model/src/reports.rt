@@ -5,7 +5,7 @@ use crate::{Items, Out, Step, Value};
 pub enum Ending {
     /// Nothing waits, and each output was emitted.
     Settled,
-    /// Each output was emitted, and what waits is for nodes that have made all their turns.
+    /// Each output was emitted, something waits, and all that waits is for nodes that have made all their turns.
     Cut,
 }
 

@@ -87,7 +87,6 @@ module _ (f : Facts) (nodes : List Node) (l : Lines) (limits : IsWithinLimits f)
 
   legal_emissions : AreLegalEmissions f w l.emissions
   legal_emissions = record {
-    by_node = subst (λ es. AreByNode f.nodes 0 es) (sym g.emissions) (AreByNode-from f.nodes 0 nodes (omega (arith, r.width)));
     each = λ v lt. subst (λ os. AreEmitted (w.place v).outs 0 os) (sym (emissions_are v lt)) (AreEmitted-outputs (w.place v).outs);
     all = all_emitted;
   }
@@ -147,6 +146,8 @@ run_of-gathered f (n ∷ ns) l limits r idle g =
       legal = (played f nodes l limits r g n).legal;
       lines = lines_are f nodes l limits r g n waits_are;
       emissions = legal_emissions f nodes l limits r g n;
+      by_node = subst (λ es. AreByNode f.nodes 0 es) (sym g.emissions) (AreByNode-from f.nodes 0 nodes (omega (arith, r.width)));
+      restarts = g.restarts;
       ends = ends f nodes l limits r g n waits_are (settled-running f nodes limits r net shown) (λ some. cut-running f nodes limits r net shown some idle);
       printable = printable f nodes l limits r g n;
     }

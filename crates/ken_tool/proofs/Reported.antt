@@ -5,7 +5,7 @@ use Rattle.ken_io.specs.Transfers.{AppendsFront}
 use Rattle.ken_model.specs.declared.reports.Ending.{Ending}
 use Rattle.ken_model.specs.declared.reports.Lines.{Lines}
 use Rattle.ken_model.specs.Schedule.{IsLegal, play}
-use Rattle.ken_model.specs.Emissions.{AreLegalEmissions}
+use Rattle.ken_model.specs.Emissions.{AreLegalEmissions, AreByNode}
 use Rattle.ken_model.specs.Ending.{Ends}
 use Rattle.ken_model.specs.Report.{text, report}
 use Rattle.ken_model.specs.Spelling.{Spelling, spell}
@@ -29,15 +29,17 @@ record IsReportOf (b : List ℕ) (script : Script) (ending : Ending) (w : List �
   text : w ≡ report script.facts run.schedule run.emissions run.restarts ending
   legal : IsLegal script.facts run.schedule
   emissions : AreLegalEmissions script.facts (play script.facts run.schedule) run.emissions
+  by_node : AreByNode script.facts.nodes 0 run.emissions
+  restarts : run.restarts ≡ []
   ends : Ends script.facts (play script.facts run.schedule) run.emissions ending
 
 pub report_of-run : (b : List ℕ) (script : Script) (l : Lines) → Says b script → IsRunOf script.facts l → IsReport b l.ending (text l)
 report_of-run b script l says run =
     let told : Spelling = record { schedule = steps_of l.turns; emissions = l.emissions; restarts = l.restarts } in
     let spelled : spell (text l) ≡ told = report_spells_its_run l run.printable in
-    let of_told : IsReportOf b script l.ending (text l) told = record { text = ap text run.lines; legal = run.legal; emissions = run.emissions; ends = run.ends } in
+    let of_told : IsReportOf b script l.ending (text l) told = record { text = ap text run.lines; legal = run.legal; emissions = run.emissions; by_node = run.by_node; restarts = run.restarts; ends = run.ends } in
     let of_text : IsReportOf b script l.ending (text l) (spell (text l)) = subst (IsReportOf b script l.ending (text l)) (sym spelled) of_told in
-    record { script = script; says = says; text = of_text.text; legal = of_text.legal; emissions = of_text.emissions; ends = of_text.ends }
+    record { script = script; says = says; text = of_text.text; legal = of_text.legal; emissions = of_text.emissions; by_node = of_text.by_node; restarts = of_text.restarts; ends = of_text.ends }
 
 -- a front of it
 pub front_of-run : (b : List ℕ) (script : Script) (l : Lines) (old new : Option (List ℕ)) (out : AppendsFront old new (text l)) → Says b script → IsRunOf script.facts l → IsFront b out.front

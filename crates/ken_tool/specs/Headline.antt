@@ -4,7 +4,7 @@ use Rattle.std.specs.Io.KnownBytes.{Appends}
 use Rattle.ken_model.specs.declared.reports.Ending.{Ending}
 use Rattle.ken_model.specs.declared.reports.Ending.TheVariants.{Settled, Cut}
 use Rattle.ken_model.specs.Schedule.{IsLegal, play}
-use Rattle.ken_model.specs.Emissions.{AreLegalEmissions}
+use Rattle.ken_model.specs.Emissions.{AreLegalEmissions, AreByNode}
 use Rattle.ken_model.specs.Ending.{Ends}
 use Rattle.ken_model.specs.Report.{report, text}
 use Rattle.ken_model.specs.declared.reports.Lines.{Lines}
@@ -28,13 +28,16 @@ AreTold None b = ⊤
 AreTold (Some xs) b = b ≡ xs
 
 -- w is the report of a failure-free run of what b says. The run is the one that w spells: its schedule is legal, its
--- turns, heaps and ending are those of playing the schedule, and its emissions are legal
+-- turns, heaps and ending are those of playing the schedule, and its emissions are legal and stand node by node. Today
+-- no node restarts
 pub record IsReport (b : List ℕ) (ending : Ending) (w : List ℕ) : Type 0 where
   pub script : Script
   pub says : Says b script
   pub text : w ≡ report script.facts (spell w).schedule (spell w).emissions (spell w).restarts ending
   pub legal : IsLegal script.facts (spell w).schedule
   pub emissions : AreLegalEmissions script.facts (play script.facts (spell w).schedule) (spell w).emissions
+  pub by_node : AreByNode script.facts.nodes 0 (spell w).emissions
+  pub restarts : (spell w).restarts ≡ []
   pub ends : Ends script.facts (play script.facts (spell w).schedule) (spell w).emissions ending
 
 -- w is a front of such a report
@@ -53,7 +56,7 @@ Wrote b w status.Read = w ≡ []
 Wrote b w status.Write = IsFront b w
 Wrote b w status.Memory = (w ≡ []) ⊎ IsFront b w
 
--- the program read b and wrote w
+-- what a run of the program had to read, and what it wrote
 pub record Ran (left took_old took_new : Option (List ℕ)) (status : Status) : Type 0 where
   pub read : List ℕ
   pub written : List ℕ

@@ -4,7 +4,7 @@ use Rattle.ken_io.specs.Causes.{Rose}
 use Rattle.ken_tool.specs.declared.print.ReportFault.{ReportFault}
 use Rattle.ken_tool.specs.declared.print.ReportFault.TheVariants.{Failed, Memory}
 
--- the sink counted a fault just where printing says that it failed
+-- printing says that it failed only where the sink's count rose, and passes no fault over
 pub record HasReportCause (before now : ℕ) (result : Result (Unit {0}) ReportFault) : Type 0 where
   pub later : before ≤ now
   pub failed : IsErrOf result Failed → Rose before now

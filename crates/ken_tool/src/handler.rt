@@ -50,7 +50,7 @@ pub(crate) fn on_message(
     }
 }
 
-/// The ring: a turn counts itself in the root, and sends what is left of the count on to the next node.
+/// The ring: a count adds 1 to the root, and what is left of it goes on to the next node.
 fn ring(
     alloc: Global,
     node: u8,

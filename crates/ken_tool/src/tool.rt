@@ -1,5 +1,5 @@
 // The top call.
-ghost use Rattle.std.specs.Prelude.{◌≡◌, ◌↔◌, ◌+◌, ◌≤◌, false, map, string_bytes, IfOk, IfErr, IsErrOf};
+ghost use Rattle.std.specs.Prelude.{◌≡◌, ◌≢◌, ◌↔◌, ◌+◌, ◌≤◌, false, map, string_bytes, IfOk, IfErr, IsErrOf};
 ghost use Rattle.ken_io.specs.Causes.{Rose};
 ghost use Rattle.ken_io.specs.Transfers.{TakesAtMost};
 ghost use Rattle.ken_tool.specs.Headline.{are_plain, Ran, IsQuiet, IsRunOfSource, IsRefusal, IsOut};
@@ -31,6 +31,8 @@ pub fn ken<R, S: Source, K: Sink, W: World>(
     ensures taken { TakesAtMost (LIMIT + 1) (S.left source.old) (S.left source.new) }
     ensures source_faults { S.faults source.old ≤ S.faults source.new }
     ensures sink_faults { K.faults sink.old ≤ K.faults sink.new }
+    ensures no_failed_read { result ≢ Status.Read → S.faults source.new ≡ S.faults source.old }
+    ensures no_failed_write { result ≢ Status.Write → K.faults sink.new ≡ K.faults sink.old }
     ensures unread { result ≡ Status.Usage → source.new ≡ source.old }
     ensures unwritten { IsQuiet result → sink.new ≡ sink.old }
 {
@@ -58,6 +60,7 @@ fn run<S: Source>(alloc: Global, source: &mut S) -> Result<Lines, Status>
     ensures ran { IfOk result (IsRunOfSource (S.left source.old)) }
     ensures refused { IfErr result (IsRefusal (S.left source.old)) }
     ensures read { IsErrOf result Status.Read → Rose (S.faults source.old) (S.faults source.new) }
+    ensures no_failed_read { (IsErrOf result Status.Read → ⊥) → S.faults source.new ≡ S.faults source.old }
     ensures taken { TakesAtMost (LIMIT + 1) (S.left source.old) (S.left source.new) }
     ensures faults { S.faults source.old ≤ S.faults source.new }
 {
@@ -71,6 +74,7 @@ fn run<S: Source>(alloc: Global, source: &mut S) -> Result<Lines, Status>
 fn written<K: Sink>(alloc: Global, sink: &mut K, lines: &Lines) -> Status
     ensures out { IsOut (K.took sink.old) (K.took sink.new) lines.now result }
     ensures write { result ≡ Status.Write → Rose (K.faults sink.old) (K.faults sink.new) }
+    ensures no_failed_write { result ≢ Status.Write → K.faults sink.new ≡ K.faults sink.old }
     ensures faults { K.faults sink.old ≤ K.faults sink.new }
 {
     match print::print(alloc, sink, lines) {
