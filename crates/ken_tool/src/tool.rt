@@ -4,6 +4,9 @@ ghost use Rattle.ken_io.specs.Causes.{Rose};
 ghost use Rattle.ken_io.specs.Transfers.{TakesAtMost};
 ghost use Rattle.ken_tool.specs.Headline.{are_plain, Ran, IsQuiet, IsRunOfSource, IsRefusal, IsOut};
 
+#[cfg(test)]
+mod tests;
+
 use crate::status::Status;
 use crate::world::World;
 use crate::{drive, print};

@@ -1,0 +1,226 @@
+ghost use Rattle.std.specs.Prelude.{◌≤◌};
+
+use super::*;
+use crate::world::MemWorld;
+use ken_io::{MemSink, MemSource};
+use ken_model::{Items, Octets};
+use std::alloc::AllocError;
+use std::str::from_utf8;
+use std::test::Fail;
+
+// Three nodes pass a count of 2 on, from node 0.
+const R1: &str = "{\"nodes\":3,\"kind\":\"ring\",\"inputs\":[[0,\"2\"]]}";
+
+const R1_REPORT: &str = "\
+turn 1 0 out 1 -
+turn 2 1 0 1 -
+turn 3 2 1 1 -
+emit 0 1 2
+emit 1 1 1
+emit 2 1 0
+heap 0 1
+heap 1 1
+heap 2 1
+end settled 3
+";
+
+const RUN: &str = "ken run";
+
+// The room of a source or a sink, and the most that one gives or takes in a call.
+const WHOLE: usize = 1 << 16;
+
+// A ring of that many nodes with those items of `inputs`.
+fn ring(alloc: Global, nodes: u64, items: &str) -> Result<String, AllocError> {
+    format!(in alloc; "{{\"nodes\":{nodes},\"kind\":\"ring\",\"inputs\":[{items}]}}")
+}
+
+// An input for node 0 of so many letters.
+fn letters(alloc: Global, count: usize) -> Result<String, AllocError> {
+    let text = "a".repeat(alloc, count)?;
+    format!(in alloc; "[0,\"{text}\"]")
+}
+
+// A source of which one call fails, or none where `failing` is 0.
+fn source(alloc: Global, script: &str, failing: u64) -> Result<MemSource, AllocError> {
+    let bytes = script.as_bytes().to_vec(alloc)?;
+    let fails = vec![in alloc; failing]?;
+    Ok(MemSource::new(Octets::new(bytes), Items::new(fails), WHOLE))
+}
+
+// An empty sink of which one call fails, or none where `failing` is 0.
+fn sink(alloc: Global, failing: u64, piece: usize) -> Result<MemSink, AllocError>
+    requires { 1 ≤ piece }
+{
+    let fails = vec![in alloc; failing]?;
+    MemSink::new(alloc, WHOLE, Items::new(fails), piece)
+}
+
+// The status of a call with these words.
+fn call(
+    rt: &HostRuntime,
+    words: &str,
+    source: &mut MemSource,
+    sink: &mut MemSink,
+) -> Result<Status, AllocError> {
+    let mut texts = Vec::new(rt.alloc());
+    for word in words.split_whitespace() {
+        texts.push(String::from_str(rt.alloc(), word)?)?;
+    }
+    Ok(ken(rt, rt.alloc(), &texts, source, sink, &mut MemWorld))
+}
+
+// How the run of a script ends, and the sink with what is out.
+fn run_of(rt: &HostRuntime, script: &str) -> Result<(Status, MemSink), AllocError> {
+    let mut source = source(rt.alloc(), script, 0)?;
+    let mut sink = sink(rt.alloc(), 0, WHOLE)?;
+    let status = call(rt, RUN, &mut source, &mut sink)?;
+    Ok((status, sink))
+}
+
+// One run by itself, so that each of its allocations can be made to fail: then `Memory` comes with a front of the report.
+#[test]
+fn a_count_is_passed_on_along_the_ring(rt: HostRuntime) -> Result<(), Fail> {
+    let (status, sink) = run_of(&rt, R1)?;
+    assert_eq!(rt;
+        (status, from_utf8(sink.bytes())?),
+        (Status::Settled, R1_REPORT)
+    );
+    Ok(())
+}
+
+#[test]
+fn a_settled_run_is_reported(rt: HostRuntime) -> Result<(), Fail> {
+    let long = letters(rt.alloc(), 512)?;
+    let cases = [
+        (1, "", "heap 0 0\nend settled 0\n"),
+        (
+            1,
+            "[0,\"1\"]",
+            "turn 1 0 out 1 -\n\
+             turn 2 0 0 1 -\n\
+             emit 0 1 1\n\
+             emit 0 2 0\n\
+             heap 0 2\n\
+             end settled 2\n",
+        ),
+        (
+            1,
+            long.as_str(),
+            "turn 1 0 out 1 -\n\
+             emit 0 1 bad\n\
+             heap 0 0\n\
+             end settled 1\n",
+        ),
+        // Node 0 takes its two inputs at stamps 1 and 2, and only then its send of stamp 1 is there. Node 1 takes that
+        // one before its input, at stamp 2, one more than the send's, and the input at stamp 3. Where stamps are equal
+        // the node of the lower number goes first.
+        (
+            2,
+            "[0,\"1\"],[1,\"0\"],[0,\"x\"]",
+            "turn 1 0 out 1 -\n\
+             turn 2 0 out 2 -\n\
+             turn 2 1 0 1 -\n\
+             turn 3 1 out 1 -\n\
+             emit 0 1 1\n\
+             emit 0 2 bad\n\
+             emit 1 1 0\n\
+             emit 1 2 0\n\
+             heap 0 1\n\
+             heap 1 2\n\
+             end settled 4\n",
+        ),
+    ];
+    for (nodes, items, report) in cases {
+        let (status, sink) = run_of(&rt, &ring(rt.alloc(), nodes, items)?)?;
+        assert_eq!(rt; status, Status::Settled, "{items}");
+        assert_eq!(rt; from_utf8(sink.bytes())?, report, "{items}");
+    }
+    Ok(())
+}
+
+#[test]
+fn a_run_that_is_cut_is_reported(rt: HostRuntime) -> Result<(), Fail> {
+    let (status, sink) = run_of(&rt, &ring(rt.alloc(), 1, "[0,\"1000\"]")?)?;
+    assert_eq!(rt; status, Status::Cut);
+    assert!(rt; sink.bytes().ends_with(b"\nend cut 1000 1\n"));
+    Ok(())
+}
+
+#[test]
+fn nothing_is_written_for_a_script_that_breaks_a_rule(rt: HostRuntime) -> Result<(), Fail> {
+    let nine = ring(rt.alloc(), 9, "[0,\"2\"]")?;
+    let long = ring(rt.alloc(), 1, &letters(rt.alloc(), 513)?)?;
+    let cases = [
+        ("", 1),
+        ("{\"nodes\":3", 1),
+        (nine.as_str(), 3),
+        (long.as_str(), 9),
+    ];
+    for (script, rule) in cases {
+        let (status, sink) = run_of(&rt, script)?;
+        assert_eq!(rt; status, Status::Script { rule, index: 0 }, "{script}");
+        assert!(rt; sink.bytes().is_empty(), "{script}");
+    }
+    Ok(())
+}
+
+#[test]
+fn nothing_is_read_for_words_that_are_not_plain(rt: HostRuntime) -> Result<(), Fail> {
+    let cases = ["", "ken", "ken walk", "ken Run", "ken run run"];
+    for words in cases {
+        let mut source = source(rt.alloc(), R1, 0)?;
+        let mut sink = sink(rt.alloc(), 0, WHOLE)?;
+        let status = call(&rt, words, &mut source, &mut sink)?;
+        assert_eq!(rt; status, Status::Usage, "{words}");
+        assert!(rt; sink.bytes().is_empty(), "{words}");
+        let status = call(&rt, RUN, &mut source, &mut sink)?;
+        assert_eq!(rt; status, Status::Settled, "after {words}");
+        assert_eq!(rt; from_utf8(sink.bytes())?, R1_REPORT, "after {words}");
+    }
+    Ok(())
+}
+
+#[test]
+fn a_call_of_the_source_or_the_sink_fails(rt: HostRuntime) -> Result<(), Fail> {
+    let cases = [
+        ((0, 0), 1, Status::Settled, R1_REPORT),
+        ((1, 0), WHOLE, Status::Read, ""),
+        ((2, 0), WHOLE, Status::Read, ""),
+        ((0, 1), WHOLE, Status::Write, ""),
+        ((0, 2), WHOLE, Status::Write, "turn 1 0 out 1 -\n"),
+    ];
+    for ((read, write), piece, want, out) in cases {
+        let mut source = source(rt.alloc(), R1, read)?;
+        let mut sink = sink(rt.alloc(), write, piece)?;
+        let status = call(&rt, RUN, &mut source, &mut sink)?;
+        assert_eq!(rt; status, want, "read {read}, write {write}");
+        assert_eq!(rt; from_utf8(sink.bytes())?, out, "read {read}, write {write}");
+    }
+    Ok(())
+}
+
+#[test]
+fn a_status_has_a_text_and_an_exit_code(rt: HostRuntime) -> Result<(), Fail> {
+    let cases = [
+        (Status::Settled, 0, ""),
+        (Status::Usage, 1, "ken: usage"),
+        (
+            Status::Script { rule: 9, index: 1 },
+            2,
+            "ken: script: rule S9 at 1",
+        ),
+        (Status::Cut, 3, "ken: cut"),
+        (Status::Read, 6, "ken: read failed"),
+        (Status::Write, 7, "ken: write failed"),
+        (Status::Memory, 8, "ken: out of memory"),
+    ];
+    for (status, code, text) in cases {
+        assert_eq!(rt; status.exit_code(), code, "{status:?}");
+        assert_eq!(rt;
+            format!(in rt.alloc(); "{status}")?.as_str(),
+            text,
+            "{status:?}"
+        );
+    }
+    Ok(())
+}
