@@ -1,11 +1,11 @@
 -- The turns of nodes that run agree with each other, and the gathered lines are their history.
-use Rattle.std.proofs.Common.{◌≡◌, ℕ, ◌<◌, List, [], ◌++◌, map, slice_index_or, true, false, ◌==◌, sym, ap, subst, ◌∙◌, ⊎_elim, arith, append-nil, eq-eqb, ne_eqb}
-use Rattle.std.proofs.lemmas.Bool.{cases_eq, cases_lt}
+use Rattle.std.proofs.Common.{◌≡◌, ℕ, List, [], ◌++◌, map, slice_index_or, sym, ap, subst, ◌∙◌, ⊎_elim, arith}
+use Rattle.std.proofs.lemmas.Bool.{cases_lt}
 use Rattle.ken_model.specs.declared.facts.Facts.{Facts}
 use Rattle.ken_model.specs.declared.reports.Lines.{Lines}
 use Rattle.ken_model.specs.Facts.{IsWithinLimits}
-use Rattle.ken_model.specs.Network.{Turn, outside, inputs_for, first_place}
-use Rattle.ken_model.specs.History.{AreTurns, InAccord, IsHistory, IsPrefixOf, consumed, messages, sent_by, line_at}
+use Rattle.ken_model.specs.Network.{Turn, outside, first_place}
+use Rattle.ken_model.specs.History.{AreTurns, InAccord, IsHistory, IsPrefixOf, consumed, messages, line_at}
 use Rattle.ken_tool.specs.declared.node.Node.{Node}
 use Rattle.ken_tool.specs.Running.{IsRunning, from}
 use Rattle.ken_tool.specs.Ended.{IsGathered}
