@@ -9,9 +9,9 @@ use std::str::from_utf8;
 use std::test::Fail;
 
 // Three nodes pass a count of 2 on, from node 0.
-const R1: &str = "{\"nodes\":3,\"kind\":\"ring\",\"inputs\":[[0,\"2\"]]}";
+const THREE_NODES: &str = "{\"nodes\":3,\"kind\":\"ring\",\"inputs\":[[0,\"2\"]]}";
 
-const R1_REPORT: &str = "\
+const THREE_NODES_REPORT: &str = "\
 turn 1 0 out 1 -
 turn 2 1 0 1 -
 turn 3 2 1 1 -
@@ -80,10 +80,10 @@ fn run_of(rt: &HostRuntime, script: &str) -> Result<(Status, MemSink), AllocErro
 // One run by itself, so that each of its allocations can be made to fail: then `Memory` comes with a front of the report.
 #[test]
 fn a_count_is_passed_on_along_the_ring(rt: HostRuntime) -> Result<(), Fail> {
-    let (status, sink) = run_of(&rt, R1)?;
+    let (status, sink) = run_of(&rt, THREE_NODES)?;
     assert_eq!(rt;
         (status, from_utf8(sink.bytes())?),
-        (Status::Settled, R1_REPORT)
+        (Status::Settled, THREE_NODES_REPORT)
     );
     Ok(())
 }
@@ -168,14 +168,18 @@ fn nothing_is_written_for_a_script_that_breaks_a_rule(rt: HostRuntime) -> Result
 fn nothing_is_read_for_words_that_are_not_plain(rt: HostRuntime) -> Result<(), Fail> {
     let cases = ["", "ken", "ken walk", "ken Run", "ken run run"];
     for words in cases {
-        let mut source = source(rt.alloc(), R1, 0)?;
+        let mut source = source(rt.alloc(), THREE_NODES, 0)?;
         let mut sink = sink(rt.alloc(), 0, WHOLE)?;
         let status = call(&rt, words, &mut source, &mut sink)?;
         assert_eq!(rt; status, Status::Usage, "{words}");
         assert!(rt; sink.bytes().is_empty(), "{words}");
         let status = call(&rt, RUN, &mut source, &mut sink)?;
         assert_eq!(rt; status, Status::Settled, "after {words}");
-        assert_eq!(rt; from_utf8(sink.bytes())?, R1_REPORT, "after {words}");
+        assert_eq!(rt;
+            from_utf8(sink.bytes())?,
+            THREE_NODES_REPORT,
+            "after {words}"
+        );
     }
     Ok(())
 }
@@ -183,14 +187,14 @@ fn nothing_is_read_for_words_that_are_not_plain(rt: HostRuntime) -> Result<(), F
 #[test]
 fn a_call_of_the_source_or_the_sink_fails(rt: HostRuntime) -> Result<(), Fail> {
     let cases = [
-        ((0, 0), 1, Status::Settled, R1_REPORT),
+        ((0, 0), 1, Status::Settled, THREE_NODES_REPORT),
         ((1, 0), WHOLE, Status::Read, ""),
         ((2, 0), WHOLE, Status::Read, ""),
         ((0, 1), WHOLE, Status::Write, ""),
         ((0, 2), WHOLE, Status::Write, "turn 1 0 out 1 -\n"),
     ];
     for ((read, write), piece, want, out) in cases {
-        let mut source = source(rt.alloc(), R1, read)?;
+        let mut source = source(rt.alloc(), THREE_NODES, read)?;
         let mut sink = sink(rt.alloc(), write, piece)?;
         let status = call(&rt, RUN, &mut source, &mut sink)?;
         assert_eq!(rt; status, want, "read {read}, write {write}");
