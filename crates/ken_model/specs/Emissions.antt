@@ -28,6 +28,10 @@ AreByNode nodes node (e ∷ es) = (node ≤ e.node) × (e.node < nodes) × AreBy
 abbrev pub AreAllEmitted : Facts → Network → List Emission → Type 0
 AreAllEmitted f w es = (v : ℕ) → v < f.nodes → largest_of 0 (emitted_by v es) ≡ length (w.place v).outs
 
+-- no node emitted an output again: it emitted as many as it has
+abbrev pub AreOnce : Facts → Network → List Emission → Type 0
+AreOnce f w es = (v : ℕ) → v < f.nodes → length (emitted_by v es) ≡ length (w.place v).outs
+
 -- legal emissions
 pub record AreLegalEmissions (f : Facts) (w : Network) (es : List Emission) : Type 0 where
   pub each : (v : ℕ) → v < f.nodes → AreEmitted (w.place v).outs 0 (emitted_by v es)

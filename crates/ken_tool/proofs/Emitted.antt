@@ -87,6 +87,11 @@ unfolding outputs_from
 largest_of-outputs n [] = omega arith
 largest_of-outputs n (x ∷ xs) = let next : max n (n + 1) ≡ n + 1 = omega arith in ap (λ k. largest_of k (outputs_from (n + 1) xs)) next ∙ largest_of-outputs (n + 1) xs ∙ omega arith
 
+pub length-outputs : (n : ℕ) (xs : List (List ℕ)) → length (outputs_from n xs) ≡ length xs
+unfolding outputs_from
+length-outputs n [] = refl
+length-outputs n (x ∷ xs) = ap suc (length-outputs (n + 1) xs)
+
 -- outputs without line feeds can be printed
 printable_outputs : (v n : ℕ) (xs : List (List ℕ)) → IsWord v → n + length xs < 2 ^ 64 → AllByRecursion IsOneLine xs → AllByRecursion IsPrintableEmission (emissions_at v (outputs_from n xs))
 unfolding outputs_from

@@ -14,7 +14,7 @@ use Rattle.ken_model.specs.Facts.{IsWithinLimits}
 use Rattle.ken_model.specs.Network.{Network, Place, first_place, start}
 use Rattle.ken_model.specs.Schedule.{play, turn_lines}
 use Rattle.ken_model.specs.History.{place_of, Shows}
-use Rattle.ken_model.specs.Emissions.{AreLegalEmissions, AreAllEmitted, emitted_by, AreEmitted, AreByNode, largest_of}
+use Rattle.ken_model.specs.Emissions.{AreLegalEmissions, AreAllEmitted, emitted_by, AreEmitted, AreByNode, AreOnce, largest_of}
 use Rattle.ken_model.specs.Ending.{Ends, IsSettled, IsCut, nodes_of, waiting}
 use Rattle.ken_model.specs.Report.{lines_of}
 use Rattle.ken_model.specs.Spelling.{IsWord, IsPrintable, IsPrintableTurn, IsPrintableEmission, IsPrintableHeap}
@@ -27,7 +27,7 @@ use Rattle.ken_tool.specs.Drive.{is_ready}
 use Rattle.ken_tool.specs.Ended.{IsGathered, IsRunOf, emissions_from, waits}
 use Rattle.ken_tool.proofs.Visited.{AreTurns-few, few_turns_made}
 use Rattle.ken_tool.proofs.Accord.{accord-running, history-gathered}
-use Rattle.ken_tool.proofs.Emitted.{emitted_by-from, AreByNode-from, AreEmitted-outputs, largest_of-outputs, EmitsAll, printable_emissions}
+use Rattle.ken_tool.proofs.Emitted.{emitted_by-from, AreByNode-from, AreEmitted-outputs, largest_of-outputs, length-outputs, EmitsAll, printable_emissions}
 use Rattle.ken_tool.proofs.Printable.{all_lines, printable_places}
 use Rattle.ken_tool.proofs.Waiting.{waiting-running, settled-running, cut-running}
 use Rattle.std.proofs.Math.Nat.{mul-le-mul}
@@ -84,6 +84,9 @@ module _ (f : Facts) (nodes : List Node) (l : Lines) (limits : IsWithinLimits f)
 
   all_emitted : AreAllEmitted f w l.emissions
   all_emitted v lt = ap (largest_of 0) (emissions_are v lt) ∙ largest_of-outputs 0 (w.place v).outs ∙ omega arith
+
+  once : AreOnce f w l.emissions
+  once v lt = ap length (emissions_are v lt) ∙ length-outputs 0 (w.place v).outs
 
   legal_emissions : AreLegalEmissions f w l.emissions
   legal_emissions = record {
@@ -148,6 +151,7 @@ run_of-gathered f (n ∷ ns) l limits r idle g =
       emissions = legal_emissions f nodes l limits r g n;
       by_node = subst (λ es. AreByNode f.nodes 0 es) (sym g.emissions) (AreByNode-from f.nodes 0 nodes (omega (arith, r.width)));
       restarts = g.restarts;
+      once = once f nodes l limits r g n;
       ends = ends f nodes l limits r g n waits_are (settled-running f nodes limits r net shown) (λ some. cut-running f nodes limits r net shown some idle);
       printable = printable f nodes l limits r g n;
     }

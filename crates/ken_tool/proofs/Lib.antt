@@ -17,3 +17,4 @@ mod Senders
 mod Waiting
 mod InTurn
 mod Reported
+mod Complete

@@ -5,7 +5,7 @@ use Rattle.ken_io.specs.Transfers.{AppendsFront}
 use Rattle.ken_model.specs.declared.reports.Ending.{Ending}
 use Rattle.ken_model.specs.declared.reports.Lines.{Lines}
 use Rattle.ken_model.specs.Schedule.{IsLegal, play}
-use Rattle.ken_model.specs.Emissions.{AreLegalEmissions, AreByNode}
+use Rattle.ken_model.specs.Emissions.{AreLegalEmissions, AreByNode, AreOnce}
 use Rattle.ken_model.specs.Ending.{Ends}
 use Rattle.ken_model.specs.Report.{text, report}
 use Rattle.ken_model.specs.Spelling.{Spelling, spell}
@@ -22,7 +22,7 @@ use Rattle.ken_tool.specs.Ended.{IsRunOf}
 use Rattle.ken_tool.specs.declared.status.Status.{Status}
 use Rattle.ken_tool.specs.declared.status.Status.TheVariants as status
 use Rattle.ken_tool.specs.Statuses.{of_script}
-use Rattle.ken_tool.specs.Headline.{AreTold, IsReport, IsFront, IsRunOfSource, IsRefusal, IsOut, Wrote, Ran}
+use Rattle.ken_tool.specs.Headline.{AreTold, IsReport, IsFront, IsQuiet, IsRunOfSource, IsRefusal, IsOut, Wrote, Ran}
 
 -- what a text spells, by the run that it spells
 record IsReportOf (b : List ℕ) (script : Script) (ending : Ending) (w : List ℕ) (run : Spelling) : Type 0 where
@@ -31,15 +31,16 @@ record IsReportOf (b : List ℕ) (script : Script) (ending : Ending) (w : List �
   emissions : AreLegalEmissions script.facts (play script.facts run.schedule) run.emissions
   by_node : AreByNode script.facts.nodes 0 run.emissions
   restarts : run.restarts ≡ []
+  once : AreOnce script.facts (play script.facts run.schedule) run.emissions
   ends : Ends script.facts (play script.facts run.schedule) run.emissions ending
 
 pub report_of-run : (b : List ℕ) (script : Script) (l : Lines) → Says b script → IsRunOf script.facts l → IsReport b l.ending (text l)
 report_of-run b script l says run =
     let told : Spelling = record { schedule = steps_of l.turns; emissions = l.emissions; restarts = l.restarts } in
     let spelled : spell (text l) ≡ told = report_spells_its_run l run.printable in
-    let of_told : IsReportOf b script l.ending (text l) told = record { text = ap text run.lines; legal = run.legal; emissions = run.emissions; by_node = run.by_node; restarts = run.restarts; ends = run.ends } in
+    let of_told : IsReportOf b script l.ending (text l) told = record { text = ap text run.lines; legal = run.legal; emissions = run.emissions; by_node = run.by_node; restarts = run.restarts; once = run.once; ends = run.ends } in
     let of_text : IsReportOf b script l.ending (text l) (spell (text l)) = subst (IsReportOf b script l.ending (text l)) (sym spelled) of_told in
-    record { script = script; says = says; text = of_text.text; legal = of_text.legal; emissions = of_text.emissions; by_node = of_text.by_node; restarts = of_text.restarts; ends = of_text.ends }
+    record { script = script; says = says; text = of_text.text; legal = of_text.legal; emissions = of_text.emissions; by_node = of_text.by_node; restarts = of_text.restarts; once = of_text.once; ends = of_text.ends }
 
 -- a front of it
 pub front_of-run : (b : List ℕ) (script : Script) (l : Lines) (old new : Option (List ℕ)) (out : AppendsFront old new (text l)) → Says b script → IsRunOf script.facts l → IsFront b out.front
@@ -91,6 +92,16 @@ ran_written left old new l status.Memory run out = record { read = run.read; wri
 ran_written left old new l status.Usage run out = absurd out
 ran_written left old new l status.Read run out = absurd out
 ran_written left old new l (status.Script rule index) run out = absurd out
+
+-- a status with which nothing is written tells of no report
+pub out_is_told : (old new : Option (List ℕ)) (l : Lines) (s : Status) → IsOut old new l s → IsQuiet s → ⊥
+out_is_told old new l status.Settled out quiet = quiet
+out_is_told old new l status.Cut out quiet = quiet
+out_is_told old new l status.Write out quiet = quiet
+out_is_told old new l status.Memory out quiet = quiet
+out_is_told old new l status.Usage out quiet = out
+out_is_told old new l status.Read out quiet = out
+out_is_told old new l (status.Script rule index) out quiet = out
 
 -- a refused script, as a refusal of what the source gives
 pub refusal_by : (left : Option (List ℕ)) (read : List ℕ) (fault : ScriptFault) → IsTold left read → IsFaultOf read fault → IsRefusal left (of_script fault)

@@ -9,7 +9,7 @@ use Rattle.ken_model.specs.declared.reports.Ending.TheVariants.{Settled, Cut}
 use Rattle.ken_model.specs.declared.reports.Lines.{Lines}
 use Rattle.ken_model.specs.Schedule.{IsLegal, play}
 use Rattle.ken_model.specs.History.{lines_at, Rises}
-use Rattle.ken_model.specs.Emissions.{AreLegalEmissions, AreByNode}
+use Rattle.ken_model.specs.Emissions.{AreLegalEmissions, AreByNode, AreOnce}
 use Rattle.ken_model.specs.Ending.{Ends}
 use Rattle.ken_model.specs.Report.{lines_of}
 use Rattle.ken_model.specs.Spelling.{IsWord, IsPrintable}
@@ -55,6 +55,7 @@ pub record IsRunOf (f : Facts) (l : Lines) : Type 0 where
   pub lines : l ≡ lines_of f (steps_of l.turns) l.emissions l.restarts l.ending
   pub emissions : AreLegalEmissions f (play f (steps_of l.turns)) l.emissions
   pub by_node : AreByNode f.nodes 0 l.emissions
+  pub once : AreOnce f (play f (steps_of l.turns)) l.emissions
   pub restarts : l.restarts ≡ []
   pub ends : Ends f (play f (steps_of l.turns)) l.emissions l.ending
   pub printable : IsPrintable l

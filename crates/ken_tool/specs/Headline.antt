@@ -4,7 +4,7 @@ use Rattle.std.specs.Io.KnownBytes.{Appends}
 use Rattle.ken_model.specs.declared.reports.Ending.{Ending}
 use Rattle.ken_model.specs.declared.reports.Ending.TheVariants.{Settled, Cut}
 use Rattle.ken_model.specs.Schedule.{IsLegal, play}
-use Rattle.ken_model.specs.Emissions.{AreLegalEmissions, AreByNode}
+use Rattle.ken_model.specs.Emissions.{AreLegalEmissions, AreByNode, AreOnce}
 use Rattle.ken_model.specs.Ending.{Ends}
 use Rattle.ken_model.specs.Report.{report, text}
 use Rattle.ken_model.specs.declared.reports.Lines.{Lines}
@@ -29,7 +29,7 @@ AreTold (Some xs) b = b ≡ xs
 
 -- w is the report of a failure-free run of what b says. The run is the one that w spells: its schedule is legal, its
 -- turns, heaps and ending are those of playing the schedule, and its emissions are legal and stand node by node. Today
--- no node restarts
+-- no node restarts, so each output is emitted once
 pub record IsReport (b : List ℕ) (ending : Ending) (w : List ℕ) : Type 0 where
   pub script : Script
   pub says : Says b script
@@ -38,6 +38,7 @@ pub record IsReport (b : List ℕ) (ending : Ending) (w : List ℕ) : Type 0 whe
   pub emissions : AreLegalEmissions script.facts (play script.facts (spell w).schedule) (spell w).emissions
   pub by_node : AreByNode script.facts.nodes 0 (spell w).emissions
   pub restarts : (spell w).restarts ≡ []
+  pub once : AreOnce script.facts (play script.facts (spell w).schedule) (spell w).emissions
   pub ends : Ends script.facts (play script.facts (spell w).schedule) (spell w).emissions ending
 
 -- w is a front of such a report
@@ -70,6 +71,18 @@ IsQuiet status.Usage = ⊤
 IsQuiet (status.Script rule index) = ⊤
 IsQuiet status.Read = ⊤
 IsQuiet _ = ⊥
+
+-- a status with which a run has ended, or memory was short
+abbrev pub IsEnd : Status → Type 0
+IsEnd status.Settled = ⊤
+IsEnd status.Cut = ⊤
+IsEnd status.Memory = ⊤
+IsEnd _ = ⊥
+
+-- if a source tells a script, its run ends, or memory is short
+abbrev pub IsComplete : Option (List ℕ) → Status → Type 0
+IsComplete None s = ⊤
+IsComplete (Some b) s = (script : Script) → Says b script → IsEnd s
 
 -- the lines of the run that the bytes of a source say
 pub record IsRunOfSource (left : Option (List ℕ)) (l : Lines) : Type 0 where

@@ -1,5 +1,5 @@
--- The statuses of faults, and the exit codes of statuses.
-use Rattle.std.specs.Prelude.{ℕ}
+-- The statuses of faults, and the exit codes and texts of statuses.
+use Rattle.std.specs.Prelude.{ℕ, List, [], ◌++◌, codes, decimal}
 use Rattle.ken_io.specs.declared.faults.ReadFault.{ReadFault}
 use Rattle.ken_io.specs.declared.faults.ReadFault.TheVariants as reading
 use Rattle.ken_model.specs.declared.reports.Ending.{Ending}
@@ -19,6 +19,16 @@ exit_code_of Cut = 3
 exit_code_of Read = 6
 exit_code_of Write = 7
 exit_code_of Memory = 8
+
+-- what is said on standard error
+abbrev pub text_of : Status → List ℕ
+text_of Settled = []
+text_of Usage = codes "ken: usage"
+text_of (Script rule index) = codes "ken: script: rule S" ++ decimal rule ++ codes " at " ++ decimal index
+text_of Cut = codes "ken: cut"
+text_of Read = codes "ken: read failed"
+text_of Write = codes "ken: write failed"
+text_of Memory = codes "ken: out of memory"
 
 abbrev pub of_reading : ReadFault → Status
 of_reading reading.Failed = Read

@@ -46,6 +46,11 @@ impl Status {
 }
 
 impl fmt::Display for Status {
+    ghost use Rattle.std.specs.Prelude.{Some};
+    ghost use Rattle.ken_tool.specs.Statuses.{text_of};
+
+    ghost output = { λ status. Some (text_of status) };
+
     fn fmt<W: fmt::Write>(&self, f: &mut fmt::Formatter<W>) -> fmt::Result {
         match self {
             Status::Settled => Ok(()),

@@ -1,8 +1,8 @@
 // The top call.
-ghost use Rattle.std.specs.Prelude.{◌≡◌, ◌≢◌, ◌↔◌, ◌+◌, ◌≤◌, false, map, string_bytes, IfOk, IfErr, IsErrOf};
+ghost use Rattle.std.specs.Prelude.{◌≡◌, ◌≢◌, ◌↔◌, ◌+◌, ◌≤◌, true, false, map, string_bytes, IfOk, IfErr, IsErrOf};
 ghost use Rattle.ken_io.specs.Causes.{Rose};
 ghost use Rattle.ken_io.specs.Transfers.{TakesAtMost};
-ghost use Rattle.ken_tool.specs.Headline.{are_plain, Ran, IsQuiet, IsRunOfSource, IsRefusal, IsOut};
+ghost use Rattle.ken_tool.specs.Headline.{are_plain, Ran, IsQuiet, IsComplete, IsRunOfSource, IsRefusal, IsOut};
 
 #[cfg(test)]
 mod tests;
@@ -29,6 +29,10 @@ pub fn ken<R, S: Source, K: Sink, W: World>(
 ) -> Status
     ensures usage { (result ≡ Status.Usage) ↔ (are_plain (map string_bytes words.now) ≡ false) }
     ensures runs { Ran (S.left source.old) (K.took sink.old) (K.took sink.new) result }
+    ensures complete { are_plain (map string_bytes words.now) ≡ true
+        → (Rose (S.faults source.old) (S.faults source.new) → ⊥)
+        → (Rose (K.faults sink.old) (K.faults sink.new) → ⊥)
+        → IsComplete (S.left source.old) result }
     ensures read { result ≡ Status.Read → Rose (S.faults source.old) (S.faults source.new) }
     ensures write { result ≡ Status.Write → Rose (K.faults sink.old) (K.faults sink.new) }
     ensures taken { TakesAtMost (LIMIT + 1) (S.left source.old) (S.left source.new) }
