@@ -6,7 +6,7 @@ use Rattle.serde_json.specs.Data.{Data}
 use Rattle.ken_script.specs.declared.scripts.TheConstants.{LIMIT}
 use Rattle.ken_script.specs.declared.scripts.Script.{Script}
 use Rattle.ken_model.specs.declared.facts.Facts.{Facts}
-use Rattle.ken_script.specs.Keys.{nodes_of, kind_in}
+use Rattle.ken_script.specs.Keys.{nodes_of, kind_in, seed_of, turns_of}
 use Rattle.ken_script.specs.Faults.{Breaks, no_object, in_object, inputs_in, fault_in}
 use Rattle.ken_script.specs.Says.{States, Says}
 use Rattle.ken_script.specs.Laws.{BreaksByItsFront, SaysByItsFront, SaysOrBreaks, BreaksOnce, SaysOnce}
@@ -56,10 +56,14 @@ same_value o x y one other = let some : Some x ≡ Some y = sym one ∙ other in
 same_facts : (f g : Facts) → f.nodes ≡ g.nodes → f.kind ≡ g.kind → f.size ≡ g.size → f.turns ≡ g.turns → f.inputs ≡ g.inputs → f ≡ g
 same_facts f g nodes kind size turns inputs = grind arith
 
+same_script : (s s' : Script) → s.facts ≡ s'.facts → s.seed ≡ s'.seed → s ≡ s'
+same_script s s' facts seed = grind arith
+
 states_once : (d : Data) (s s' : Script) → States d s → States d s' → s ≡ s'
 states_once d s s' a b =
-    let facts : s.facts ≡ s'.facts = same_facts s.facts s'.facts (same_value (nodes_of d) _ _ a.nodes b.nodes) (same_value (kind_in d) _ _ a.kind b.kind) (a.size ∙ sym b.size) (a.turns ∙ sym b.turns) (same_value (inputs_in d) _ _ a.inputs b.inputs) in
-    ap (λ (f : Facts). record { facts = f }) facts
+    let facts : s.facts ≡ s'.facts = same_facts s.facts s'.facts (same_value (nodes_of d) _ _ a.nodes b.nodes) (same_value (kind_in d) _ _ a.kind b.kind) (a.size ∙ sym b.size) (same_value (turns_of d) _ _ a.turns b.turns) (same_value (inputs_in d) _ _ a.inputs b.inputs) in
+    let seed : s.seed ≡ s'.seed = same_value (seed_of d) _ _ a.seed b.seed in
+    same_script s s' facts seed
 
 pub says_once : SaysOnce
 says_once b s s' a c = states_once a.members s s' a.states (subst (λ d. States d s') (same_object b c.members a.members c.object a.object) c.states)

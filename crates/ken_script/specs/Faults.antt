@@ -4,14 +4,14 @@ use Rattle.serde_json.specs.Data.{Data}
 use Rattle.ken_model.specs.declared.facts.Input.{Input}
 use Rattle.ken_script.specs.declared.faults.ScriptFault.{ScriptFault}
 use Rattle.ken_script.specs.declared.faults.ScriptFault.TheVariants.{Rule, Memory}
-use Rattle.ken_script.specs.Keys.{unknown_key, nodes_of, kind_in, items_in}
+use Rattle.ken_script.specs.Keys.{unknown_key, nodes_of, kind_in, seed_of, turns_of, items_in}
 use Rattle.ken_script.specs.Inputs.{inputs_of, wrong_input, long_text, odd_text}
 use Rattle.ken_script.specs.Object.{IsObject}
 
--- place 0, where there is no value
-abbrev pub missing : {T : Type 0} → Option T → Option ℕ
-missing None = Some 0
-missing (Some value) = None
+-- that place, where there is no value
+abbrev pub missing : {T : Type 0} → ℕ → Option T → Option ℕ
+missing place None = Some place
+missing place (Some value) = None
 
 -- the place of a fault in a list, and 0 where there is no list
 abbrev pub item_fault : {T : Type 0} → (T → Option ℕ) → Option T → Option ℕ
@@ -33,12 +33,15 @@ first_of ((rule, None) ∷ more) = first_of more
 first_of ((rule, Some index) ∷ more) = Some (rule, index)
 
 -- each rule of an object by its number, with the least place at which it is broken: 2, each key is known; 3, the number
--- of nodes; 4, the kind; 8, the items of `inputs`; 9, the lengths of their texts; 10, the bytes of their texts
+-- of nodes; 4, the kind; 6, the seed; 7, the most turns of a node, at place 1; 8, the items of `inputs`; 9, the lengths
+-- of their texts; 10, the bytes of their texts
 abbrev pub rules_of : Data → List (ℕ × Option ℕ)
 rules_of d =
     (2, unknown_key d)
-    ∷ (3, missing (nodes_of d))
-    ∷ (4, missing (kind_in d))
+    ∷ (3, missing 0 (nodes_of d))
+    ∷ (4, missing 0 (kind_in d))
+    ∷ (6, missing 0 (seed_of d))
+    ∷ (7, missing 1 (turns_of d))
     ∷ (8, item_fault (wrong_input (node_count d)) (items_in d))
     ∷ (9, option_and_then long_text (inputs_in d))
     ∷ (10, option_and_then odd_text (inputs_in d))

@@ -4,12 +4,13 @@ use Rattle.std.specs.List.{list_any}
 use Rattle.serde_json.specs.Data.{Data, Items, no_items, item, Members, no_members, member}
 use Rattle.serde_json.specs.Find.{get, as_object, as_array, as_str, as_number, as_u64}
 use Rattle.ken_model.specs.declared.kinds.Kind.{Kind}
-use Rattle.ken_model.specs.declared.facts.TheConstants.{MAX_NODES}
+use Rattle.ken_model.specs.declared.facts.TheConstants.{MAX_NODES, MAX_TURNS}
 use Rattle.ken_model.specs.Handler.{kind_of}
+use Rattle.ken_script.specs.declared.scripts.TheConstants.{DEFAULT_SEED, DEFAULT_TURNS}
 
 -- the keys that a script may have
 abbrev pub keys : List (List ℕ)
-keys = codes "nodes" ∷ codes "kind" ∷ codes "inputs" ∷ []
+keys = codes "nodes" ∷ codes "kind" ∷ codes "seed" ∷ codes "turns" ∷ codes "inputs" ∷ []
 
 -- whether a key is one of them
 abbrev pub is_key : List ℕ → Bool
@@ -39,6 +40,19 @@ nodes_of d = option_and_then (within 1 MAX_NODES) (option_and_then whole (get (c
 -- the kind, if `kind` is the name of one
 abbrev pub kind_in : Data → Option Kind
 kind_in d = option_and_then kind_of (option_and_then as_str (get (codes "kind") d))
+
+-- what stands under a key, if it can be taken; where the key is absent, what then counts
+abbrev pub taken_or : {T : Type 0} → T → (Data → Option T) → Option Data → Option T
+taken_or absent take None = Some absent
+taken_or absent take (Some value) = take value
+
+-- where the random words start, if `seed` is absent or a whole number
+abbrev pub seed_of : Data → Option ℕ
+seed_of d = taken_or DEFAULT_SEED whole (get (codes "seed") d)
+
+-- the most turns of a node, if `turns` is absent or a number that a run can have
+abbrev pub turns_of : Data → Option ℕ
+turns_of d = taken_or DEFAULT_TURNS (λ value. option_and_then (within 1 MAX_TURNS) (whole value)) (get (codes "turns") d)
 
 -- the items of an array
 abbrev pub listed : Items → List Data

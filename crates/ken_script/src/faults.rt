@@ -10,6 +10,10 @@ pub(crate) const NODES: u8 = 3;
 
 pub(crate) const KIND: u8 = 4;
 
+pub(crate) const SEED: u8 = 6;
+
+pub(crate) const COUNTS: u8 = 7;
+
 pub(crate) const INPUTS: u8 = 8;
 
 pub(crate) const TEXT_LENGTHS: u8 = 9;

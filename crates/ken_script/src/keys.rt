@@ -1,15 +1,16 @@
 // What stands under each key of a script.
 ghost use Rattle.std.specs.Prelude.{◌≡◌, option_map};
 ghost use Rattle.serde_json.specs.View.{view, items_view, members_view};
-ghost use Rattle.ken_script.specs.Keys.{is_key, unknown_key, nodes_of, kind_in, items_in, listed};
+ghost use Rattle.ken_script.specs.Keys.{is_key, unknown_key, nodes_of, kind_in, seed_of, turns_of, items_in, listed};
 
-use ken_model::{Kind, MAX_NODES};
+use crate::scripts::{DEFAULT_SEED, DEFAULT_TURNS};
+use ken_model::{Kind, MAX_NODES, MAX_TURNS};
 use serde_json::Value;
 
 fn is_key(name: &str) -> bool
     ensures { result ≡ is_key name.now }
 {
-    matches!(name, "nodes" | "kind" | "inputs")
+    matches!(name, "nodes" | "kind" | "seed" | "turns" | "inputs")
 }
 
 /// The place of the first key that isn't known, among the keys in byte order.
@@ -38,6 +39,30 @@ pub(crate) fn kind_in(script: &Value) -> Option<Kind>
     ensures { result ≡ kind_in (view script.now) }
 {
     Kind::of(script.get("kind")?.as_str()?.as_bytes())
+}
+
+/// Where the random words start: any `u64`.
+pub(crate) fn seed_of(script: &Value) -> Option<u64>
+    ensures { result ≡ seed_of (view script.now) }
+{
+    match script.get("seed") {
+        None => Some(DEFAULT_SEED),
+        Some(seed) => seed.as_u64(),
+    }
+}
+
+/// The most turns of a node, from 1 to `MAX_TURNS`.
+pub(crate) fn turns_of(script: &Value) -> Option<u64>
+    ensures { result ≡ turns_of (view script.now) }
+{
+    let Some(turns) = script.get("turns") else {
+        return Some(DEFAULT_TURNS);
+    };
+    let turns = turns.as_u64()?;
+    if turns == 0 || turns > MAX_TURNS {
+        return None;
+    }
+    Some(turns)
 }
 
 /// The items of `inputs`, if that is a list.

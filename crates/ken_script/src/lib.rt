@@ -14,4 +14,4 @@ mod tests;
 pub use faults::ScriptFault;
 pub use laws::refusals_are_exact;
 pub use reading::read;
-pub use scripts::{DEFAULT_PAGES, DEFAULT_TURNS, LIMIT, Script};
+pub use scripts::{DEFAULT_PAGES, DEFAULT_SEED, DEFAULT_TURNS, LIMIT, Script};

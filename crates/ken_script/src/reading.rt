@@ -5,10 +5,12 @@ ghost use Rattle.ken_script.specs.Object.{IsObject};
 ghost use Rattle.ken_script.specs.Faults.{IsFaultOf, IsFaultIn};
 ghost use Rattle.ken_script.specs.Says.{States, Says};
 
-use crate::faults::{INPUTS, KEYS, KIND, NODES, OBJECT, ScriptFault, TEXT_BYTES, TEXT_LENGTHS};
+use crate::faults::{
+    COUNTS, INPUTS, KEYS, KIND, NODES, OBJECT, SEED, ScriptFault, TEXT_BYTES, TEXT_LENGTHS,
+};
 use crate::inputs::{inputs_of, long_text, odd_text};
-use crate::keys::{items_in, kind_in, nodes_of, unknown_key};
-use crate::scripts::{DEFAULT_PAGES, DEFAULT_TURNS, LIMIT, Script};
+use crate::keys::{items_in, kind_in, nodes_of, seed_of, turns_of, unknown_key};
+use crate::scripts::{DEFAULT_PAGES, LIMIT, Script};
 use ken_model::{Facts, Items, PAGE};
 use serde_json::Value;
 use std::alloc::Global;
@@ -42,6 +44,12 @@ fn script_in(alloc: Global, object: &Value) -> Result<Script, ScriptFault>
     let Some(kind) = kind_in(object) else {
         return Err(ScriptFault::at(KIND, 0));
     };
+    let Some(seed) = seed_of(object) else {
+        return Err(ScriptFault::at(SEED, 0));
+    };
+    let Some(turns) = turns_of(object) else {
+        return Err(ScriptFault::at(COUNTS, 1));
+    };
     let Some(items) = items_in(object) else {
         return Err(ScriptFault::at(INPUTS, 0));
     };
@@ -57,9 +65,10 @@ fn script_in(alloc: Global, object: &Value) -> Result<Script, ScriptFault>
             nodes,
             kind,
             size: PAGE * DEFAULT_PAGES,
-            turns: DEFAULT_TURNS,
+            turns,
             inputs: Items::new(inputs),
         },
+        seed,
     })
 }
 

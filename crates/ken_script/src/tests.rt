@@ -1,4 +1,4 @@
-use crate::{LIMIT, ScriptFault, read};
+use crate::{LIMIT, Script, ScriptFault, read};
 use ken_model::Kind;
 use std::alloc::{AllocError, Global};
 use std::test::Fail;
@@ -8,6 +8,11 @@ const RING: &str = "{\"nodes\":3,\"kind\":\"ring\",\"inputs\":[[0,\"2\"]]}";
 /// A ring of that many nodes with those items of `inputs`.
 fn with_items(alloc: Global, nodes: u64, items: &str) -> Result<String, AllocError> {
     format!(in alloc; "{{\"nodes\":{nodes},\"kind\":\"ring\",\"inputs\":[{items}]}}")
+}
+
+/// A ring of three nodes with these further keys, each after a comma.
+fn with_keys(alloc: Global, keys: &str) -> Result<String, AllocError> {
+    format!(in alloc; "{{\"nodes\":3,\"kind\":\"ring\",\"inputs\":[]{keys}}}")
 }
 
 /// The part so many times, and then the last one.
@@ -26,7 +31,8 @@ fn rule(rule: u8, index: u64) -> Option<ScriptFault> {
 
 #[test]
 fn reads_what_a_script_says(rt: HostRuntime) -> Result<(), Fail> {
-    let facts = read(rt.alloc(), RING.as_bytes())?.facts;
+    let Script { facts, seed } = read(rt.alloc(), RING.as_bytes())?;
+    assert_eq!(rt; seed, 0);
     assert_eq!(rt; facts.nodes, 3);
     assert_eq!(rt; facts.kind, Kind::Ring);
     assert_eq!(rt; facts.size, 4096);
@@ -37,6 +43,52 @@ fn reads_what_a_script_says(rt: HostRuntime) -> Result<(), Fail> {
     };
     assert_eq!(rt; input.node, 0);
     assert_eq!(rt; input.text.as_slice(), b"2".as_slice());
+    Ok(())
+}
+
+#[test]
+fn reads_the_seed_and_the_turns(rt: HostRuntime) -> Result<(), Fail> {
+    let cases = [
+        ("", 0, 1_000),
+        (",\"turns\":1", 0, 1),
+        (",\"turns\":100000,\"seed\":0", 0, 100_000),
+        (",\"seed\":18446744073709551615", u64::MAX, 1_000),
+        // The last value of a key counts.
+        (",\"seed\":-1,\"seed\":7,\"turns\":0,\"turns\":2", 7, 2),
+    ];
+    for (keys, seed, turns) in cases {
+        let script = read(rt.alloc(), with_keys(rt.alloc(), keys)?.as_bytes())?;
+        assert_eq!(rt; (script.seed, script.facts.turns), (seed, turns), "{keys}");
+    }
+    Ok(())
+}
+
+#[test]
+fn refuses_a_seed_or_turns_out_of_range(rt: HostRuntime) -> Result<(), Fail> {
+    let cases = [
+        (",\"seed\":18446744073709551616", rule(6, 0)),
+        (",\"seed\":-1", rule(6, 0)),
+        (",\"seed\":-0", rule(6, 0)),
+        (",\"seed\":1.0", rule(6, 0)),
+        (",\"seed\":\"1\"", rule(6, 0)),
+        (",\"seed\":null", rule(6, 0)),
+        (",\"turns\":0", rule(7, 1)),
+        (",\"turns\":100001", rule(7, 1)),
+        (",\"turns\":1e2", rule(7, 1)),
+        (",\"turns\":[1]", rule(7, 1)),
+        (",\"turns\":null", rule(7, 1)),
+        // A rule of lower number goes first.
+        (",\"turns\":0,\"seed\":-1", rule(6, 0)),
+        (",\"turns\":0,\"pages\":1", rule(2, 3)),
+        (",\"turns\":0,\"nodes\":9", rule(3, 0)),
+        (",\"seed\":-1,\"kind\":\"rung\"", rule(4, 0)),
+        (",\"turns\":0,\"inputs\":7", rule(7, 1)),
+        (",\"turns\":1,\"inputs\":7", rule(8, 0)),
+    ];
+    for (keys, fault) in cases {
+        let text = with_keys(rt.alloc(), keys)?;
+        assert_eq!(rt; read(rt.alloc(), text.as_bytes()).err(), fault, "{keys}");
+    }
     Ok(())
 }
 
@@ -60,7 +112,7 @@ fn refuses_by_the_first_rule(rt: HostRuntime) -> Result<(), Fail> {
             rule(2, 0),
         ),
         (
-            "{\"nodes\":3,\"kind\":\"ring\",\"inputs\":[[0,\"2\"]],\"seed\":1}",
+            "{\"nodes\":3,\"kind\":\"ring\",\"inputs\":[[0,\"2\"]],\"pages\":16}",
             rule(2, 3),
         ),
         (

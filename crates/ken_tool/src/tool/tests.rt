@@ -143,6 +143,17 @@ fn a_run_that_is_cut_is_reported(rt: HostRuntime) -> Result<(), Fail> {
     let (status, sink) = run_of(&rt, &ring(rt.alloc(), 1, "[0,\"1000\"]")?)?;
     assert_eq!(rt; status, Status::Cut);
     assert!(rt; sink.bytes().ends_with(b"\nend cut 1000 1\n"));
+
+    let one_turn = "{\"nodes\":1,\"kind\":\"ring\",\"turns\":1,\"inputs\":[[0,\"5\"]]}";
+    let (status, sink) = run_of(&rt, one_turn)?;
+    assert_eq!(rt; status, Status::Cut);
+    assert_eq!(rt;
+        from_utf8(sink.bytes())?,
+        "turn 1 0 out 1 -\n\
+         emit 0 1 5\n\
+         heap 0 1\n\
+         end cut 1 1\n"
+    );
     Ok(())
 }
 
