@@ -1,6 +1,5 @@
 pub mod Parts
 pub mod NumbersRead
-pub mod NumbersSmall
 pub mod WordsFree
 pub mod LinesRead
 pub mod Spelled

@@ -1,35 +1,21 @@
 -- Numbers, senders and draws read back from their words.
-use Rattle.std.proofs.Common.{◌≡◌, ℕ, ◌≤◌, List, [], ◌∷◌, map, All, Bool, true, false, ◌==◌, if◌then◌else◌, ◌≢◌, bytes_eq, codes, decimal, refl, subst, sym, rules, arith, eqb-true, ne_eqb}
+use Rattle.std.proofs.Common.{◌≡◌, ℕ, ◌≤◌, List, [], ◌∷◌, map, All, Bool, true, false, ◌==◌, if◌then◌else◌, ◌≢◌, bytes_eq, codes, decimal, refl, subst, sym, arith, eqb-true, ne_eqb}
 use Rattle.std.specs.Int.{IsInRange}
 use Rattle.std.specs.List.{AllByRecursion}
-use Rattle.std.specs.Str.{all_ascii_digits}
 use Rattle.std.proofs.lemmas.Bool.{false_from_ne_true}
-use Rattle.std.proofs.lemmas.Fmt.{decimal_is_IsNumeral, digits_value-decimal}
-use Rattle.std.proofs.lemmas.List.Elements.{All-head, All-from_get_or}
+use Rattle.std.proofs.lemmas.List.Elements.{All-head}
 use Rattle.std.proofs.lemmas.Slice.Eq.{bytes_eq-Decides}
-use Rattle.std.proofs.lemmas.Str.Parse.{IsNumeralModel, numerals_by_fold, digit_at}
-use Rattle.ken_model.specs.Numbers.{value_from}
+use Rattle.ken_num.specs.Numbers.{value_from}
+use Rattle.ken_num.proofs.Decimals.{value_from-decimal, All-decimal}
 use Rattle.ken_model.specs.Network.{outside}
 use Rattle.ken_model.specs.Report.{sender_word, draws_word}
 use Rattle.ken_model.specs.Spelling.{sender_of, draws_of, IsWord}
 use Rattle.ken_model.proofs.Parts.{IsFree, All-join_with_byte, parts_at-join_with_byte}
 
--- digits have the value that std gives them
-pub numerals : IsNumeralModel (λ ds. all_ascii_digits ds ≡ true) (value_from 0)
-numerals = numerals_by_fold _ (search rules) value_from (search rules)
-
--- a number comes back from its digits
-pub value_from-decimal : (n : ℕ) → IsWord n → value_from 0 (decimal n) ≡ n
-value_from-decimal n word = digits_value-decimal numerals n word
-
 -- so do many
 map_value_from-map_decimal : (ns : List ℕ) → AllByRecursion IsWord ns → map (value_from 0) (map decimal ns) ≡ ns
 map_value_from-map_decimal [] words = refl
 map_value_from-map_decimal (n ∷ ns) words = let first = value_from-decimal n words.0 in let others = map_value_from-map_decimal ns words.1 in cc
-
--- what holds of digits holds of each byte of a number
-pub All-decimal : (P : ℕ → Type 0) → ((b : ℕ) → IsInRange 48 57 b → P b) → (n : ℕ) → IsWord n → All P (decimal n)
-All-decimal P digit n word = All-from_get_or P (decimal n) 0 (λ i l. digit _ (digit_at (decimal n) i (decimal_is_IsNumeral n word).0.1 l))
 
 -- and of each byte of many
 pub each_decimal : (P : ℕ → Type 0) → ((b : ℕ) → IsInRange 48 57 b → P b) → (ns : List ℕ) → AllByRecursion IsWord ns → AllByRecursion (All P) (map decimal ns)

@@ -6,7 +6,7 @@ use Rattle.ken_model.specs.declared.facts.Facts.{Facts}
 use Rattle.ken_model.specs.declared.messages.Step.{Step}
 use Rattle.ken_model.specs.declared.reports.Emission.{Emission}
 use Rattle.ken_model.specs.declared.reports.Ending.TheVariants.{Settled, Cut}
-use Rattle.ken_model.specs.Numbers.{num}
+use Rattle.ken_num.specs.Numbers.{num}
 use Rattle.ken_model.specs.Handler.{after}
 use Rattle.ken_model.specs.Network.{turn_at, turn_of}
 use Rattle.ken_model.specs.Schedule.{IsLegal, IsLegalFrom, play, played, turn_lines}

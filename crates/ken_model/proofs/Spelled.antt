@@ -6,11 +6,12 @@ use Rattle.ken_model.specs.declared.reports.TurnLine.{TurnLine}
 use Rattle.ken_model.specs.declared.reports.Emission.{Emission}
 use Rattle.ken_model.specs.declared.reports.RestartLine.{RestartLine}
 use Rattle.ken_model.specs.declared.reports.Lines.{Lines}
-use Rattle.ken_model.specs.Numbers.{value_from}
+use Rattle.ken_num.specs.Numbers.{value_from}
 use Rattle.ken_model.specs.Report.{turn_words, restart_words, text}
 use Rattle.ken_model.specs.Spelling.{parts_at, step_in, emission_in, restart_in, spell, IsPrintable, IsPrintableTurn, IsPrintableEmission, IsWord}
 use Rattle.ken_model.specs.Laws.{steps_of, ReportSpellsItsRun}
-use Rattle.ken_model.proofs.NumbersRead.{value_from-decimal, sender_of-sender_word, draws_of-draws_word}
+use Rattle.ken_num.proofs.Decimals.{value_from-decimal}
+use Rattle.ken_model.proofs.NumbersRead.{sender_of-sender_word, draws_of-draws_word}
 use Rattle.ken_model.proofs.LinesRead.{Reads, emit_parts, found, found-text}
 
 -- a reader that makes nothing of its items

@@ -12,7 +12,8 @@ use Rattle.ken_model.specs.declared.reports.Ending.TheVariants.{Settled, Cut}
 use Rattle.ken_model.specs.Report.{draws_word, block_word, turn_words, emit_words, restart_words, heap_words, end_words}
 use Rattle.ken_model.specs.Spelling.{IsWord, IsPrintableTurn, IsPrintableEmission, IsPrintableHeap}
 use Rattle.ken_model.proofs.Parts.{IsFree, All-join_with_byte}
-use Rattle.ken_model.proofs.NumbersRead.{All-decimal, each_decimal}
+use Rattle.ken_num.proofs.Decimals.{All-decimal}
+use Rattle.ken_model.proofs.NumbersRead.{each_decimal}
 
 -- a byte that is no space, no line feed and no other control character
 abbrev pub IsInk : ℕ → Type 0

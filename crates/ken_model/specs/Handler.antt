@@ -1,15 +1,15 @@
--- What a handler makes of a message: the new heap, what it sends, and what it outputs.
+-- What a handler makes of a message and of what it draws: the new heap, what it sends, and what it outputs.
 use Rattle.std.specs.Prelude.{ℕ, ◌+◌, ◌-◌, ◌%◌, ◌^◌, List, [], ◌∷◌, if◌then◌else◌, nat_lt, bytes_eq, Option, Some, None, codes, decimal}
 use Rattle.ken_model.specs.declared.kinds.Kind.{Kind}
-use Rattle.ken_model.specs.declared.kinds.Kind.TheVariants.{Ring}
+use Rattle.ken_model.specs.declared.kinds.Kind.TheVariants.{Ring, Mix}
 use Rattle.ken_model.specs.declared.values.Value.{Value}
 use Rattle.ken_model.specs.declared.messages.Message.{Message}
 use Rattle.ken_model.specs.declared.messages.Send.{Send}
-use Rattle.ken_model.specs.Numbers.{num}
+use Rattle.ken_num.specs.Numbers.{num}
 
 -- the kind of a name
 abbrev pub kind_of : List ℕ → Option Kind
-kind_of name = if bytes_eq name (codes "ring") then Some Ring else None
+kind_of name = if bytes_eq name (codes "ring") then Some Ring else if bytes_eq name (codes "mix") then Some Mix else None
 
 -- what a turn changes, sends and outputs
 pub record Effect : Type 0 where
@@ -38,6 +38,34 @@ abbrev pub ring : ℕ → ℕ → Value → Option ℕ → Effect
 ring node nodes value None = refused value
 ring node nodes value (Some n) = ring_counts node nodes value n
 
+-- mix takes a count too: the root becomes a reading of the clock, and what is left of the count goes on to a node that a
+-- random word picks
+abbrev pub mix_counts : ℕ → Value → ℕ → ℕ → ℕ → Effect
+mix_counts nodes value n clock word = record {
+  value = record value { root = clock };
+  sends = if nat_lt 0 n then record { to = word % nodes; bytes = decimal (n - 1) } ∷ [] else [];
+  outs = decimal (word % 1000) ∷ [];
+}
+
+-- it draws a reading of the clock and then a word, and nothing for a payload that it doesn't know
+abbrev pub mix : ℕ → Value → Option ℕ → List ℕ → Option Effect
+mix nodes value None draws = without_draws draws (refused value)
+mix nodes value (Some n) (clock ∷ word ∷ []) = Some (mix_counts nodes value n clock word)
+mix nodes value (Some n) _ = None
+
 -- the handler function: nothing where the number of draws isn't the kind's
 unfoldable pub after : Kind → ℕ → ℕ → Value → Message → List ℕ → Option Effect
 after Ring node nodes value message draws = without_draws draws (ring node nodes value (num message.bytes))
+after Mix node nodes value message draws = mix nodes value (num message.bytes) draws
+
+-- which of a kind's draws are readings of the clock
+abbrev pub clocks_in : Kind → List ℕ → List ℕ
+clocks_in Ring draws = []
+clocks_in Mix (clock ∷ word ∷ []) = clock ∷ []
+clocks_in Mix _ = []
+
+-- and which are random words
+abbrev pub words_in : Kind → List ℕ → List ℕ
+words_in Ring draws = []
+words_in Mix (clock ∷ word ∷ []) = word ∷ []
+words_in Mix _ = []

@@ -1,4 +1,3 @@
-pub mod Numbers
 pub mod Handler
 pub mod Network
 pub mod Schedule

@@ -8,7 +8,7 @@ use Rattle.ken_model.specs.declared.reports.TurnLine.{TurnLine}
 use Rattle.ken_model.specs.declared.reports.Emission.{Emission}
 use Rattle.ken_model.specs.declared.reports.RestartLine.{RestartLine}
 use Rattle.ken_model.specs.declared.reports.Lines.{Lines}
-use Rattle.ken_model.specs.Numbers.{value_from}
+use Rattle.ken_num.specs.Numbers.{value_from}
 use Rattle.ken_model.specs.Network.{outside}
 use Rattle.ken_model.specs.Report.{IsOneLine}
 

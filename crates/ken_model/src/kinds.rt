@@ -4,7 +4,10 @@ ghost use Rattle.ken_model.specs.Handler.{kind_of};
 /// Which handler the nodes of a run have.
 #[derive(Clone, Copy, Debug, PartialEq, Eq)]
 pub enum Kind {
+    /// A count goes round the nodes.
     Ring,
+    /// A count goes from node to node by random words, and each turn reads the clock.
+    Mix,
 }
 
 impl Kind {
@@ -14,6 +17,8 @@ impl Kind {
     {
         if name == b"ring".as_slice() {
             Some(Kind::Ring)
+        } else if name == b"mix".as_slice() {
+            Some(Kind::Mix)
         } else {
             None
         }

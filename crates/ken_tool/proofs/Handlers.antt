@@ -8,8 +8,8 @@ use Rattle.ken_model.specs.declared.values.Value.{Value}
 use Rattle.ken_model.specs.declared.messages.Message.{Message}
 use Rattle.ken_model.specs.declared.messages.Send.{Send}
 use Rattle.ken_model.specs.Handler.{after, ring}
-use Rattle.ken_model.specs.Numbers.{num}
-use Rattle.ken_model.proofs.NumbersRead.{All-decimal}
+use Rattle.ken_num.specs.Numbers.{num}
+use Rattle.ken_num.proofs.Decimals.{All-decimal}
 use Rattle.ken_model.specs.Report.{IsOneLine}
 use Rattle.ken_tool.specs.Turns.{IsModest}
 

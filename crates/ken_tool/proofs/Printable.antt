@@ -9,7 +9,7 @@ use Rattle.ken_model.specs.declared.messages.Message.{Message}
 use Rattle.ken_model.specs.declared.facts.Facts.{Facts}
 use Rattle.ken_model.specs.declared.reports.TurnLine.{TurnLine}
 use Rattle.ken_model.specs.Handler.{Effect, after, ring}
-use Rattle.ken_model.specs.Numbers.{num}
+use Rattle.ken_num.specs.Numbers.{num}
 use Rattle.ken_model.specs.Network.{Place, Turn, turn_at, place_after}
 use Rattle.ken_model.specs.History.{AreTurns, places, lines_at}
 use Rattle.ken_model.specs.Spelling.{IsPrintableHeap}

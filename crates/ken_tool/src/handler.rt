@@ -1,7 +1,7 @@
 // What a handler makes of a message.
 ghost use Rattle.std.specs.Prelude.{◌≡◌, ◌<◌, [], decimal, Some, IfOk, OnErr};
 ghost use Rattle.ken_model.specs.Handler.{after, ring as ring_effect};
-ghost use Rattle.ken_model.specs.Numbers.{num};
+ghost use Rattle.ken_num.specs.Numbers.{num};
 ghost use Rattle.ken_tool.specs.Turns.{IsModest};
 
 use ken_model::{Kind, Message, Octets, Send, Value};

@@ -3,7 +3,7 @@ use Rattle.std.proofs.lemmas.Result.{IfOk-weaker}
 use Rattle.ken_model.specs.Handler.{Effect}
 use Rattle.ken_tool.specs.Turns.{IsModest}
 use Rattle.ken_tool.proofs.Handlers.{after-ring, modest_ring}
-use Rattle.ken_model.proofs.NumbersSmall.{num-lt}
+use Rattle.ken_num.proofs.Small.{num-lt}
 use Rattle.ken_tool.proofs.handler.on_message.Goals as goal
 
 pub returns-clause-effect : goal.returns-clause-effect

@@ -3,8 +3,8 @@ use Rattle.std.proofs.Common.{◌≡◌, ℕ, ◌<◌, ◌≤◌, ◌^◌, List,
 use Rattle.std.specs.Str.{all_ascii_digits}
 use Rattle.std.proofs.lemmas.Bool.Decides.{nat_tests}
 use Rattle.std.proofs.lemmas.Str.Parse.{digits_value_short}
-use Rattle.ken_model.specs.Numbers.{num, is_num, value_from}
-use Rattle.ken_model.proofs.NumbersRead.{numerals}
+use Rattle.ken_num.specs.Numbers.{num, is_num, value_from}
+use Rattle.ken_num.proofs.Decimals.{numerals}
 
 -- what a test of four parts says of two of them
 second_and_third : (a c d : Bool) (k : ℕ) → a && nat_le k 9 && c && d ≡ true → (k ≤ 9) × (c ≡ true)

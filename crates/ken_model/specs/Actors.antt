@@ -1,0 +1,56 @@
+-- The abstract network, as a program plays it.
+use Rattle.std.specs.Prelude.{◌≡◌, ℕ, ◌+◌, ◌<◌, ◌≤◌, List, [], ◌∷◌, length, ◌==◌, if◌then◌else◌, Option, Some, None}
+use Rattle.ken_model.specs.declared.messages.Message.{Message}
+use Rattle.ken_model.specs.declared.messages.Send.{Send}
+use Rattle.ken_model.specs.declared.messages.Step.{Step}
+use Rattle.ken_model.specs.declared.messages.Out.{Out}
+use Rattle.ken_model.specs.declared.messages.Done.{Done}
+use Rattle.ken_model.specs.declared.facts.Facts.{Facts}
+use Rattle.ken_model.specs.Handler.{after}
+use Rattle.ken_model.specs.Network.{Network, Turn, front, turn_of, applied}
+
+-- what a run has come to
+pub record Playing : Type 0 where
+  pub facts : Facts
+  pub network : Network
+
+-- two networks that agree in each place and on each link
+pub record AreAlike (w w' : Network) : Type 0 where
+  pub place : (v : ℕ) → w.place v ≡ w'.place v
+  pub link : (u v : ℕ) → w.link u v ≡ w'.link u v
+
+-- what a turn of node v with that stamp sends, each message numbered after the count of those on its link
+abbrev pub posted_after : ℕ → ℕ → (ℕ → ℕ) → List Send → List Message
+posted_after v stamp counts [] = []
+posted_after v stamp counts (s ∷ ss) = record { from = v; to = s.to; number = counts s.to + 1; stamp = stamp; bytes = s.bytes } ∷ posted_after v stamp (λ w. if w == s.to then counts w + 1 else counts w) ss
+
+-- outputs, numbered on from n
+abbrev pub outs_after : ℕ → List (List ℕ) → List Out
+outs_after n [] = []
+outs_after n (x ∷ xs) = record { number = n + 1; text = x } ∷ outs_after (n + 1) xs
+
+-- the step is defined, its turn was made, and `done` tells the turn
+pub record IsStep (before now : Playing) (s : Step) (done : Done) : Type 0 where
+  pub turn : Turn
+  pub defined : turn_of before.facts before.network s ≡ Some turn
+  pub facts : now.facts ≡ before.facts
+  pub network : AreAlike now.network (applied before.network s turn)
+  pub stamp : done.stamp ≡ turn.stamp
+  pub number : done.number ≡ turn.message.number
+  pub sends : done.sends ≡ posted_after s.node turn.stamp (λ w. length (before.network.link s.node w).sent) turn.effect.sends
+  pub outs : done.outs ≡ outs_after (length (before.network.place s.node).outs) turn.effect.outs
+
+-- the node has made all its turns
+abbrev pub IsCapped : Playing → Step → Type 0
+IsCapped p s = p.facts.turns ≤ (p.network.place s.node).turns
+
+-- no message waits on the link of the step, for a node that has turns left
+abbrev pub HasNoMessage : Playing → Step → Type 0
+HasNoMessage p s = ((p.network.place s.node).turns < p.facts.turns) × (front (p.network.link s.from s.node) ≡ None)
+
+-- a message waits, and the handler takes another number of draws for it
+pub record HasWrongDraws (p : Playing) (s : Step) : Type 0 where
+  pub turns_left : (p.network.place s.node).turns < p.facts.turns
+  pub message : Message
+  pub waits : front (p.network.link s.from s.node) ≡ Some message
+  pub undefined : after p.facts.kind s.node p.facts.nodes (p.network.place s.node).value message s.draws ≡ None

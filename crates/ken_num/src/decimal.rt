@@ -1,0 +1,84 @@
+// Decimal numbers in text.
+ghost use Rattle.std.specs.Prelude.{◌≡◌, ◌==◌, ◌&&◌, ◌++◌, nat_lt, length, slice_index, decimal, OnOk, OnErr};
+ghost use Rattle.ken_num.specs.Numbers.{num};
+
+use itoa::Buffer;
+use std::alloc::AllocError;
+
+/// The most digits that `num` reads.
+pub const MAX_DIGITS: usize = 9;
+
+/// The number that `bytes` are: 1 to 9 decimal digits, with no zero in front of others. Other bytes are none.
+#[tactic(auto, unfolding(crate::specs::Numbers::num))]
+pub fn num(bytes: &[u8]) -> Option<u64>
+    ensures { result ≡ num bytes.now }
+{
+    if bytes.is_empty() || bytes.len() > MAX_DIGITS || has_leading_zero(bytes) {
+        return None;
+    }
+    let mut value = 0;
+    for byte in bytes {
+        if !byte.is_ascii_digit() {
+            return None;
+        }
+        value = 10 * value + u64::from(byte - b'0');
+    }
+    Some(value)
+}
+
+// Whether a zero stands in front of other bytes.
+fn has_leading_zero(bytes: &[u8]) -> bool
+    ensures { result ≡ (slice_index bytes.now 0 == 48 && nat_lt 1 (length bytes.now)) }
+{
+    matches!(bytes, [b'0', _, ..])
+}
+
+/// Appends `n` in decimal, with no zero in front. After an error `out` has its bytes as before.
+pub fn put_decimal(out: &mut Vec<u8>, n: u64) -> Result<(), AllocError>
+    ensures ok { OnOk result (out.new.items ≡ out.old.items ++ decimal n) }
+    ensures err { OnErr result (out.new.items ≡ out.old.items) }
+{
+    out.extend_from_slice(Buffer::new().format(n).as_bytes())
+}
+
+#[cfg(test)]
+mod tests {
+    use super::*;
+    use std::test::Fail;
+
+    #[test]
+    fn reads_the_one_spelling_of_a_short_number(rt: HostRuntime) {
+        let cases = [
+            ("0", Some(0)),
+            ("7", Some(7)),
+            ("10", Some(10)),
+            ("999999999", Some(999_999_999)),
+            ("", None),
+            ("00", None),
+            ("01", None),
+            ("1000000000", None),
+            ("-1", None),
+            ("+1", None),
+            ("1 ", None),
+            ("1a", None),
+        ];
+        for (text, want) in cases {
+            assert_eq!(rt; num(text.as_bytes()), want, "of {text:?}");
+        }
+    }
+
+    #[test]
+    fn appends_a_number_after_what_is_there(rt: HostRuntime) -> Result<(), Fail> {
+        let cases = [
+            (0, "n=0"),
+            (10, "n=10"),
+            (u64::MAX, "n=18446744073709551615"),
+        ];
+        for (n, want) in cases {
+            let mut out = b"n=".to_vec(rt.alloc())?;
+            put_decimal(&mut out, n)?;
+            assert_eq!(rt; out.as_slice(), want.as_bytes(), "at {n}");
+        }
+        Ok(())
+    }
+}
