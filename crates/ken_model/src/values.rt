@@ -1,3 +1,5 @@
+ghost use Rattle.std.specs.Prelude.{◌≡◌};
+
 use crate::{Items, Octets};
 
 /// A block of a heap.
@@ -15,4 +17,20 @@ pub struct Value {
     pub size: u64,
     pub root: u64,
     pub blocks: Items<Block>,
+}
+
+impl Value {
+    /// The root: a number that the handler keeps.
+    pub fn root(&self) -> u64
+        ensures { result ≡ self.now.root }
+    {
+        self.root
+    }
+
+    /// Sets the root.
+    pub fn set_root(&mut self, root: u64)
+        ensures { self.new ≡ record self.old { root = root } }
+    {
+        self.root = root;
+    }
 }

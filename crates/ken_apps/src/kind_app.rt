@@ -1,0 +1,22 @@
+// The handler of each kind.
+ghost use Rattle.std.specs.Prelude.{◌≡◌};
+
+use crate::{mix, ring};
+use ken_app::{App, Oracle, Turn};
+use ken_model::Kind;
+use std::alloc::AllocError;
+
+/// The handler of a kind.
+#[derive(Clone, Copy, Debug)]
+pub struct KindApp(pub Kind);
+
+impl App for KindApp {
+    ghost kind = { λ app. app.0 };
+
+    fn on_message<O: Oracle>(&self, turn: &mut Turn<'_, O>) -> Result<(), AllocError> {
+        match self.0 {
+            Kind::Ring => ring::on_message(turn),
+            Kind::Mix => mix::on_message(turn),
+        }
+    }
+}

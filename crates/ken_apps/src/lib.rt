@@ -1,0 +1,9 @@
+//! The handlers of Ken's kinds.
+#![tactic(auto)]
+
+mod answers;
+mod kind_app;
+mod mix;
+mod ring;
+
+pub use kind_app::KindApp;
