@@ -68,7 +68,7 @@ module _ (f : Facts) (nodes : List Node) (l : Lines) (limits : IsWithinLimits f)
   heap_at : (i : ℕ) (e : Node) → i < f.nodes → IsPrintableHeap (slice_index_or nodes i e).value
   heap_at i e lt =
       let s = r.each i e lt in
-      subst IsPrintableHeap (sym s.value) (printable_places f i (first_place f) (r.history i) s.turns (record { root = omega arith; blocks = tt }))
+      subst IsPrintableHeap (sym s.value) (printable_places f i (first_place f) (r.history i) (subst (AllByRecursion IsPrintableTurn) s.lines s.printable) s.turns (record { root = omega arith; blocks = tt }))
 
   -- a node shows what it holds
   place_is : (v : ℕ) → w.place v ≡ place_of f (r.history v)

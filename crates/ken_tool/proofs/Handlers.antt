@@ -1,34 +1,64 @@
 -- What a handler sends and outputs is little, goes to nodes of the run, and holds no line feed.
-use Rattle.std.proofs.Common.{◌≡◌, ℕ, ◌+◌, ◌-◌, ◌<◌, ◌≤◌, ◌^◌, ◌%◌, List, [], ◌∷◌, length, Bool, true, false, if◌then◌else◌, nat_lt, Option, Some, None, decimal, refl, arith}
+use Rattle.std.proofs.Common.{◌≡◌, ℕ, ◌+◌, ◌-◌, ◌<◌, ◌≤◌, ◌^◌, ◌%◌, List, [], ◌∷◌, length, Bool, true, false, if◌then◌else◌, nat_lt, Option, Some, None, decimal, refl, subst, arith}
 use Rattle.std.specs.List.{AllByRecursion}
+use Rattle.std.proofs.lemmas.Fmt.{length-decimal-le}
 use Rattle.std.proofs.lemmas.List.Elements.{recursion_from_All}
 use Rattle.ken_model.specs.declared.kinds.Kind.{Kind}
-use Rattle.ken_model.specs.declared.kinds.Kind.TheVariants.{Ring}
+use Rattle.ken_model.specs.declared.kinds.Kind.TheVariants.{Ring, Mix}
 use Rattle.ken_model.specs.declared.values.Value.{Value}
 use Rattle.ken_model.specs.declared.messages.Message.{Message}
 use Rattle.ken_model.specs.declared.messages.Send.{Send}
-use Rattle.ken_model.specs.Handler.{after, ring}
+use Rattle.ken_model.specs.Handler.{Effect, after, ring, mix, refused, without_draws}
 use Rattle.ken_num.specs.Numbers.{num}
 use Rattle.ken_num.proofs.Decimals.{All-decimal}
+use Rattle.ken_num.proofs.Small.{num-lt}
 use Rattle.ken_model.specs.Report.{IsOneLine}
-use Rattle.ken_tool.specs.Turns.{IsModest}
-
--- today every kind is ring
-pub after-ring : (kind : Kind) (node nodes : ℕ) (value : Value) (m : Message) → after kind node nodes value m [] ≡ Some (ring node nodes value (num m.bytes))
-unfolding after
-after-ring Ring node nodes value m = refl
+use Rattle.ken_tool.specs.Turns.{IsModest, IsPayload}
 
 one_line_decimal : (n : ℕ) → n < 2 ^ 64 → IsOneLine (decimal n)
 one_line_decimal n word = recursion_from_All (λ b. (b ≡ 10) → ⊥) (decimal n) (All-decimal (λ b. (b ≡ 10) → ⊥) (λ b digit e. omega arith) n word)
 
--- what is left of a count goes to a node of the run, if anything is left
-modest_sends : (b : Bool) (nodes to : ℕ) (bytes : List ℕ) → to < nodes → IsOneLine bytes → (length {A = Send} (if b then record { to = to; bytes = bytes } ∷ [] else []) ≤ 16) × AllByRecursion (λ (s : Send). (s.to < nodes) × IsOneLine s.bytes) (if b then record { to = to; bytes = bytes } ∷ [] else [])
-modest_sends true nodes to bytes known line = (omega arith, ((known, line), tt))
-modest_sends false nodes to bytes known line = (omega arith, tt)
+payload_decimal : (n : ℕ) → n < 10 ^ 9 → IsPayload (decimal n)
+payload_decimal n small = (one_line_decimal n (omega arith), omega (arith, length-decimal-le 9 n (omega arith) small (omega arith)))
 
-pub modest_ring : (node nodes : ℕ) (value : Value) (o : Option ℕ) → 0 < nodes → ((n : ℕ) → o ≡ Some n → n < 10 ^ 9) → IsModest nodes (ring node nodes value o).sends (ring node nodes value o).outs
-modest_ring node nodes value None some small = record { few_sends = omega arith; few_outs = omega arith; known = tt; one_line = (((λ e. cc), ((λ e. cc), ((λ e. cc), tt))), tt) }
+-- what is left of a count goes to a node of the run, if anything is left
+modest_sends : (b : Bool) (nodes to : ℕ) (bytes : List ℕ) → to < nodes → IsPayload bytes → (length {A = Send} (if b then record { to = to; bytes = bytes } ∷ [] else []) ≤ 16) × AllByRecursion (λ (s : Send). (s.to < nodes) × IsPayload s.bytes) (if b then record { to = to; bytes = bytes } ∷ [] else [])
+modest_sends true nodes to bytes known payload = (omega arith, ((known, payload), tt))
+modest_sends false nodes to bytes known payload = (omega arith, tt)
+
+-- an effect that sends and outputs little
+abbrev IsModestEffect : ℕ → Effect → Type 0
+IsModestEffect nodes e = IsModest nodes e.sends e.outs
+
+modest_refused : (nodes : ℕ) (value : Value) → IsModestEffect nodes (refused value)
+modest_refused nodes value = record { few_sends = omega arith; few_outs = omega arith; known = tt; one_line = (((λ e. cc), ((λ e. cc), ((λ e. cc), tt))), tt) }
+
+modest_ring : (node nodes : ℕ) (value : Value) (o : Option ℕ) → 0 < nodes → ((n : ℕ) → o ≡ Some n → n < 10 ^ 9) → IsModestEffect nodes (ring node nodes value o)
+modest_ring node nodes value None some small = modest_refused nodes value
 modest_ring node nodes value (Some n) some small =
     let little : n < 10 ^ 9 = small n refl in
-    let sends = modest_sends (nat_lt 0 n) nodes ((node + 1) % nodes) (decimal (n - 1)) (omega arith) (one_line_decimal (n - 1) (omega arith)) in
+    let sends = modest_sends (nat_lt 0 n) nodes ((node + 1) % nodes) (decimal (n - 1)) (omega arith) (payload_decimal (n - 1) (omega arith)) in
     record { few_sends = sends.0; few_outs = omega arith; known = sends.1; one_line = (one_line_decimal n (omega arith), tt) }
+
+modest_without_draws : (nodes : ℕ) (draws : List ℕ) (made e : Effect) → IsModestEffect nodes made → without_draws draws made ≡ Some e → IsModestEffect nodes e
+modest_without_draws nodes [] made e modest is = let same : made ≡ e = cc in subst (IsModestEffect nodes) same modest
+modest_without_draws nodes (d ∷ ds) made e modest is = absurd cc
+
+modest_mix : (nodes : ℕ) (value : Value) (o : Option ℕ) (draws : List ℕ) (e : Effect) → 0 < nodes → ((n : ℕ) → o ≡ Some n → n < 10 ^ 9) → mix nodes value o draws ≡ Some e → IsModestEffect nodes e
+modest_mix nodes value None draws e some small is = modest_without_draws nodes draws (refused value) e (modest_refused nodes value) is
+modest_mix nodes value (Some n) [] e some small is = absurd cc
+modest_mix nodes value (Some n) (clock ∷ []) e some small is = absurd cc
+modest_mix nodes value (Some n) (clock ∷ word ∷ d ∷ ds) e some small is = absurd cc
+modest_mix nodes value (Some n) (clock ∷ word ∷ []) e some small is =
+    let little : n < 10 ^ 9 = small n refl in
+    let sends = modest_sends (nat_lt 0 n) nodes (word % nodes) (decimal (n - 1)) (omega arith) (payload_decimal (n - 1) (omega arith)) in
+    let made : Effect = record { value = record value { root = clock }; sends = if nat_lt 0 n then record { to = word % nodes; bytes = decimal (n - 1) } ∷ [] else []; outs = decimal (word % 1000) ∷ [] } in
+    let modest : IsModestEffect nodes made = record { few_sends = sends.0; few_outs = omega arith; known = sends.1; one_line = (one_line_decimal (word % 1000) (omega arith), tt) } in
+    let same : made ≡ e = cc in
+    subst (IsModestEffect nodes) same modest
+
+-- whatever a handler makes is little
+pub modest_after : (kind : Kind) (node nodes : ℕ) (value : Value) (m : Message) (draws : List ℕ) (e : Effect) → 0 < nodes → after kind node nodes value m draws ≡ Some e → IsModest nodes e.sends e.outs
+unfolding after
+modest_after Ring node nodes value m draws e some is = modest_without_draws nodes draws (ring node nodes value (num m.bytes)) e (modest_ring node nodes value (num m.bytes) some (num-lt m.bytes)) is
+modest_after Mix node nodes value m draws e some is = modest_mix nodes value (num m.bytes) draws e some (num-lt m.bytes) is

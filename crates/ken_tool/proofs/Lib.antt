@@ -18,3 +18,5 @@ mod Waiting
 mod InTurn
 mod Reported
 mod Complete
+mod Asked
+mod Oracles

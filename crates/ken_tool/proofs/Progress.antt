@@ -44,7 +44,7 @@ runs_still f v old n p (Runs.looked was _ _ runs found) same =
     let before_same = runs_still f v old was p runs (sym (ap (λ (y : Node). turns_of y) found.rest) ∙ same) in
     (found.later.0 ∙ sym found.before.0 ∙ before_same.0, found.later.1 ∙ sym found.before.1 ∙ before_same.1)
 runs_still f v old n q (Runs.more was mid _ m p _ runs more takes turned) same =
-    absurd (omega (arith, runs_longer f v old was p runs, ap (λ (y : Node). turns_of y) takes.rest, ap length turned.turns, length-append mid.turns.items (record { stamp = max mid.stamp m.stamp + 1; step = record { node = v; from = m.from; draws = [] }; number = m.number } ∷ [])))
+    absurd (omega (arith, runs_longer f v old was p runs, ap (λ (y : Node). turns_of y) takes.rest, ap length turned.turns, length-append mid.turns.items (record { stamp = max mid.stamp m.stamp + 1; step = record { node = v; from = m.from; draws = turned.draws }; number = m.number } ∷ [])))
 
 -- a node that can make a turn makes one
 runs_forward : (f : Facts) (v : ℕ) (old n : Node) (p : Pending) → Runs f v old n p → IsIdle f n → is_ready f old ≡ true → turns_of old < turns_of n

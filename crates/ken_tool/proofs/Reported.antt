@@ -19,13 +19,14 @@ use Rattle.ken_script.specs.declared.faults.ScriptFault.{ScriptFault}
 use Rattle.ken_script.specs.declared.faults.ScriptFault.TheVariants as script
 use Rattle.ken_script.proofs.Told.{says_by_its_front, breaks_by_its_front}
 use Rattle.ken_tool.specs.Ended.{IsRunOf}
+use Rattle.ken_tool.specs.Draws.{Telling, HasKept}
 use Rattle.ken_tool.specs.declared.status.Status.{Status}
 use Rattle.ken_tool.specs.declared.status.Status.TheVariants as status
 use Rattle.ken_tool.specs.Statuses.{of_script}
-use Rattle.ken_tool.specs.Headline.{AreTold, IsReport, IsFront, IsQuiet, IsRunOfSource, IsRefusal, IsOut, Wrote, Ran}
+use Rattle.ken_tool.specs.Headline.{AreTold, IsReport, IsFront, IsQuiet, IsRunOfSource, IsRefusal, IsOut, Wrote, Ran, HasKeptNothing}
 
 -- what a text spells, by the run that it spells
-record IsReportOf (b : List ℕ) (script : Script) (ending : Ending) (w : List ℕ) (run : Spelling) : Type 0 where
+record IsReportOf {O : Type 0} (telling : Telling O) (kept : ℕ → Option O) (b : List ℕ) (script : Script) (ending : Ending) (w : List ℕ) (run : Spelling) : Type 0 where
   text : w ≡ report script.facts run.schedule run.emissions run.restarts ending
   legal : IsLegal script.facts run.schedule
   emissions : AreLegalEmissions script.facts (play script.facts run.schedule) run.emissions
@@ -33,18 +34,7 @@ record IsReportOf (b : List ℕ) (script : Script) (ending : Ending) (w : List �
   restarts : run.restarts ≡ []
   once : AreOnce script.facts (play script.facts run.schedule) run.emissions
   ends : Ends script.facts (play script.facts run.schedule) run.emissions ending
-
-pub report_of-run : (b : List ℕ) (script : Script) (l : Lines) → Says b script → IsRunOf script.facts l → IsReport b l.ending (text l)
-report_of-run b script l says run =
-    let told : Spelling = record { schedule = steps_of l.turns; emissions = l.emissions; restarts = l.restarts } in
-    let spelled : spell (text l) ≡ told = report_spells_its_run l run.printable in
-    let of_told : IsReportOf b script l.ending (text l) told = record { text = ap text run.lines; legal = run.legal; emissions = run.emissions; by_node = run.by_node; restarts = run.restarts; once = run.once; ends = run.ends } in
-    let of_text : IsReportOf b script l.ending (text l) (spell (text l)) = subst (IsReportOf b script l.ending (text l)) (sym spelled) of_told in
-    record { script = script; says = says; text = of_text.text; legal = of_text.legal; emissions = of_text.emissions; by_node = of_text.by_node; restarts = of_text.restarts; once = of_text.once; ends = of_text.ends }
-
--- a front of it
-pub front_of-run : (b : List ℕ) (script : Script) (l : Lines) (old new : Option (List ℕ)) (out : AppendsFront old new (text l)) → Says b script → IsRunOf script.facts l → IsFront b out.front
-front_of-run b script l old new out says run = record { rest = out.rest; ending = l.ending; whole = subst (IsReport b l.ending) (sym out.parts) (report_of-run b script l says run) }
+  drawn : HasKept telling kept script.facts run.schedule
 
 -- the bytes that a source tells, or those that were read where it doesn't
 pub record IsTold (left : Option (List ℕ)) (read : List ℕ) : Type 0 where
@@ -62,36 +52,57 @@ told_by (Some xs) read front = record {
   breaks = λ rule index h. breaks_by_its_front xs rule index (subst (λ b. Breaks b rule index) front h);
 }
 
--- some bytes that a source may have given
-any_told : (left : Option (List ℕ)) → (b : List ℕ) × AreTold left b
-any_told None = ([], tt)
-any_told (Some xs) = (xs, refl)
+module _ {O : Type 0} (telling : Telling O) (kept : ℕ → Option O) where
+  pub report_of-run : (b : List ℕ) (script : Script) (l : Lines) → Says b script → IsRunOf script.facts l → HasKept telling kept script.facts (steps_of l.turns) → IsReport telling kept b l.ending (text l)
+  report_of-run b script l says run drawn =
+      let told : Spelling = record { schedule = steps_of l.turns; emissions = l.emissions; restarts = l.restarts } in
+      let spelled : spell (text l) ≡ told = report_spells_its_run l run.printable in
+      let of_told : IsReportOf telling kept b script l.ending (text l) told = record { text = ap text run.lines; legal = run.legal; emissions = run.emissions; by_node = run.by_node; restarts = run.restarts; once = run.once; ends = run.ends; drawn = drawn } in
+      let of_text : IsReportOf telling kept b script l.ending (text l) (spell (text l)) = subst (IsReportOf telling kept b script l.ending (text l)) (sym spelled) of_told in
+      record { script = script; says = says; text = of_text.text; legal = of_text.legal; emissions = of_text.emissions; by_node = of_text.by_node; restarts = of_text.restarts; once = of_text.once; ends = of_text.ends; drawn = of_text.drawn }
 
--- nothing was written
-pub ran_quietly : (left took : Option (List ℕ)) (s : Status) → ((b : List ℕ) → Wrote b [] s) → Ran left took took s
-ran_quietly left took s wrote = let read = any_told left in record { read = read.0; written = []; told = read.1; out = Appends-nil took; wrote = wrote read.0 }
+  -- the report of the run that a source says
+  report_of-source : (left : Option (List ℕ)) (l : Lines) (run : IsRunOfSource telling kept left l) → IsReport telling kept run.read l.ending (text l)
+  report_of-source left l run = report_of-run run.read run.script l run.says run.run run.drawn
 
--- a refusal, as an answer of the program
-pub ran_refused : (left took : Option (List ℕ)) (s : Status) → IsRefusal left s → Ran left took took s
-ran_refused left took (status.Script rule index) refusal = record { read = refusal.0; written = []; told = refusal.1; out = Appends-nil took; wrote = (refl, refusal.2) }
-ran_refused left took status.Read refusal = ran_quietly left took status.Read (λ b. refl)
-ran_refused left took status.Memory refusal = ran_quietly left took status.Memory (λ b. inl refl)
-ran_refused left took status.Settled refusal = absurd refusal
-ran_refused left took status.Usage refusal = absurd refusal
-ran_refused left took status.Cut refusal = absurd refusal
-ran_refused left took status.Write refusal = absurd refusal
+  -- a front of it
+  pub front_of-source : (left : Option (List ℕ)) (l : Lines) (run : IsRunOfSource telling kept left l) (old new : Option (List ℕ)) (out : AppendsFront old new (text l)) → IsFront telling kept run.read out.front
+  front_of-source left l run old new out = record { rest = out.rest; ending = l.ending; whole = subst (IsReport telling kept run.read l.ending) (sym out.parts) (report_of-source left l run) }
 
--- a report that is out, as an answer of the program
-pub ran_written : (left old new : Option (List ℕ)) (l : Lines) (s : Status) → IsRunOfSource left l → IsOut old new l s → Ran left old new s
-ran_written left old new l status.Settled run out =
-    record { read = run.read; written = text l; told = run.told; out = out.1; wrote = subst (λ e. IsReport run.read e (text l)) out.0 (report_of-run run.read run.script l run.says run.run) }
-ran_written left old new l status.Cut run out =
-    record { read = run.read; written = text l; told = run.told; out = out.1; wrote = subst (λ e. IsReport run.read e (text l)) out.0 (report_of-run run.read run.script l run.says run.run) }
-ran_written left old new l status.Write run out = record { read = run.read; written = out.front; told = run.told; out = out.out; wrote = front_of-run run.read run.script l old new out run.says run.run }
-ran_written left old new l status.Memory run out = record { read = run.read; written = out.front; told = run.told; out = out.out; wrote = inr (front_of-run run.read run.script l old new out run.says run.run) }
-ran_written left old new l status.Usage run out = absurd out
-ran_written left old new l status.Read run out = absurd out
-ran_written left old new l (status.Script rule index) run out = absurd out
+  -- some bytes that a source may have given
+  any_told : (left : Option (List ℕ)) → (b : List ℕ) × AreTold left b
+  any_told None = ([], tt)
+  any_told (Some xs) = (xs, refl)
+
+  -- nothing was written
+  pub ran_quietly : (left took : Option (List ℕ)) (s : Status) → ((b : List ℕ) → Wrote telling kept b [] s) → Ran telling kept left took took s
+  ran_quietly left took s wrote = let read = any_told left in record { read = read.0; written = []; told = read.1; out = Appends-nil took; wrote = wrote read.0 }
+
+  -- a refusal, as an answer of the program
+  pub ran_refused : (left took : Option (List ℕ)) (s : Status) → HasKeptNothing kept → IsRefusal left s → Ran telling kept left took took s
+  ran_refused left took (status.Script rule index) none refusal = record { read = refusal.0; written = []; told = refusal.1; out = Appends-nil took; wrote = (refl, none, refusal.2) }
+  ran_refused left took status.Read none refusal = ran_quietly left took status.Read (λ b. (refl, none))
+  ran_refused left took status.Memory none refusal = ran_quietly left took status.Memory (λ b. inl (refl, none))
+  ran_refused left took status.Settled none refusal = absurd refusal
+  ran_refused left took status.Usage none refusal = absurd refusal
+  ran_refused left took status.Cut none refusal = absurd refusal
+  ran_refused left took status.Write none refusal = absurd refusal
+
+  -- a report that is out, as an answer of the program
+  pub ran_written : (left old new : Option (List ℕ)) (l : Lines) (s : Status) → IsRunOfSource telling kept left l → IsOut old new l s → Ran telling kept left old new s
+  ran_written left old new l status.Settled run out =
+      record { read = run.read; written = text l; told = run.told; out = out.1; wrote = subst (λ e. IsReport telling kept run.read e (text l)) out.0 (report_of-source left l run) }
+  ran_written left old new l status.Cut run out =
+      record { read = run.read; written = text l; told = run.told; out = out.1; wrote = subst (λ e. IsReport telling kept run.read e (text l)) out.0 (report_of-source left l run) }
+  ran_written left old new l status.Write run out = record { read = run.read; written = out.front; told = run.told; out = out.out; wrote = front_of-source left l run old new out }
+  ran_written left old new l status.Memory run out = record { read = run.read; written = out.front; told = run.told; out = out.out; wrote = inr (front_of-source left l run old new out) }
+  ran_written left old new l status.Usage run out = absurd out
+  ran_written left old new l status.Read run out = absurd out
+  ran_written left old new l (status.Script rule index) run out = absurd out
+
+  -- a script that was run, as what the source gives
+  pub run_by : (left : Option (List ℕ)) (read : List ℕ) (s : Script) (l : Lines) → IsTold left read → Says read s → IsRunOf s.facts l → HasKept telling kept s.facts (steps_of l.turns) → IsRunOfSource telling kept left l
+  run_by left read s l told says run drawn = record { read = told.whole; told = told.told; script = s; says = told.says s says; run = run; drawn = drawn }
 
 -- a status with which nothing is written tells of no report
 pub out_is_told : (old new : Option (List ℕ)) (l : Lines) (s : Status) → IsOut old new l s → IsQuiet s → ⊥
@@ -107,7 +118,3 @@ out_is_told old new l (status.Script rule index) out quiet = out
 pub refusal_by : (left : Option (List ℕ)) (read : List ℕ) (fault : ScriptFault) → IsTold left read → IsFaultOf read fault → IsRefusal left (of_script fault)
 refusal_by left read (script.Rule rule index) told broken = (told.whole, told.told, told.breaks rule index broken)
 refusal_by left read script.Memory told broken = tt
-
--- a script that was run, as what the source gives
-pub run_by : (left : Option (List ℕ)) (read : List ℕ) (s : Script) (l : Lines) → IsTold left read → Says read s → IsRunOf s.facts l → IsRunOfSource left l
-run_by left read s l told says run = record { read = told.whole; told = told.told; script = s; says = told.says s says; run = run }

@@ -6,7 +6,7 @@ use Rattle.ken_model.specs.declared.facts.Facts.{Facts}
 use Rattle.ken_tool.specs.declared.node.Node.{Node}
 use Rattle.ken_tool.specs.declared.node.Pending.{Pending}
 use Rattle.ken_tool.specs.Turns.{HasRoom, outputs_from}
-use Rattle.ken_tool.specs.Turned.{IsTurned, Takes, IsSound, IsEarly, turns_left}
+use Rattle.ken_tool.specs.Turned.{IsTurned, Takes, IsSound, IsEarly, IsShort, turns_left}
 use Rattle.ken_tool.proofs.Counts.{HasRoom-at_most, AreAtMost, AreAtMost-weaker, AreAtMost-counted}
 
 pub length-outputs_from : (n : ℕ) (xs : List (List ℕ)) → length (outputs_from n xs) ≡ length xs
@@ -19,19 +19,27 @@ AreEarly-fewer : (f : Facts) (old new : Node) (ms : List Message) → turns_left
 AreEarly-fewer f old new [] fewer early = tt
 AreEarly-fewer f old new (m ∷ ms) fewer early = (omega (arith, early.0), AreEarly-fewer f old new ms fewer early.1)
 
--- the message that comes next is early, and so is what is left
+-- the message that comes next is early and short, and so is what is left
 pub record LeavesEarly (f : Facts) (old : Node) (m : Message) (new : Node) : Type 0 where
   pub message : IsEarly f old m.stamp
   pub mail : AllByRecursion (λ (x : Message). IsEarly f old x.stamp) new.mail.items
   pub inputs : AllByRecursion (λ (x : Message). IsEarly f old x.stamp) new.inputs.items
+  pub short : IsShort m
+  pub short_mail : AllByRecursion IsShort new.mail.items
+  pub short_inputs : AllByRecursion IsShort new.inputs.items
 
 pub leaves_early : (f : Facts) (old : Node) (m : Message) (new : Node) (pending : ℕ) → IsSound f old pending → Takes old m new → LeavesEarly f old m new
 leaves_early f old m new pending sound takes =
     let P : List Message → Type 0 = λ ms. AllByRecursion (λ (x : Message). IsEarly f old x.stamp) ms in
+    let S : List Message → Type 0 = λ ms. AllByRecursion IsShort ms in
     let from_mail : (old.mail.items ≡ m ∷ new.mail.items) × (new.inputs.items ≡ old.inputs.items) → LeavesEarly f old m new =
-    λ h. (let mail : P (m ∷ new.mail.items) = subst P h.0 sound.mail in record { message = mail.0; mail = mail.1; inputs = subst P (sym h.1) sound.inputs }) in
+    λ h. (let mail : P (m ∷ new.mail.items) = subst P h.0 sound.mail in
+    let short : S (m ∷ new.mail.items) = subst S h.0 sound.short_mail in
+    record { message = mail.0; mail = mail.1; inputs = subst P (sym h.1) sound.inputs; short = short.0; short_mail = short.1; short_inputs = subst S (sym h.1) sound.short_inputs }) in
     let from_inputs : (old.mail.items ≡ []) × (new.mail.items ≡ []) × (old.inputs.items ≡ m ∷ new.inputs.items) → LeavesEarly f old m new =
-    λ h. (let inputs : P (m ∷ new.inputs.items) = subst P h.2 sound.inputs in record { message = inputs.0; mail = subst P (sym h.1) tt; inputs = inputs.1 }) in
+    λ h. (let inputs : P (m ∷ new.inputs.items) = subst P h.2 sound.inputs in
+    let short : S (m ∷ new.inputs.items) = subst S h.2 sound.short_inputs in
+    record { message = inputs.0; mail = subst P (sym h.1) tt; inputs = inputs.1; short = short.0; short_mail = subst S (sym h.1) tt; short_inputs = short.1 }) in
     ⊎_elim from_mail from_inputs takes.next
 
 -- a turn keeps it so
@@ -47,10 +55,13 @@ sound_after f v n mid new m p q sound more takes turned =
     let fewer : turns_left f new + 1 ≡ turns_left f n = omega arith in
     let outs : length q.outs.items ≡ length p.outs.items + length turned.effect.outs = ap length turned.outs ∙ length-append p.outs.items _ ∙ ap (λ k. length p.outs.items + k) (length-outputs_from _ turned.effect.outs) in
     let P : List Message → Type 0 = λ ms. AllByRecursion (λ (x : Message). IsEarly f new x.stamp) ms in
+    let S : List Message → Type 0 = λ ms. AllByRecursion IsShort ms in
     record {
       clock = omega (arith, early.message, sound.clock, turned.stamp);
       mail = subst P (ap (λ (x : _). x.items) (sym turned.same_mail)) (AreEarly-fewer f n new mid.mail.items (omega arith) early.mail);
       inputs = subst P (ap (λ (x : _). x.items) (sym turned.same_inputs)) (AreEarly-fewer f n new mid.inputs.items (omega arith) early.inputs);
+      short_mail = subst S (ap (λ (x : _). x.items) (sym turned.same_mail)) early.short_mail;
+      short_inputs = subst S (ap (λ (x : _). x.items) (sym turned.same_inputs)) early.short_inputs;
       counts = (let c : AreAtMost (16 * length n.turns.items) mid.sent = subst (AreAtMost (16 * length n.turns.items)) (sym same_sent) sound.counts in
           let d = AreAtMost-counted _ mid.sent turned.effect.sends c in
           subst (AreAtMost (16 * length new.turns.items)) (sym turned.sent) (AreAtMost-weaker _ (16 * length new.turns.items) _ (omega (arith, turned.modest.few_sends)) d));

@@ -50,10 +50,10 @@ outputs_from-append n (x ∷ xs) ys =
 
 -- the turn that the code made
 abbrev pub turn_made : (f : Facts) (v : ℕ) (m : Message) (old new : Node) (p q : Pending) → IsTurned f v m old new p q → Turn
-turn_made f v m old new p q turned = record { message = m; draws = []; stamp = max old.stamp m.stamp + 1; effect = turned.effect }
+turn_made f v m old new p q turned = record { message = m; draws = turned.draws; stamp = max old.stamp m.stamp + 1; effect = turned.effect }
 
 -- it is the handler's
-is_handlers : (f : Facts) (v : ℕ) (m : Message) (old new : Node) (p q : Pending) (turned : IsTurned f v m old new p q) (place : Place) → old.value ≡ place.value → old.stamp ≡ place.stamp → turn_at f v place [] m ≡ Some (turn_made f v m old new p q turned)
+is_handlers : (f : Facts) (v : ℕ) (m : Message) (old new : Node) (p q : Pending) (turned : IsTurned f v m old new p q) (place : Place) → old.value ≡ place.value → old.stamp ≡ place.stamp → turn_at f v place turned.draws m ≡ Some (turn_made f v m old new p q turned)
 unfolding turn_at
 is_handlers f v m old new p q turned place value stamp = rw (← value, ← stamp, turned.defined) refl
 
@@ -162,7 +162,7 @@ standing_turned f v base arrived left n mid new m ts p q s more takes turned few
     let sent_same : mid.sent ≡ n.sent = ap (λ (x : Node). x.sent) takes.rest in
     let wide : length mid.sent ≡ 8 = ap length sent_same ∙ s.wide in
     let counts : (w : ℕ) → slice_index mid.sent w ≡ length (sent_by v w 0 ts) = λ w. ap (λ l. slice_index l w) sent_same ∙ s.counts w in
-    let made : turn_at f v (place_of f ts) [] m ≡ Some t = is_handlers f v m mid new p q turned (place_of f ts) value stamp in
+    let made : turn_at f v (place_of f ts) turned.draws m ≡ Some t = is_handlers f v m mid new p q turned (place_of f ts) value stamp in
     let ts_count : length n.turns.items ≡ length ts = ap length s.lines ∙ length-map ts (line_at v) in
     let turns_count : (place_of f ts).turns ≡ length ts = turns-places (first_place f) ts ∙ omega arith in
     let one_more : length (ts ++ t ∷ []) ≡ length ts + 1 = length_push ts t in
@@ -184,7 +184,7 @@ standing_turned f v base arrived left n mid new m ts p q s more takes turned few
       turns = AreTurns-push f v (first_place f) ts t s.turns (omega arith) made;
       printable = subst (AllByRecursion IsPrintableTurn) (sym turned.turns) (AllByRecursion-append IsPrintableTurn mid.turns.items _
           (subst (AllByRecursion IsPrintableTurn) (ap (λ (x : Node). x.turns.items) (sym takes.rest)) s.printable)
-          (record { stamp = turned.words.0; node = turned.words.1; from = turned.words.2; number = turned.words.3; draws = tt }, tt));
+          (record { stamp = turned.words.0; node = turned.words.1; from = turned.words.2; number = turned.words.3; draws = turned.drawn }, tt));
       lines = turned.turns ∙ ap (λ l. l ++ line_at v t ∷ []) lines ∙ sym (map_push (line_at v) ts t);
       value = turned.value ∙ ap (λ (x : Place). x.value) (sym place);
       stamp = turned.stamp ∙ ap (λ (x : Place). x.stamp) (sym place);

@@ -24,12 +24,12 @@ plain_line [] plain = tt
 plain_line (b ∷ bs) plain = ((λ e. omega (arith, plain.0.0)), plain_line bs plain.1)
 
 -- all inputs are letters of the outside
-inputs_are_letters : (v n latest : ℕ) (is : List Input) → AllByRecursion (λ (i : Input). ArePlain i.text) is → AllByRecursion (λ (m : Message). (m.from ≡ outside) × IsLetter latest m) (inputs_from v n is)
-inputs_are_letters v n latest [] plain = tt
-inputs_are_letters v n latest (i ∷ is) plain =
+inputs_are_letters : (v n nodes latest : ℕ) (is : List Input) → AllByRecursion (λ (i : Input). ArePlain i.text) is → AllByRecursion (λ (i : Input). (i.node < nodes) × (length i.text ≤ 512)) is → AllByRecursion (λ (m : Message). (m.from ≡ outside) × IsLetter latest m) (inputs_from v n is)
+inputs_are_letters v n nodes latest [] plain known = tt
+inputs_are_letters v n nodes latest (i ∷ is) plain known =
     ⊎_elim
-    (λ e. let q : (i.node == v) ≡ true = eq-eqb i.node v e in rw q ((refl, (omega arith, plain_line i.text plain.0)), inputs_are_letters v (n + 1) latest is plain.1))
-    (λ ne. let q : (i.node == v) ≡ false = ne_eqb i.node v ne in rw q (inputs_are_letters v n latest is plain.1))
+    (λ e. let q : (i.node == v) ≡ true = eq-eqb i.node v e in rw q ((refl, (omega arith, (plain_line i.text plain.0, known.0.1))), inputs_are_letters v (n + 1) nodes latest is plain.1 known.1))
+    (λ ne. let q : (i.node == v) ≡ false = ne_eqb i.node v ne in rw q (inputs_are_letters v n nodes latest is plain.1 known.1))
     (cases_eq i.node v)
 
 -- nobody else has inputs
@@ -58,7 +58,7 @@ unfolding AreTurns sent_by outputs_from
 standing_first f v base n limits plain known given =
     let fresh = given.fresh in
     let inputs : n.inputs.items ≡ inputs_for f v = sym (append-nil n.inputs.items) ∙ given.inputs in
-    let letters = inputs_are_letters v 0 (base + 0) f.inputs plain in
+    let letters = inputs_are_letters v 0 f.nodes (base + 0) f.inputs plain limits.inputs in
     let inside : (v ≡ outside) → ⊥ = λ e. omega (arith, limits.few_nodes) in
     let from_outside : AllByRecursion (λ (m : Message). m.from ≡ outside) (inputs_for f v) = AllByRecursion-weaker _ _ (inputs_for f v) (λ m h. h.0) letters in
     let reached : (u : ℕ) → from u (inputs_for f v) ≡ first_flow f u v = λ u. ⊎_elim

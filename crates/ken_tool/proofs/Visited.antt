@@ -14,7 +14,7 @@ use Rattle.ken_model.specs.History.{AreTurns, place_of, consumed, line_at}
 use Rattle.ken_model.specs.Spelling.{IsPrintableTurn}
 use Rattle.ken_tool.specs.declared.node.Node.{Node}
 use Rattle.ken_tool.specs.declared.node.Pending.{Pending}
-use Rattle.ken_tool.specs.Turned.{Runs, IsSound, IsEarly, IsIdle}
+use Rattle.ken_tool.specs.Turned.{Runs, IsSound, IsEarly, IsShort, IsIdle}
 use Rattle.ken_tool.specs.Running.{IsStanding, IsRunning, IsLetter, IsPosted, from, sent_to, turns_made}
 use Rattle.ken_tool.specs.Drive.{IsDelivered, IsVisited}
 use Rattle.std.proofs.Math.Nat.{mul-le-mul}
@@ -162,7 +162,7 @@ pub runs_longer : (f : Facts) (v : ℕ) (old n : Node) (p : Pending) → Runs f 
 runs_longer f v old n p (Runs.none _ no_mail no_outs) = omega arith
 runs_longer f v old n p (Runs.looked before _ _ runs found) = omega (arith, runs_longer f v old before p runs, ap (λ (y : Node). turns_of y) found.rest)
 runs_longer f v old n q (Runs.more before mid _ m p _ runs more takes turned) =
-    omega (arith, runs_longer f v old before p runs, ap (λ (y : Node). turns_of y) takes.rest, ap length turned.turns, length-append mid.turns.items (record { stamp = max mid.stamp m.stamp + 1; step = record { node = v; from = m.from; draws = [] }; number = m.number } ∷ []))
+    omega (arith, runs_longer f v old before p runs, ap (λ (y : Node). turns_of y) takes.rest, ap length turned.turns, length-append mid.turns.items (record { stamp = max mid.stamp m.stamp + 1; step = record { node = v; from = m.from; draws = turned.draws }; number = m.number } ∷ []))
 
 -- what holds of node v holds of node x, where x is v
 at_node : (P : ℕ → Type 0) (v x : ℕ) → x ≡ v → P v → P x
@@ -315,6 +315,8 @@ sound_running f nodes v d limits r lt =
       clock = omega (arith, s.clock);
       mail = early_letters f n latest n.mail.items room s.queue;
       inputs = early_letters f n latest n.inputs.items room s.inputs;
+      short_mail = AllByRecursion-weaker (IsLetter latest) IsShort n.mail.items (λ m h. h.1.1) s.queue;
+      short_inputs = AllByRecursion-weaker (IsLetter latest) IsShort n.inputs.items (λ m h. h.1.1) s.inputs;
       counts = subst (λ k. AllByRecursion (λ c. c ≤ 16 * k) n.sent) (sym count) s.few_sent;
       outs = outs;
     }

@@ -9,7 +9,9 @@ use Rattle.ken_model.specs.Ending.{Ends}
 use Rattle.ken_model.specs.Report.{report, text}
 use Rattle.ken_model.specs.declared.reports.Lines.{Lines}
 use Rattle.ken_io.specs.Transfers.{AppendsFront}
+use Rattle.ken_model.specs.Laws.{steps_of}
 use Rattle.ken_tool.specs.Ended.{IsRunOf}
+use Rattle.ken_tool.specs.Draws.{Telling, HasKept}
 use Rattle.ken_model.specs.Spelling.{spell}
 use Rattle.ken_script.specs.declared.scripts.Script.{Script}
 use Rattle.ken_script.specs.Says.{Says}
@@ -27,10 +29,14 @@ abbrev pub AreTold : Option (List ℕ) → List ℕ → Type 0
 AreTold None b = ⊤
 AreTold (Some xs) b = b ≡ xs
 
+-- a world kept no oracle
+abbrev pub HasKeptNothing : {O : Type 0} → (ℕ → Option O) → Type 0
+HasKeptNothing kept = (v : ℕ) → kept v ≡ None
+
 -- w is the report of a failure-free run of what b says. The run is the one that w spells: its schedule is legal, its
--- turns, heaps and ending are those of playing the schedule, and its emissions are legal and stand node by node. Today
--- no node restarts, so each output is emitted once
-pub record IsReport (b : List ℕ) (ending : Ending) (w : List ℕ) : Type 0 where
+-- turns, heaps and ending are those of playing the schedule, its emissions are legal and stand node by node, and what its
+-- turns drew is what the kept oracles answered. Today no node restarts, so each output is emitted once
+pub record IsReport {O : Type 0} (telling : Telling O) (kept : ℕ → Option O) (b : List ℕ) (ending : Ending) (w : List ℕ) : Type 0 where
   pub script : Script
   pub says : Says b script
   pub text : w ≡ report script.facts (spell w).schedule (spell w).emissions (spell w).restarts ending
@@ -40,30 +46,31 @@ pub record IsReport (b : List ℕ) (ending : Ending) (w : List ℕ) : Type 0 whe
   pub restarts : (spell w).restarts ≡ []
   pub once : AreOnce script.facts (play script.facts (spell w).schedule) (spell w).emissions
   pub ends : Ends script.facts (play script.facts (spell w).schedule) (spell w).emissions ending
+  pub drawn : HasKept telling kept script.facts (spell w).schedule
 
 -- w is a front of such a report
-pub record IsFront (b w : List ℕ) : Type 0 where
+pub record IsFront {O : Type 0} (telling : Telling O) (kept : ℕ → Option O) (b w : List ℕ) : Type 0 where
   pub rest : List ℕ
   pub ending : Ending
-  pub whole : IsReport b ending (w ++ rest)
+  pub whole : IsReport telling kept b ending (w ++ rest)
 
--- what each status says of the bytes that were read and of those that were written
-abbrev pub Wrote : List ℕ → List ℕ → Status → Type 0
-Wrote b w status.Settled = IsReport b Settled w
-Wrote b w status.Cut = IsReport b Cut w
-Wrote b w (status.Script rule index) = (w ≡ []) × Breaks b rule index
-Wrote b w status.Usage = w ≡ []
-Wrote b w status.Read = w ≡ []
-Wrote b w status.Write = IsFront b w
-Wrote b w status.Memory = (w ≡ []) ⊎ IsFront b w
+-- what each status says of the bytes that were read, of those that were written, and of the oracles that were kept
+abbrev pub Wrote : {O : Type 0} → Telling O → (ℕ → Option O) → List ℕ → List ℕ → Status → Type 0
+Wrote telling kept b w status.Settled = IsReport telling kept b Settled w
+Wrote telling kept b w status.Cut = IsReport telling kept b Cut w
+Wrote telling kept b w (status.Script rule index) = (w ≡ []) × HasKeptNothing kept × Breaks b rule index
+Wrote telling kept b w status.Usage = (w ≡ []) × HasKeptNothing kept
+Wrote telling kept b w status.Read = (w ≡ []) × HasKeptNothing kept
+Wrote telling kept b w status.Write = IsFront telling kept b w
+Wrote telling kept b w status.Memory = ((w ≡ []) × HasKeptNothing kept) ⊎ IsFront telling kept b w
 
--- what a run of the program had to read, and what it wrote
-pub record Ran (left took_old took_new : Option (List ℕ)) (status : Status) : Type 0 where
+-- what a run of the program had to read, what it wrote, and what its world kept
+pub record Ran {O : Type 0} (telling : Telling O) (kept : ℕ → Option O) (left took_old took_new : Option (List ℕ)) (status : Status) : Type 0 where
   pub read : List ℕ
   pub written : List ℕ
   pub told : AreTold left read
   pub out : Appends took_old took_new written
-  pub wrote : Wrote read written status
+  pub wrote : Wrote telling kept read written status
 
 -- a status with which nothing is written
 abbrev pub IsQuiet : Status → Type 0
@@ -85,12 +92,13 @@ IsComplete None s = ⊤
 IsComplete (Some b) s = (script : Script) → Says b script → IsEnd s
 
 -- the lines of the run that the bytes of a source say
-pub record IsRunOfSource (left : Option (List ℕ)) (l : Lines) : Type 0 where
+pub record IsRunOfSource {O : Type 0} (telling : Telling O) (kept : ℕ → Option O) (left : Option (List ℕ)) (l : Lines) : Type 0 where
   pub read : List ℕ
   pub told : AreTold left read
   pub script : Script
   pub says : Says read script
   pub run : IsRunOf script.facts l
+  pub drawn : HasKept telling kept script.facts (steps_of l.turns)
 
 -- why there are none
 abbrev pub IsRefusal : Option (List ℕ) → Status → Type 0

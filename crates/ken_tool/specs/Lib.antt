@@ -2,6 +2,8 @@ pub mod Turns
 pub mod Turned
 pub mod Running
 pub mod Drive
+pub mod Draws
+pub mod Oracles
 pub mod Timeline
 pub mod Ended
 pub mod Words

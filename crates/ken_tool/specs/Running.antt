@@ -9,7 +9,7 @@ use Rattle.ken_model.specs.History.{AreTurns, place_of, consumed, sent_by, line_
 use Rattle.ken_model.specs.Spelling.{IsPrintableTurn}
 use Rattle.ken_tool.specs.declared.node.Node.{Node}
 use Rattle.ken_model.specs.Report.{IsOneLine}
-use Rattle.ken_tool.specs.Turns.{outputs_from}
+use Rattle.ken_tool.specs.Turns.{outputs_from, IsPayload}
 
 -- the messages of a sender
 abbrev pub from : ℕ → List Message → List Message
@@ -19,9 +19,9 @@ from u ms = filter (λ (m : Message). m.from == u) ms
 abbrev pub sent_to : ℕ → List Message → List Message
 sent_to w ms = filter (λ (m : Message). m.to == w) ms
 
--- a message from no later stamp than that, and without a line feed
+-- a message from no later stamp than that, with a payload that it may have
 abbrev pub IsLetter : ℕ → Message → Type 0
-IsLetter latest m = (m.stamp ≤ latest) × IsOneLine m.bytes
+IsLetter latest m = (m.stamp ≤ latest) × IsPayload m.bytes
 
 -- a message that node v of the run sent
 abbrev pub IsPosted : Facts → ℕ → ℕ → Message → Type 0

@@ -1,16 +1,21 @@
 -- One node's turns, as the code makes them.
 use Rattle.std.specs.Prelude.{ℕ, ◌+◌, ◌<◌, ◌≤◌, ◌^◌, List, [], ◌∷◌, length, slice_index, slice_set}
 use Rattle.std.specs.List.{AllByRecursion}
+use Rattle.ken_model.specs.declared.facts.TheConstants.{MAX_TEXT}
 use Rattle.ken_model.specs.Report.{IsOneLine}
 use Rattle.ken_model.specs.declared.messages.Message.{Message}
 use Rattle.ken_model.specs.declared.messages.Send.{Send}
 use Rattle.ken_model.specs.declared.messages.Out.{Out}
 
--- few sends and outputs, to nodes of the run, and without line feeds
+-- a payload that a message may have: no line feed, and no more than a message may hold
+abbrev pub IsPayload : List ℕ → Type 0
+IsPayload bytes = IsOneLine bytes × (length bytes ≤ MAX_TEXT)
+
+-- few sends and outputs, the sends for nodes of the run, and no line feed
 pub record IsModest (nodes : ℕ) (sends : List Send) (outs : List (List ℕ)) : Type 0 where
   pub few_sends : length sends ≤ 16
   pub few_outs : length outs ≤ 16
-  pub known : AllByRecursion (λ (s : Send). (s.to < nodes) × IsOneLine s.bytes) sends
+  pub known : AllByRecursion (λ (s : Send). (s.to < nodes) × IsPayload s.bytes) sends
   pub one_line : AllByRecursion IsOneLine outs
 
 -- what a turn of node v with that stamp sends, numbered after the counts of what it sent to each node

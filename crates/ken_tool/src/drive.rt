@@ -1,16 +1,22 @@
 // A run on one thread: the nodes in turn, until none of them can make a turn.
-ghost use Rattle.std.specs.Prelude.{◌≡◌, ◌<◌, ◌++◌, [], ℕ, true, false, length, slice_index_or, IfOk, OnOk};
+ghost use Rattle.std.specs.Prelude.{◌≡◌, ◌<◌, ◌≤◌, ◌++◌, [], ℕ, true, false, length, slice_index_or, Some, IfOk, OnOk, OnErr};
 ghost use Rattle.std.specs.List.{AllByRecursion, list_any};
 ghost use Rattle.ken_model.specs.Facts.{IsWithinLimits, IsPlainRun};
 ghost use Rattle.ken_model.specs.Network.{inputs_for};
 ghost use Rattle.ken_tool.specs.declared.node.Node.{Node};
 ghost use Rattle.ken_tool.specs.Running.{sent_to, IsRunning, turns_made};
+ghost use Rattle.ken_model.specs.declared.facts.TheConstants.{MAX_NODES};
+ghost use Rattle.ken_model.specs.Laws.{steps_of};
+ghost use Rattle.ken_tool.specs.Draws.{AreAsked, AreUnasked, HasKept};
 ghost use Rattle.ken_tool.specs.Drive.{IsDelivered, IsVisited, IsFresh, IsGiven, is_ready};
 ghost use Rattle.ken_tool.specs.Ended.{IsRunOf};
 
 use crate::ended::gather;
 use crate::node::Node;
+use crate::world::World;
+use ken_app::Oracle;
 use ken_model::{Facts, Lines, Message, Out};
+use ken_script::Script;
 use std::alloc::{AllocError, Global};
 
 /// Nodes that have made no turn, without their inputs.
@@ -43,7 +49,8 @@ fn give_inputs(alloc: Global, facts: &Facts, nodes: &mut [Node]) -> Result<(), A
 fn start(alloc: Global, facts: &Facts) -> Result<Vec<Node>, AllocError>
     requires limits { IsWithinLimits facts.now }
     requires plain { IsPlainRun facts.now }
-    ensures { IfOk result (λ nodes. IsRunning facts.now nodes.items) }
+    ensures running { IfOk result (λ nodes. IsRunning facts.now nodes.items) }
+    ensures first { IfOk result (λ nodes. (v : ℕ) (d : Node) → v < facts.now.nodes → (slice_index_or nodes.items v d).turns.items ≡ []) }
 {
     let mut nodes = fresh(alloc, facts)?;
     give_inputs(alloc, facts, &mut nodes)?;
@@ -73,28 +80,43 @@ fn emit(node: &mut Node, mut outs: Vec<Out>) -> Result<(), AllocError>
 
 /// Visits a node: it makes all its turns, then what they sent is there for the others, then their outputs are emitted.
 /// After an error the run can't go on.
-fn visit(alloc: Global, facts: &Facts, nodes: &mut [Node], node: u8) -> Result<(), AllocError>
+fn visit<O: Oracle>(
+    alloc: Global,
+    facts: &Facts,
+    nodes: &mut [Node],
+    oracles: &mut [O],
+    node: u8,
+) -> Result<(), AllocError>
     requires limits { IsWithinLimits facts.now }
     requires known { node < facts.now.nodes }
     requires running { IsRunning facts.now nodes.old }
+    requires asked { AreAsked (record { clocks = O.clocks; words = O.words }) facts.now.kind nodes.old oracles.old }
     ensures running { OnOk result (IsRunning facts.now nodes.new) }
     ensures visited { OnOk result (IsVisited facts.now node nodes.old nodes.new) }
+    ensures asked { OnOk result (AreAsked (record { clocks = O.clocks; words = O.words }) facts.now.kind nodes.new oracles.new) }
 {
     let at = node as usize;
-    let pending = nodes[at].run(alloc, facts, node)?;
+    let pending = nodes[at].run(alloc, facts, node, &mut oracles[at])?;
     deliver(nodes, pending.mail)?;
     emit(&mut nodes[at], pending.outs)
 }
 
 /// Visits each node once. After an error the run can't go on.
-fn pass(alloc: Global, facts: &Facts, nodes: &mut [Node]) -> Result<(), AllocError>
+fn pass<O: Oracle>(
+    alloc: Global,
+    facts: &Facts,
+    nodes: &mut [Node],
+    oracles: &mut [O],
+) -> Result<(), AllocError>
     requires limits { IsWithinLimits facts.now }
     requires running { IsRunning facts.now nodes.old }
+    requires asked { AreAsked (record { clocks = O.clocks; words = O.words }) facts.now.kind nodes.old oracles.old }
     ensures running { OnOk result (IsRunning facts.now nodes.new) }
+    ensures asked { OnOk result (AreAsked (record { clocks = O.clocks; words = O.words }) facts.now.kind nodes.new oracles.new) }
     ensures grown { OnOk result (list_any (is_ready facts.now) nodes.old ≡ true → turns_made nodes.old < turns_made nodes.new) }
 {
     for node in 0..facts.nodes {
-        visit(alloc, facts, nodes, node)?;
+        visit(alloc, facts, nodes, oracles, node)?;
     }
     Ok(())
 }
@@ -107,25 +129,71 @@ fn is_any_ready(facts: &Facts, nodes: &[Node]) -> bool
 }
 
 /// Makes passes until no node can make a turn. After an error the run can't go on.
-fn drain(alloc: Global, facts: &Facts, nodes: &mut [Node]) -> Result<(), AllocError>
+fn drain<O: Oracle>(
+    alloc: Global,
+    facts: &Facts,
+    nodes: &mut [Node],
+    oracles: &mut [O],
+) -> Result<(), AllocError>
     requires limits { IsWithinLimits facts.now }
     requires running { IsRunning facts.now nodes.old }
+    requires asked { AreAsked (record { clocks = O.clocks; words = O.words }) facts.now.kind nodes.old oracles.old }
     ensures running { OnOk result (IsRunning facts.now nodes.new) }
+    ensures asked { OnOk result (AreAsked (record { clocks = O.clocks; words = O.words }) facts.now.kind nodes.new oracles.new) }
     ensures idle { OnOk result (list_any (is_ready facts.now) nodes.new ≡ false) }
 {
     'passes: while is_any_ready(facts, nodes) {
-        pass(alloc, facts, nodes)?;
+        pass(alloc, facts, nodes, oracles)?;
     }
     Ok(())
 }
 
-/// Runs a script: the lines of its report. After an error there is no report.
-pub(crate) fn run(alloc: Global, facts: &Facts) -> Result<Lines, AllocError>
-    requires limits { IsWithinLimits facts.now }
-    requires plain { IsPlainRun facts.now }
-    ensures { IfOk result (IsRunOf facts.now) }
+/// The oracles of all nodes, none of which has answered anything.
+fn oracles<W: World>(
+    alloc: Global,
+    script: &Script,
+    world: &mut W,
+) -> Result<Vec<W::Luck>, AllocError>
+    requires limits { IsWithinLimits script.now.facts }
+    ensures unasked { IfOk result (λ oracles. AreUnasked (record { clocks = W.Luck.clocks; words = W.Luck.words }) script.now.facts.nodes oracles.items) }
+    ensures kept { (v : ℕ) → W.kept world.new v ≡ W.kept world.old v }
 {
-    let mut nodes = start(alloc, facts)?;
-    drain(alloc, facts, &mut nodes)?;
-    gather(alloc, nodes)
+    let mut oracles = Vec::new(alloc);
+    for node in 0..script.facts.nodes {
+        oracles.push(world.oracle(node, script.seed))?;
+    }
+    Ok(oracles)
+}
+
+/// Gives the oracles of all nodes back.
+fn keep<W: World>(world: &mut W, oracles: Vec<W::Luck>)
+    requires few { length oracles.items ≤ MAX_NODES }
+    ensures { (v : ℕ) (e : W.Luck) → v < length oracles.items → W.kept world.new v ≡ Some (slice_index_or oracles.items v e) }
+{
+    let mut node = 0;
+    for oracle in oracles {
+        world.keep(node, oracle);
+        node += 1;
+    }
+}
+
+/// Runs a script: the lines of its report. The world keeps the oracles. After an error there is no report, and the world
+/// has kept nothing.
+pub(crate) fn run<W: World>(
+    alloc: Global,
+    script: &Script,
+    world: &mut W,
+) -> Result<Lines, AllocError>
+    requires limits { IsWithinLimits script.now.facts }
+    requires plain { IsPlainRun script.now.facts }
+    ensures ran { IfOk result (IsRunOf script.now.facts) }
+    ensures kept { IfOk result (λ lines. HasKept (record { clocks = W.Luck.clocks; words = W.Luck.words }) (W.kept world.new) script.now.facts (steps_of lines.turns)) }
+    ensures err { OnErr result ((v : ℕ) → W.kept world.new v ≡ W.kept world.old v) }
+{
+    let mut nodes = start(alloc, &script.facts)?;
+    let mut oracles = oracles(alloc, script, world)?;
+    drain(alloc, &script.facts, &mut nodes, &mut oracles)?;
+    let lines = gather(alloc, nodes)?;
+    keep(world, oracles);
+    Ok(lines)
 }

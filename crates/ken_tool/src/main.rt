@@ -4,7 +4,6 @@
 
 mod drive;
 mod ended;
-mod handler;
 mod node;
 mod print;
 mod status;
@@ -30,7 +29,7 @@ fn main(rt: HostRuntime) -> ExitCode {
                 &words,
                 &mut source,
                 &mut sink,
-                &mut MemWorld,
+                &mut MemWorld::new(),
             )
         }
         Err(status) => status,

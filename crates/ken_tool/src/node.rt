@@ -1,12 +1,19 @@
 // A node of a run: its heap, its turns, and what waits for it.
-ghost use Rattle.std.specs.Prelude.{◌≡◌, ◌+◌, ◌<◌, ◌≤◌, ◌^◌, max, [], ◌∷◌, ◌++◌, length, slice_index, IfOk, OnOk, MatchOption, vec_len};
+ghost use Rattle.std.specs.Prelude.{◌≡◌, ◌+◌, ◌<◌, ◌≤◌, ◌^◌, max, [], ◌∷◌, ◌++◌, length, slice_index, Some, IfOk, OnOk, MatchOption, vec_len};
 ghost use Rattle.std.specs.List.{AllByRecursion};
 ghost use Rattle.ken_model.specs.Facts.{IsWithinLimits};
-ghost use Rattle.ken_tool.specs.Turns.{posted, counted, outputs_from, HasRoom};
+ghost use Rattle.ken_model.specs.Laws.{steps_of};
+ghost use Rattle.ken_model.specs.Handler.{after, clocks_in, words_in};
+ghost use Rattle.ken_model.specs.Spelling.{IsWord};
+ghost use Rattle.ken_app.specs.Oracles.{Answers};
+ghost use Rattle.ken_app.specs.Turning.{IsPlaced};
+ghost use Rattle.ken_tool.specs.Draws.{IsAskedFor};
+ghost use Rattle.ken_tool.specs.Turns.{posted, counted, outputs_from, HasRoom, IsModest};
 ghost use Rattle.ken_tool.specs.Turned.{IsTurned, FindsNone, Takes, Runs, IsSound, IsIdle};
 ghost use Rattle.ken_tool.specs.Drive.{is_ready, input_at, IsFresh};
 
-use crate::handler::on_message;
+use ken_app::{Made, Oracle, take_turn};
+use ken_apps::KindApp;
 use ken_model::{
     Facts, Input, Items, MAX_NODES, Message, OUTSIDE, Octets, Out, Send, Step, TurnLine, Value,
 };
@@ -37,6 +44,34 @@ pub(crate) struct Node {
     pub inputs: VecDeque<Message>,
     /// Its outputs so far, as they were emitted.
     pub emitted: Vec<Out>,
+}
+
+/// Runs the handler of the run's kind on a message. After an error the run can't go on.
+fn handle<O: Oracle>(
+    alloc: Global,
+    facts: &Facts,
+    node: u8,
+    value: &mut Value,
+    message: &Message,
+    oracle: &mut O,
+) -> Result<Made, AllocError>
+    requires { IsPlaced node facts.now.nodes message.now }
+    ensures handled { IfOk result (λ made. after facts.now.kind node facts.now.nodes value.old message.now made.draws.items
+        ≡ Some (record { value = value.new; sends = made.sends.items; outs = made.outs.items })) }
+    ensures modest { IfOk result (λ made. IsModest facts.now.nodes made.sends.items made.outs.items) }
+    ensures clocks { IfOk result (λ made. Answers (O.clocks oracle.old) (O.clocks oracle.new) (clocks_in facts.now.kind made.draws.items)) }
+    ensures words { IfOk result (λ made. Answers (O.words oracle.old) (O.words oracle.new) (words_in facts.now.kind made.draws.items)) }
+{
+    let app = KindApp(facts.kind);
+    take_turn(alloc, &app, node, facts.nodes, message, value, oracle)
+}
+
+/// The draws of a turn, as its line records them.
+fn recorded(alloc: Global, draws: &[u64]) -> Result<Items<u64>, AllocError>
+    ensures same { IfOk result (λ items. items ≡ draws.now) }
+    ensures words { AllByRecursion IsWord draws.now }
+{
+    Ok(Items::new(Vec::from_slice(alloc, draws)?))
 }
 
 impl Pending {
@@ -170,28 +205,25 @@ impl Node {
     }
 
     /// Makes the turn that takes a message. After an error the run can't go on.
-    fn turn(
+    fn turn<O: Oracle>(
         &mut self,
         alloc: Global,
         facts: &Facts,
         node: u8,
         message: Message,
+        oracle: &mut O,
         pending: &mut Pending,
     ) -> Result<(), AllocError>
-        requires nodes { (0 < facts.now.nodes) × (facts.now.nodes ≤ 8) × (node < 255) }
+        requires placed { IsPlaced node facts.now.nodes message }
         requires clock { max self.old.stamp message.stamp + 1 < 2 ^ 64 }
         requires counts { HasRoom 16 self.old.sent }
         requires outs { vec_len self.old.emitted + vec_len pending.old.outs + 16 < 2 ^ 64 }
-        ensures { OnOk result (IsTurned facts.now node message self.old self.new pending.old pending.new) }
+        requires asked { IsAskedFor (record { clocks = O.clocks; words = O.words }) oracle.old facts.now.kind (steps_of self.old.turns.items) }
+        ensures turned { OnOk result (IsTurned facts.now node message self.old self.new pending.old pending.new) }
+        ensures asked { OnOk result (IsAskedFor (record { clocks = O.clocks; words = O.words }) oracle.new facts.now.kind (steps_of self.new.turns.items)) }
     {
-        let answer = on_message(
-            alloc,
-            facts.kind,
-            node,
-            facts.nodes,
-            &mut self.value,
-            &message,
-        )?;
+        let made = handle(alloc, facts, node, &mut self.value, &message, oracle)?;
+        let draws = recorded(alloc, made.draws.as_slice())?;
         let stamp = self.stamp.max(message.stamp) + 1;
         self.stamp = stamp;
         self.turns.push(TurnLine {
@@ -199,32 +231,35 @@ impl Node {
             step: Step {
                 node,
                 from: message.from,
-                draws: Items::new(Vec::new(alloc)),
+                draws,
             },
             number: message.number,
         })?;
-        self.post_all(node, stamp, answer.sends, &mut pending.mail)?;
-        self.output_all(answer.outs, &mut pending.outs)
+        self.post_all(node, stamp, made.sends, &mut pending.mail)?;
+        self.output_all(made.outs, &mut pending.outs)
     }
 
     /// Makes all turns that the node can make now, and hands over what is to leave it.
     /// After an error the run can't go on.
-    pub(crate) fn run(
+    pub(crate) fn run<O: Oracle>(
         &mut self,
         alloc: Global,
         facts: &Facts,
         node: u8,
+        oracle: &mut O,
     ) -> Result<Pending, AllocError>
         requires limits { IsWithinLimits facts.now }
         requires known { node < facts.now.nodes }
         requires sound { IsSound facts.now self.old 0 }
+        requires asked { IsAskedFor (record { clocks = O.clocks; words = O.words }) oracle.old facts.now.kind (steps_of self.old.turns.items) }
         ensures runs { IfOk result (Runs facts.now node self.old self.new) }
         ensures idle { OnOk result (IsIdle facts.now self.new) }
+        ensures asked { OnOk result (IsAskedFor (record { clocks = O.clocks; words = O.words }) oracle.new facts.now.kind (steps_of self.new.turns.items)) }
     {
         let mut pending = Pending::new(alloc);
         'turns: while (self.turns.len() as u64) < facts.turns {
             let Some(message) = self.take() else { break };
-            self.turn(alloc, facts, node, message, &mut pending)?;
+            self.turn(alloc, facts, node, message, oracle, &mut pending)?;
         }
         Ok(pending)
     }

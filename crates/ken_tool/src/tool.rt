@@ -1,8 +1,8 @@
 // The top call.
-ghost use Rattle.std.specs.Prelude.{◌≡◌, ◌≢◌, ◌↔◌, ◌+◌, ◌≤◌, true, false, map, string_bytes, IfOk, IfErr, IsErrOf};
+ghost use Rattle.std.specs.Prelude.{◌≡◌, ◌≢◌, ◌↔◌, ◌+◌, ◌≤◌, true, false, map, string_bytes, IfOk, IfErr, OnErr, IsErrOf};
 ghost use Rattle.ken_io.specs.Causes.{Rose};
 ghost use Rattle.ken_io.specs.Transfers.{TakesAtMost};
-ghost use Rattle.ken_tool.specs.Headline.{are_plain, Ran, IsQuiet, IsComplete, IsRunOfSource, IsRefusal, IsOut};
+ghost use Rattle.ken_tool.specs.Headline.{are_plain, Ran, IsQuiet, IsComplete, IsRunOfSource, IsRefusal, IsOut, HasKeptNothing};
 
 #[cfg(test)]
 mod tests;
@@ -25,10 +25,11 @@ pub fn ken<R, S: Source, K: Sink, W: World>(
     words: &[String],
     source: &mut S,
     sink: &mut K,
-    _world: &mut W,
+    world: &mut W,
 ) -> Status
+    requires { HasKeptNothing (W.kept world.old) }
     ensures usage { (result ≡ Status.Usage) ↔ (are_plain (map string_bytes words.now) ≡ false) }
-    ensures runs { Ran (S.left source.old) (K.took sink.old) (K.took sink.new) result }
+    ensures runs { Ran (record { clocks = W.Luck.clocks; words = W.Luck.words }) (W.kept world.new) (S.left source.old) (K.took sink.old) (K.took sink.new) result }
     ensures complete { are_plain (map string_bytes words.now) ≡ true
         → (Rose (S.faults source.old) (S.faults source.new) → ⊥)
         → (Rose (K.faults sink.old) (K.faults sink.new) → ⊥)
@@ -46,7 +47,7 @@ pub fn ken<R, S: Source, K: Sink, W: World>(
     if !is_plain(words) {
         return Status::Usage;
     }
-    match run(alloc, source) {
+    match run(alloc, source, world) {
         Ok(lines) => written(alloc, sink, &lines),
         Err(status) => status,
     }
@@ -63,9 +64,11 @@ fn is_plain(words: &[String]) -> bool
 }
 
 /// Reads a script and runs it.
-fn run<S: Source>(alloc: Global, source: &mut S) -> Result<Lines, Status>
-    ensures ran { IfOk result (IsRunOfSource (S.left source.old)) }
+fn run<S: Source, W: World>(alloc: Global, source: &mut S, world: &mut W) -> Result<Lines, Status>
+    requires { HasKeptNothing (W.kept world.old) }
+    ensures ran { IfOk result (IsRunOfSource (record { clocks = W.Luck.clocks; words = W.Luck.words }) (W.kept world.new) (S.left source.old)) }
     ensures refused { IfErr result (IsRefusal (S.left source.old)) }
+    ensures kept { OnErr result (HasKeptNothing (W.kept world.new)) }
     ensures read { IsErrOf result Status.Read → Rose (S.faults source.old) (S.faults source.new) }
     ensures no_failed_read { (IsErrOf result Status.Read → ⊥) → S.faults source.new ≡ S.faults source.old }
     ensures taken { TakesAtMost (LIMIT + 1) (S.left source.old) (S.left source.new) }
@@ -73,7 +76,7 @@ fn run<S: Source>(alloc: Global, source: &mut S) -> Result<Lines, Status>
 {
     let bytes = read_all(alloc, source, LIMIT)?;
     let script = ken_script::read(alloc, bytes.as_slice())?;
-    let lines = drive::run(alloc, &script.facts)?;
+    let lines = drive::run(alloc, &script, world)?;
     Ok(lines)
 }
 

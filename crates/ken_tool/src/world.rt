@@ -1,8 +1,29 @@
-/// What a run meets beside its script. It has no members yet: a plain run meets nothing.
-pub trait World {}
+// What a run meets beside its script.
+ghost use Rattle.std.specs.Prelude.{◌≡◌, ◌≢◌, ◌<◌, ℕ, [], Option, Some, IfSome};
+ghost use Rattle.ken_model.specs.declared.facts.TheConstants.{MAX_NODES};
 
-/// A world in memory.
-#[derive(Clone, Copy, Debug)]
-pub struct MemWorld;
+mod memory;
 
-impl World for MemWorld {}
+use ken_app::Oracle;
+pub use memory::{MemOracle, MemWorld};
+
+/// What a run meets beside its script: an oracle for each node.
+pub trait World {
+    type Luck: Oracle + Drop;
+
+    /// The oracle of each node that was given to `keep` last.
+    ghost kept: { Self → ℕ → Option Self.Luck };
+
+    /// An oracle for a node below `MAX_NODES`, which has answered nothing.
+    fn oracle(&mut self, node: u8, seed: u64) -> Self::Luck
+        requires { node < MAX_NODES }
+        ensures clocks { IfSome (Self.Luck.clocks result) (λ told. told ≡ []) }
+        ensures words { IfSome (Self.Luck.words result) (λ told. told ≡ []) }
+        ensures kept { (v : ℕ) → kept self.new v ≡ kept self.old v };
+
+    /// Takes the oracle of a node below `MAX_NODES` back, at the end of a run.
+    fn keep(&mut self, node: u8, luck: Self::Luck)
+        requires { node < MAX_NODES }
+        ensures given { kept self.new node ≡ Some luck }
+        ensures others { (v : ℕ) → v ≢ node → kept self.new v ≡ kept self.old v };
+}

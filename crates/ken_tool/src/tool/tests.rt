@@ -66,7 +66,7 @@ fn call(
     for word in words.split_whitespace() {
         texts.push(String::from_str(rt.alloc(), word)?)?;
     }
-    Ok(ken(rt, rt.alloc(), &texts, source, sink, &mut MemWorld))
+    Ok(ken(rt, rt.alloc(), &texts, source, sink, &mut MemWorld::new()))
 }
 
 // How the run of a script ends, and the sink with what is out.

@@ -3,12 +3,13 @@ use Rattle.ken_tool.proofs.Progress.{IsMidPass, mid_pass_next, mid_pass_last}
 use Rattle.ken_tool.proofs.drive.pass.Goals as goal
 
 pub loop-node-preserved : goal.loop-node-preserved
-loop-node-preserved c = record {
+loop-node-preserved g c = record {
   running = c.in_ok-visit.ensures.running;
+  asked = c.in_ok-visit.ensures.asked;
   mid = mid_pass_next c.args.facts.now c.loop-node.node c.args.nodes.now c.loop-node.nodes c.visit.new.nodes c.requires.limits c.loop-node.invariant.running c.in_ok-visit.ensures.visited c.loop-node-test.true c.loop-node.auto.nodes c.loop-node.invariant.mid;
 }
 
 pub returns-clause-grown : goal.returns-clause-grown
-returns-clause-grown c =
+returns-clause-grown g c =
     let all : c.loop-node.node ≡ length c.args.nodes.now = omega (arith, c.requires.running.width) in
     mid_pass_last c.args.facts.now c.args.nodes.now c.loop-node.nodes (subst (IsMidPass c.args.facts.now c.args.nodes.now c.loop-node.nodes) all c.loop-node.invariant.mid)

@@ -1,25 +1,35 @@
-use Rattle.std.proofs.Common.{◌≡◌, ◌++◌, ◌<◌, ◌^◌, length, take, drop, sum_by, sym, subst, arith}
+use Rattle.std.proofs.Common.{◌≡◌, ℕ, ◌++◌, ◌<◌, ◌^◌, Some, slice_index_or, length, take, drop, sum_by, sym, subst, arith}
 use Rattle.std.proofs.lemmas.List.{take_at}
-use Rattle.std.proofs.lemmas.Result.{IfOk-weaker}
 use Rattle.ken_tool.specs.Ended.{AreInTurn, waits, IsGathered}
+use Rattle.ken_tool.proofs.Asked.{kept_gathered}
 use Rattle.ken_tool.proofs.InTurn.{AreInTurn-running}
 use Rattle.ken_tool.proofs.Waiting.{few_waiting}
 use Rattle.ken_tool.proofs.Finished.{run_of-gathered}
 use Rattle.ken_tool.proofs.drive.run.Goals as goal
 use Rattle.ken_tool.proofs.drive.run.Goals.{In_ok-drain}
+use Rattle.ken_tool.proofs.drive.run.Given.{Over}
 
 -- the vector holds the nodes as the drain left them
-drained : (c : In_ok-drain) → take c.in_ok-nodes.nodes.len (c.drain.new.nodes ++ drop (length c.drain.new.nodes) c.in_ok-nodes.nodes.items) ≡ c.drain.new.nodes
-drained c = take_at c.drain.new.nodes _ c.in_ok-nodes.nodes.len (omega (arith, c.in_ok-nodes.nodes.ok.0, c.drain.auto.nodes))
+drained : (g : Over) (c : In_ok-drain g) → take c.in_ok-nodes.nodes.len (c.drain.new.nodes ++ drop (length c.drain.new.nodes) c.in_ok-nodes.nodes.items) ≡ c.drain.new.nodes
+drained g c = take_at c.drain.new.nodes _ c.in_ok-nodes.nodes.len (omega (arith, c.in_ok-nodes.nodes.ok.0, c.drain.auto.nodes))
 
 pub gather-requires-clause-in_turn : goal.gather-requires-clause-in_turn
-gather-requires-clause-in_turn c = subst (AreInTurn 0) (sym (drained c)) (AreInTurn-running c.args.facts.now c.drain.new.nodes c.in_ok-drain.ensures.running)
+gather-requires-clause-in_turn g c = subst (AreInTurn 0) (sym (drained g c)) (AreInTurn-running c.args.script.now.facts c.drain.new.nodes c.in_ok-drain.ensures.running)
 
 pub gather-requires-clause-room : goal.gather-requires-clause-room
-gather-requires-clause-room c = subst (λ nodes. sum_by waits nodes < 2 ^ 64) (sym (drained c)) (few_waiting c.args.facts.now c.drain.new.nodes c.requires.limits c.in_ok-drain.ensures.running)
+gather-requires-clause-room g c = subst (λ nodes. sum_by waits nodes < 2 ^ 64) (sym (drained g c)) (few_waiting c.args.script.now.facts c.drain.new.nodes c.requires.limits c.in_ok-drain.ensures.running)
 
-pub returns : goal.returns
-returns c =
-    let is = drained (goal.at.returns c).In_ok-drain in
-    IfOk-weaker c.gather.result _ _
-    (λ l g. run_of-gathered c.args.facts.now c.drain.new.nodes l c.requires.limits c.in_ok-drain.ensures.running c.in_ok-drain.ensures.idle (subst (λ nodes. IsGathered nodes l) is g)) c.gather.ensures
+-- and its oracles
+asked : (g : Over) (c : In_ok-drain g) → take c.in_ok-oracles.oracles.len (c.drain.new.oracles ++ drop (length c.drain.new.oracles) c.in_ok-oracles.oracles.items) ≡ c.drain.new.oracles
+asked g c = take_at c.drain.new.oracles _ c.in_ok-oracles.oracles.len (omega (arith, c.in_ok-oracles.oracles.ok.0, c.drain.auto.oracles))
+
+pub returns-clause-ran : goal.returns-clause-ran
+returns-clause-ran g c =
+    run_of-gathered c.args.script.now.facts c.drain.new.nodes c.in_ok-lines.lines c.requires.limits c.in_ok-drain.ensures.running c.in_ok-drain.ensures.idle
+    (subst (λ nodes. IsGathered nodes c.in_ok-lines.lines) (drained g (goal.at.returns-clause-ran g c).In_ok-drain) c.in_ok-lines.ensures)
+
+pub returns-clause-kept : goal.returns-clause-kept
+returns-clause-kept g c =
+    kept_gathered _ (g.W.World.kept c.keep.new.world) c.args.script.now.facts c.drain.new.nodes c.drain.new.oracles c.in_ok-lines.lines c.in_ok-drain.ensures.running.width c.in_ok-drain.ensures.asked
+    (subst (λ nodes. IsGathered nodes c.in_ok-lines.lines) (drained g (goal.at.returns-clause-kept g c).In_ok-drain) c.in_ok-lines.ensures)
+    (subst (λ oracles. (v : ℕ) (e : _) → v < length oracles → g.W.World.kept c.keep.new.world v ≡ Some (slice_index_or oracles v e)) (asked g (goal.at.returns-clause-kept g c).In_ok-drain) c.keep.ensures)

@@ -1,0 +1,41 @@
+-- What an oracle in memory tells, as it answers once more; and a list of oracles, as one more is kept.
+use Rattle.std.proofs.Common.{◌≡◌, ℕ, zero, suc, ◌+◌, ◌-◌, ◌<◌, ◌^◌, min, List, [], ◌∷◌, ◌++◌, drop, slice_index_or, Bool, true, false, nat_lt, if◌then◌else◌, Some, None, refl, ap, ◌∙◌, arith}
+use Rattle.std.specs.List.{range_with_len}
+use Rattle.std.proofs.lemmas.Bool.{false≢true}
+use Rattle.std.proofs.lemmas.Bool.Decides.{nat_tests}
+use Rattle.ken_app.specs.Oracles.{Answers}
+use Rattle.ken_tool.specs.Oracles.{told}
+
+told_by : (a b : Bool) (xs ys more : List ℕ) → (b ≡ true → a ≡ true) → (b ≡ true → ys ≡ xs ++ more) → Answers (if a then Some xs else None) (if b then Some ys else None) more
+told_by a false xs ys more still grown = tt
+told_by true true xs ys more still grown = grown refl
+told_by false true xs ys more still grown = absurd (false≢true (still refl))
+
+is_less : (a b : ℕ) → nat_lt a b ≡ true → a < b
+is_less a b test = grind (arith, nat_tests)
+
+test_less : (a b : ℕ) → a < b → nat_lt a b ≡ true
+test_less a b less = grind (arith, nat_tests)
+
+-- a list that is told grows by one answer
+pub told_next : (before now : ℕ) (xs ys more : List ℕ) → now ≡ min (before + 1) (2 ^ 64 - 1) → (now < 2 ^ 64 - 1 → ys ≡ xs ++ more) → Answers (told before xs) (told now ys) more
+told_next before now xs ys more next grown =
+    told_by (nat_lt before (2 ^ 64 - 1)) (nat_lt now (2 ^ 64 - 1)) xs ys more
+    (λ test. test_less before (2 ^ 64 - 1) (omega (arith, is_less now (2 ^ 64 - 1) test, next)))
+    (λ test. grown (is_less now (2 ^ 64 - 1) test))
+
+-- numbers from a on, and one more
+pub range-push : (a n : ℕ) → range_with_len a (suc n) ≡ range_with_len a n ++ (a + n) ∷ []
+range-push a zero = ap (λ k. k ∷ []) (omega arith)
+range-push a (suc n) = let last : a + 1 + n ≡ a + suc n = omega arith in ap (λ l. a ∷ l) (range-push (a + 1) n ∙ ap (λ k. range_with_len (a + 1) n ++ k ∷ []) last)
+
+-- the first of what is left of a list
+pub record IsNextOf {A : Type 0} (n : ℕ) (xs : List A) (y : A) (ys : List A) : Type 0 where
+  pub rest : drop (suc n) xs ≡ ys
+  pub item : (e : A) → slice_index_or xs n e ≡ y
+
+pub next_of : {A : Type 0} (n : ℕ) (xs : List A) (y : A) (ys : List A) → drop n xs ≡ y ∷ ys → IsNextOf n xs y ys
+next_of zero [] y ys left = absurd cc
+next_of zero (x ∷ xs) y ys left = record { rest = cc; item = λ e. cc }
+next_of (suc n) [] y ys left = absurd cc
+next_of (suc n) (x ∷ xs) y ys left = let next = next_of n xs y ys left in record { rest = next.rest; item = next.item }
