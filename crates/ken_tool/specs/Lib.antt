@@ -4,7 +4,5 @@ pub mod Running
 pub mod Drive
 pub mod Timeline
 pub mod Ended
-pub mod Words
-pub mod Printing
 pub mod Headline
 pub mod Statuses

@@ -6,7 +6,6 @@ mod drive;
 mod ended;
 mod handler;
 mod node;
-mod print;
 mod status;
 mod timeline;
 mod tool;
