@@ -11,8 +11,6 @@ mod Emitted
 mod Printable
 mod Finished
 mod Inserted
-mod Words
-mod Printing
 mod Senders
 mod Waiting
 mod InTurn

@@ -6,7 +6,5 @@ pub mod Draws
 pub mod Oracles
 pub mod Timeline
 pub mod Ended
-pub mod Words
-pub mod Printing
 pub mod Headline
 pub mod Statuses

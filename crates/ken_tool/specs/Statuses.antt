@@ -4,10 +4,10 @@ use Rattle.ken_io.specs.declared.faults.ReadFault.{ReadFault}
 use Rattle.ken_io.specs.declared.faults.ReadFault.TheVariants as reading
 use Rattle.ken_model.specs.declared.reports.Ending.{Ending}
 use Rattle.ken_model.specs.declared.reports.Ending.TheVariants as ending
+use Rattle.ken_report.specs.declared.faults.ReportFault.{ReportFault}
+use Rattle.ken_report.specs.declared.faults.ReportFault.TheVariants as printing
 use Rattle.ken_script.specs.declared.faults.ScriptFault.{ScriptFault}
 use Rattle.ken_script.specs.declared.faults.ScriptFault.TheVariants as script
-use Rattle.ken_tool.specs.declared.print.ReportFault.{ReportFault}
-use Rattle.ken_tool.specs.declared.print.ReportFault.TheVariants as printing
 use Rattle.ken_tool.specs.declared.status.Status.{Status}
 use Rattle.ken_tool.specs.declared.status.Status.TheVariants.{Settled, Usage, Script, Cut, Read, Write, Memory}
 

@@ -5,7 +5,6 @@
 mod drive;
 mod ended;
 mod node;
-mod print;
 mod status;
 mod timeline;
 mod tool;

@@ -1,7 +1,7 @@
 // How the program ends.
-use crate::print::ReportFault;
 use ken_io::ReadFault;
 use ken_model::Ending;
+use ken_report::ReportFault;
 use ken_script::ScriptFault;
 use std::alloc::AllocError;
 use std::fmt;

@@ -7,11 +7,12 @@ ghost use Rattle.ken_tool.specs.Headline.{are_plain, Ran, IsQuiet, IsComplete, I
 #[cfg(test)]
 mod tests;
 
+use crate::drive;
 use crate::status::Status;
 use crate::world::World;
-use crate::{drive, print};
 use ken_io::{Sink, Source, read_all};
 use ken_model::Lines;
+use ken_report::print;
 use ken_script::LIMIT;
 use std::alloc::Global;
 
@@ -87,7 +88,7 @@ fn written<K: Sink>(alloc: Global, sink: &mut K, lines: &Lines) -> Status
     ensures no_failed_write { result ≢ Status.Write → K.faults sink.new ≡ K.faults sink.old }
     ensures faults { K.faults sink.old ≤ K.faults sink.new }
 {
-    match print::print(alloc, sink, lines) {
+    match print(alloc, sink, lines) {
         Ok(()) => Status::from(lines.ending),
         Err(fault) => Status::from(fault),
     }

@@ -2,7 +2,7 @@
 ghost use Rattle.std.specs.Prelude.{◌≡◌, ◌++◌, map, IfOk, OnOk};
 ghost use Rattle.std.specs.List.{join_with_byte};
 ghost use Rattle.ken_model.specs.Report.{line, draws_word, block_word, turn_words, emit_words, restart_words, heap_words};
-ghost use Rattle.ken_tool.specs.Words.{spelled};
+ghost use Rattle.ken_report.specs.Words.{spelled};
 
 use ken_model::{Block, Emission, OUTSIDE, RestartLine, TurnLine, Value};
 use ken_num::put_decimal;

@@ -3,54 +3,17 @@ ghost use Rattle.std.specs.Prelude.{◌≡◌, map, length, OnOk, OnErr};
 ghost use Rattle.std.specs.Io.KnownBytes.{Appends};
 ghost use Rattle.ken_io.specs.Transfers.{AppendsFront};
 ghost use Rattle.ken_model.specs.Report.{line, end_words, text};
-ghost use Rattle.ken_tool.specs.Printing.{HasReportCause};
-ghost use Rattle.ken_tool.specs.Words.{spelled};
+ghost use Rattle.ken_report.specs.Printing.{HasReportCause};
+ghost use Rattle.ken_report.specs.Words.{spelled};
 
-#[cfg(test)]
-mod tests;
-mod words;
-
-use ken_io::{Failed, Sink, write_all};
+use crate::ReportFault;
+use crate::words::{Word, emit_words, heap_words, put_line, restart_words, turn_words};
+use ken_io::{Sink, write_all};
 use ken_model::{Ending, Lines};
-use std::alloc::{AllocError, Global};
-use thiserror::Error;
-use words::{Word, emit_words, heap_words, put_line, restart_words, turn_words};
-
-/// Why a report isn't printed whole.
-#[derive(Clone, Copy, Debug, PartialEq, Eq, Error)]
-pub(crate) enum ReportFault {
-    /// A call of the sink failed.
-    #[error("a write failed")]
-    Failed,
-    /// There wasn't memory for a line.
-    #[error("out of memory")]
-    Memory,
-}
-
-impl From<Failed> for ReportFault {
-    ghost use Rattle.std.specs.Prelude.{◌≡◌};
-    ghost use Rattle.ken_tool.specs.declared.print.ReportFault.TheVariants.{Failed};
-
-    ghost from_gives = { λ _ e. e ≡ Failed };
-
-    fn from(_: Failed) -> Self {
-        ReportFault::Failed
-    }
-}
-
-impl From<AllocError> for ReportFault {
-    ghost use Rattle.std.specs.Prelude.{◌≡◌};
-    ghost use Rattle.ken_tool.specs.declared.print.ReportFault.TheVariants.{Memory};
-
-    ghost from_gives = { λ _ e. e ≡ Memory };
-
-    fn from(_: AllocError) -> Self {
-        ReportFault::Memory
-    }
-}
+use std::alloc::Global;
 
 /// Prints a report, by one transfer a line. After an error a front of its text is out.
-pub(crate) fn print<K: Sink>(alloc: Global, sink: &mut K, lines: &Lines) -> Result<(), ReportFault>
+pub fn print<K: Sink>(alloc: Global, sink: &mut K, lines: &Lines) -> Result<(), ReportFault>
     ensures written { OnOk result (Appends (K.took sink.old) (K.took sink.new) (text lines.now)) }
     ensures front { OnErr result (AppendsFront (K.took sink.old) (K.took sink.new) (text lines.now)) }
     ensures cause { HasReportCause (K.faults sink.old) (K.faults sink.new) result }

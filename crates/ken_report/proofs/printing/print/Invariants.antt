@@ -1,7 +1,7 @@
 use Rattle.std.proofs.Common.{◌≡◌, ◌++◌, flat_map, length}
 use Rattle.ken_model.specs.Report.{turn_words, emit_words, restart_words, heap_words, end_words, line, closing, text}
-use Rattle.ken_tool.proofs.Printing.{IsPrintedTo}
-use Rattle.ken_tool.proofs.print.print.Given as goal
+use Rattle.ken_report.proofs.Printed.{IsPrintedTo}
+use Rattle.ken_report.proofs.printing.print.Given as goal
 
 abbrev pub invariant-loop-turn : goal.invariant-loop-turn
 invariant-loop-turn g l = record {

@@ -1,8 +1,8 @@
 use Rattle.std.proofs.Common.{◌∙◌, OnErr, Result, Ok, Err, refl}
 use Rattle.std.proofs.lemmas.Result.{on_ok_weaker, on_err_weaker}
 use Rattle.ken_model.specs.Report.{turn_words, emit_words, restart_words, line, closing, text}
-use Rattle.ken_tool.proofs.Printing.{IsPrintedTo-start, IsPrintedTo-more, IsPrintedTo-next, IsPrintedTo-fault, IsPrintedTo-end, IsPrintedTo-end_fault, flat_map-lines, heap_lines-lines}
-use Rattle.ken_tool.proofs.print.print.Goals as goal
+use Rattle.ken_report.proofs.Printed.{IsPrintedTo-start, IsPrintedTo-more, IsPrintedTo-next, IsPrintedTo-fault, IsPrintedTo-end, IsPrintedTo-end_fault, flat_map-lines, heap_lines-lines}
+use Rattle.ken_report.proofs.printing.print.Goals as goal
 
 on_err : {T E P : Type 0} (r : Result T E) → P → OnErr r P
 on_err (Ok x) p = tt

@@ -1,7 +1,7 @@
 use Rattle.std.proofs.Common.{map, ap, ◌∙◌, ◌++◌}
-use Rattle.ken_tool.specs.Words.{spelled}
-use Rattle.ken_tool.proofs.Words.{following, append-join_with_byte}
-use Rattle.ken_tool.proofs.print.words.put_words.Goals as goal
+use Rattle.ken_report.specs.Words.{spelled}
+use Rattle.ken_report.proofs.Joined.{following, append-join_with_byte}
+use Rattle.ken_report.proofs.words.put_words.Goals as goal
 
 pub loop-word-init : goal.loop-word-init
 loop-word-init c =

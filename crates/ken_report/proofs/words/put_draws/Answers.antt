@@ -1,6 +1,6 @@
 use Rattle.std.proofs.Common.{map, decimal}
-use Rattle.ken_tool.proofs.Words.{append-join_with_byte}
-use Rattle.ken_tool.proofs.print.words.put_draws.Goals as goal
+use Rattle.ken_report.proofs.Joined.{append-join_with_byte}
+use Rattle.ken_report.proofs.words.put_draws.Goals as goal
 
 pub loop-draw-init : goal.loop-draw-init
 loop-draw-init c =

@@ -1,8 +1,8 @@
 -- What a word of a printed line spells.
 use Rattle.std.specs.Prelude.{ℕ, List, decimal}
 use Rattle.ken_model.specs.Report.{sender_word, draws_word, block_word}
-use Rattle.ken_tool.specs.declared.print.words.Word.{Word}
-use Rattle.ken_tool.specs.declared.print.words.Word.TheVariants.{Text, Number, Sender, Draws, Block}
+use Rattle.ken_report.specs.declared.words.Word.{Word}
+use Rattle.ken_report.specs.declared.words.Word.TheVariants.{Text, Number, Sender, Draws, Block}
 
 abbrev pub spelled : Word → List ℕ
 spelled (Text text) = text.now

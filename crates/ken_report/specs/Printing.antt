@@ -1,8 +1,8 @@
 -- Why a report wasn't printed whole.
 use Rattle.std.specs.Prelude.{◌≡◌, ℕ, ◌≤◌, Result, OnOk, IsErrOf}
 use Rattle.ken_io.specs.Causes.{Rose}
-use Rattle.ken_tool.specs.declared.print.ReportFault.{ReportFault}
-use Rattle.ken_tool.specs.declared.print.ReportFault.TheVariants.{Failed, Memory}
+use Rattle.ken_report.specs.declared.faults.ReportFault.{ReportFault}
+use Rattle.ken_report.specs.declared.faults.ReportFault.TheVariants.{Failed, Memory}
 
 -- printing says that it failed only where the sink's count rose, and passes no fault over
 pub record HasReportCause (before now : ℕ) (result : Result (Unit {0}) ReportFault) : Type 0 where

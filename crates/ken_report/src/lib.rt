@@ -1,0 +1,11 @@
+//! The printing of reports: the lines of a run's report as text, by one transfer a line.
+#![tactic(auto)]
+
+mod faults;
+mod printing;
+#[cfg(test)]
+mod tests;
+mod words;
+
+pub use faults::ReportFault;
+pub use printing::print;
