@@ -3,6 +3,7 @@ ghost use Rattle.std.specs.Prelude.{None};
 use crate::KindApp;
 use ken_app::{Oracle, take_turn};
 use ken_model::{Items, Kind, MAX_TEXT, Message, OUTSIDE, Octets, Value};
+use std::process::Abort;
 use std::test::Fail;
 
 // Tells nothing. It answers with the same reading and the same word, and counts how often.
@@ -29,7 +30,7 @@ impl Oracle for Fixed {
     }
 }
 
-// A turn, and what it is to come to.
+// A turn of one of three nodes, and what it is to come to.
 #[derive(Clone, Copy)]
 struct Case<'a> {
     kind: Kind,
@@ -45,128 +46,127 @@ struct Case<'a> {
     draws: &'a [u64],
 }
 
-#[test]
-fn each_kind_makes_its_turn(rt: HostRuntime) -> Result<(), Fail> {
-    let letters = [b'x'; 512];
-    let ring = Case {
-        kind: Kind::Ring,
-        node: 2,
-        root: 5,
-        payload: b"2",
-        reading: 1,
-        word: 167_951_807,
-        root_then: 6,
-        sent: Some((0, b"1")),
-        out: b"2",
-        draws: &[],
+// Makes the turn, and compares.
+fn try_case(rt: &(impl Abort + AllocGlobal), case: &Case<'_>) -> Result<(), Fail> {
+    let message = Message {
+        from: OUTSIDE,
+        to: case.node,
+        number: 1,
+        stamp: 0,
+        bytes: Octets::new(Vec::from_slice(rt.alloc(), case.payload)?),
     };
-    let mix = Case {
-        kind: Kind::Mix,
-        root_then: 1,
-        sent: Some((2, b"1")),
-        out: b"807",
-        draws: &[1, 167_951_807],
-        ..ring
+    let mut objects = Value {
+        size: 4096,
+        root: case.root,
+        blocks: Items::new(Vec::new(rt.alloc())),
     };
-    let cases = [
-        ring,
-        Case {
-            node: 0,
-            payload: b"10",
-            sent: Some((1, b"9")),
-            out: b"10",
-            ..ring
-        },
-        Case {
-            payload: b"0",
-            sent: None,
-            out: b"0",
-            ..ring
-        },
-        Case {
-            root: u64::MAX,
-            root_then: 0,
-            ..ring
-        },
-        bad(ring, b"x"),
-        bad(ring, b"01"),
-        bad(ring, &letters),
-        mix,
-        Case {
-            payload: b"0",
-            sent: None,
-            ..mix
-        },
-        Case {
-            payload: b"3",
-            reading: u64::MAX,
-            word: 7,
-            root_then: u64::MAX,
-            sent: Some((1, b"2")),
-            out: b"7",
-            draws: &[u64::MAX, 7],
-            ..mix
-        },
-        bad(mix, b"x"),
-        bad(mix, b""),
-        bad(mix, &letters),
-    ];
-    for (index, case) in cases.iter().enumerate() {
-        let message = Message {
-            from: OUTSIDE,
-            to: case.node,
-            number: 1,
-            stamp: 0,
-            bytes: Octets::new(Vec::from_slice(rt.alloc(), case.payload)?),
-        };
-        let mut objects = Value {
-            size: 4096,
-            root: case.root,
-            blocks: Items::new(Vec::new(rt.alloc())),
-        };
-        let mut oracle = Fixed {
-            reading: case.reading,
-            word: case.word,
-            asked: 0,
-        };
-        assert!(rt; case.node < 3 && case.payload.len() <= MAX_TEXT, "case {index}");
-        let app = KindApp(case.kind);
-        let made = take_turn(
-            rt.alloc(),
-            &app,
-            case.node,
-            3,
-            &message,
-            &mut objects,
-            &mut oracle,
-        )?;
-        assert_eq!(rt; objects.root, case.root_then, "case {index}");
-        assert_eq!(rt; (objects.size, objects.blocks.len()), (4096, 0), "case {index}");
-        assert_eq!(rt; made.draws.as_slice(), case.draws, "case {index}");
-        assert_eq!(rt; oracle.asked, case.draws.len() as u64, "case {index}");
-        let sent = match made.sends.as_slice() {
-            [] => None,
-            [send, ..] => Some((send.to, send.bytes.as_slice())),
-        };
-        assert_eq!(rt; sent, case.sent, "case {index}");
-        assert!(rt; made.sends.len() <= 1, "case {index}");
-        let out = match made.outs.as_slice() {
-            [out] => out.as_slice(),
-            _ => b"",
-        };
-        assert_eq!(rt; out, case.out, "case {index}");
+    let mut oracle = Fixed {
+        reading: case.reading,
+        word: case.word,
+        asked: 0,
+    };
+    assert!(rt; case.node < 3 && case.payload.len() <= MAX_TEXT);
+    let app = KindApp(case.kind);
+    let made = take_turn(
+        rt.alloc(),
+        &app,
+        case.node,
+        3,
+        &message,
+        &mut objects,
+        &mut oracle,
+    )?;
+    assert_eq!(rt; objects.root, case.root_then);
+    assert_eq!(rt; (objects.size, objects.blocks.len()), (4096, 0));
+    assert_eq!(rt; made.draws.as_slice(), case.draws);
+    assert_eq!(rt; oracle.asked, case.draws.len() as u64);
+    match (made.sends.as_slice(), case.sent) {
+        ([], None) => {}
+        ([send], Some(want)) => assert_eq!(rt; (send.to, send.bytes.as_slice()), want),
+        _ => assert!(rt; false, "other messages"),
+    }
+    assert_eq!(rt; made.outs.len(), 1);
+    for out in &made.outs {
+        assert_eq!(rt; out.as_slice(), case.out);
     }
     Ok(())
 }
 
-// The turn for a payload that no kind knows.
-fn bad<'a>(case: Case<'a>, payload: &'a [u8]) -> Case<'a> {
+// A turn of node 2 with a root of 5, where the clock reads 1 and the word is the first of a generator in the state 0.
+fn make_case<'a>(
+    kind: Kind,
+    payload: &'a [u8],
+    root_then: u64,
+    sent: Option<(u8, &'a [u8])>,
+    out: &'a [u8],
+    draws: &'a [u64],
+) -> Case<'a> {
     Case {
+        kind,
+        node: 2,
+        root: 5,
         payload,
-        root_then: case.root,
-        sent: None,
-        out: b"bad",
-        draws: &[],
-        ..case
+        reading: 1,
+        word: 167_951_807,
+        root_then,
+        sent,
+        out,
+        draws,
     }
+}
+
+// Such a turn for a payload that no kind knows.
+fn bad<'a>(kind: Kind, payload: &'a [u8]) -> Case<'a> {
+    make_case(kind, payload, 5, None, b"bad", &[])
+}
+
+#[test]
+fn ring_sends_a_count_to_the_next_node(rt: HostRuntime) -> Result<(), Fail> {
+    let letters = [b'x'; 512];
+    let last = make_case(Kind::Ring, b"2", 6, Some((0, b"1")), b"2", &[]);
+    let cases = [
+        last,
+        Case {
+            node: 0,
+            sent: Some((1, b"1")),
+            ..last
+        },
+        Case {
+            root: u64::MAX,
+            root_then: 0,
+            ..last
+        },
+        make_case(Kind::Ring, b"0", 6, None, b"0", &[]),
+        make_case(Kind::Ring, b"10", 6, Some((0, b"9")), b"10", &[]),
+        bad(Kind::Ring, b"x"),
+        bad(Kind::Ring, b"01"),
+        bad(Kind::Ring, &letters),
+    ];
+    for case in &cases {
+        try_case(&rt, case)?;
+    }
+    Ok(())
+}
+
+#[test]
+fn mix_sends_a_count_where_the_word_says(rt: HostRuntime) -> Result<(), Fail> {
+    let letters = [b'x'; 512];
+    let drawn = [1, 167_951_807];
+    let three = make_case(Kind::Mix, b"3", u64::MAX, Some((1, b"2")), b"7", &[u64::MAX, 7]);
+    let cases = [
+        Case {
+            reading: u64::MAX,
+            word: 7,
+            ..three
+        },
+        make_case(Kind::Mix, b"2", 1, Some((2, b"1")), b"807", &drawn),
+        make_case(Kind::Mix, b"0", 1, None, b"807", &drawn),
+        bad(Kind::Mix, b"x"),
+        bad(Kind::Mix, b""),
+        bad(Kind::Mix, &letters),
+    ];
+    for case in &cases {
+        try_case(&rt, case)?;
+    }
+    Ok(())
 }
