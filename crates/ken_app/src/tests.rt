@@ -177,7 +177,15 @@ fn a_turn_that_is_given_up_hands_nothing_back(rt: HostRuntime) -> Result<(), Fai
     let message = message(rt.alloc(), b"ken")?;
     let mut objects = heap(rt.alloc());
     let mut oracle = Counter::default();
-    let made = take_turn(rt.alloc(), &Quitter, 2, 3, &message, &mut objects, &mut oracle);
+    let made = take_turn(
+        rt.alloc(),
+        &Quitter,
+        2,
+        3,
+        &message,
+        &mut objects,
+        &mut oracle,
+    );
     assert!(rt; made.is_err());
     assert_eq!(rt; (objects.root, oracle.clocks, oracle.words), (9, 1, 0));
     Ok(())
@@ -202,6 +210,9 @@ fn faults_have_their_texts(rt: HostRuntime) -> Result<(), Fail> {
     for (fault, want) in outputs {
         assert_eq!(rt; format!(in rt.alloc(); "{fault}")?.as_str(), want);
     }
-    assert_eq!(rt; format!(in rt.alloc(); "{NoDraw}")?.as_str(), "no draw is left");
+    assert_eq!(rt;
+        format!(in rt.alloc(); "{NoDraw}")?.as_str(),
+        "no draw is left"
+    );
     Ok(())
 }

@@ -152,7 +152,14 @@ fn ring_sends_a_count_to_the_next_node(rt: HostRuntime) -> Result<(), Fail> {
 fn mix_sends_a_count_where_the_word_says(rt: HostRuntime) -> Result<(), Fail> {
     let letters = [b'x'; 512];
     let drawn = [1, 167_951_807];
-    let three = make_case(Kind::Mix, b"3", u64::MAX, Some((1, b"2")), b"7", &[u64::MAX, 7]);
+    let three = make_case(
+        Kind::Mix,
+        b"3",
+        u64::MAX,
+        Some((1, b"2")),
+        b"7",
+        &[u64::MAX, 7],
+    );
     let cases = [
         Case {
             reading: u64::MAX,
