@@ -5,5 +5,7 @@ mod answers;
 mod kind_app;
 mod mix;
 mod ring;
+#[cfg(test)]
+mod tests;
 
 pub use kind_app::KindApp;

@@ -1,5 +1,5 @@
 -- The answers of a generator, as it gives one more.
-use Rattle.std.proofs.Common.{◌≡◌, ℕ, zero, suc, List, [], ◌∷◌, ◌++◌, refl, ap}
+use Rattle.std.proofs.Common.{◌≡◌, ℕ, zero, suc, [], ◌∷◌, ◌++◌, refl, ap}
 use Rattle.ken_num.specs.Generator.{next_state, answer_of, answers, state_after}
 
 pub answers-push : (k x : ℕ) → answers (suc k) x ≡ answers k x ++ answer_of (next_state (state_after k x)) ∷ []

@@ -38,10 +38,7 @@ impl Lcg {
         ensures state { self.new ≡ next_state self.old }
         ensures answer { result ≡ answer_of self.new }
     {
-        self.state = self
-            .state
-            .wrapping_mul(MULTIPLIER)
-            .wrapping_add(INCREMENT);
+        self.state = self.state.wrapping_mul(MULTIPLIER).wrapping_add(INCREMENT);
         self.state >> LOW_BITS
     }
 }

@@ -1,0 +1,179 @@
+ghost use Rattle.std.specs.Prelude.{None};
+
+use crate::KindApp;
+use ken_app::{Oracle, take_turn};
+use ken_model::{Items, Kind, MAX_TEXT, Message, OUTSIDE, Octets, Value};
+use std::process::Abort;
+use std::test::Fail;
+
+// Tells nothing. It answers with the same reading and the same word, and counts how often.
+#[derive(Debug, Drop)]
+struct Fixed {
+    reading: u64,
+    word: u64,
+    asked: u64,
+}
+
+impl Oracle for Fixed {
+    ghost clocks = { λ _. None };
+
+    ghost words = { λ _. None };
+
+    fn clock(&mut self) -> u64 {
+        self.asked = self.asked.wrapping_add(1);
+        self.reading
+    }
+
+    fn word(&mut self) -> u64 {
+        self.asked = self.asked.wrapping_add(1);
+        self.word
+    }
+}
+
+// A turn of one of three nodes, and what it is to come to.
+#[derive(Clone, Copy)]
+struct Case<'a> {
+    kind: Kind,
+    node: u8,
+    root: u64,
+    payload: &'a [u8],
+    // What the oracle answers.
+    reading: u64,
+    word: u64,
+    root_then: u64,
+    sent: Option<(u8, &'a [u8])>,
+    out: &'a [u8],
+    draws: &'a [u64],
+}
+
+// Makes the turn, and compares.
+fn try_case(rt: &(impl Abort + AllocGlobal), case: &Case<'_>) -> Result<(), Fail> {
+    let message = Message {
+        from: OUTSIDE,
+        to: case.node,
+        number: 1,
+        stamp: 0,
+        bytes: Octets::new(Vec::from_slice(rt.alloc(), case.payload)?),
+    };
+    let mut objects = Value {
+        size: 4096,
+        root: case.root,
+        blocks: Items::new(Vec::new(rt.alloc())),
+    };
+    let mut oracle = Fixed {
+        reading: case.reading,
+        word: case.word,
+        asked: 0,
+    };
+    assert!(rt; case.node < 3 && case.payload.len() <= MAX_TEXT);
+    let app = KindApp(case.kind);
+    let made = take_turn(
+        rt.alloc(),
+        &app,
+        case.node,
+        3,
+        &message,
+        &mut objects,
+        &mut oracle,
+    )?;
+    assert_eq!(rt; objects.root, case.root_then);
+    assert_eq!(rt; (objects.size, objects.blocks.len()), (4096, 0));
+    assert_eq!(rt; made.draws.as_slice(), case.draws);
+    assert_eq!(rt; oracle.asked, case.draws.len() as u64);
+    match (made.sends.as_slice(), case.sent) {
+        ([], None) => {}
+        ([send], Some(want)) => assert_eq!(rt; (send.to, send.bytes.as_slice()), want),
+        _ => assert!(rt; false, "other messages"),
+    }
+    assert_eq!(rt; made.outs.len(), 1);
+    for out in &made.outs {
+        assert_eq!(rt; out.as_slice(), case.out);
+    }
+    Ok(())
+}
+
+// A turn of node 2 with a root of 5, where the clock reads 1 and the word is the first of a generator in the state 0.
+fn make_case<'a>(
+    kind: Kind,
+    payload: &'a [u8],
+    root_then: u64,
+    sent: Option<(u8, &'a [u8])>,
+    out: &'a [u8],
+    draws: &'a [u64],
+) -> Case<'a> {
+    Case {
+        kind,
+        node: 2,
+        root: 5,
+        payload,
+        reading: 1,
+        word: 167_951_807,
+        root_then,
+        sent,
+        out,
+        draws,
+    }
+}
+
+// Such a turn for a payload that no kind knows.
+fn bad<'a>(kind: Kind, payload: &'a [u8]) -> Case<'a> {
+    make_case(kind, payload, 5, None, b"bad", &[])
+}
+
+#[test]
+fn ring_sends_a_count_to_the_next_node(rt: HostRuntime) -> Result<(), Fail> {
+    let letters = [b'x'; 512];
+    let last = make_case(Kind::Ring, b"2", 6, Some((0, b"1")), b"2", &[]);
+    let cases = [
+        last,
+        Case {
+            node: 0,
+            sent: Some((1, b"1")),
+            ..last
+        },
+        Case {
+            root: u64::MAX,
+            root_then: 0,
+            ..last
+        },
+        make_case(Kind::Ring, b"0", 6, None, b"0", &[]),
+        make_case(Kind::Ring, b"10", 6, Some((0, b"9")), b"10", &[]),
+        bad(Kind::Ring, b"x"),
+        bad(Kind::Ring, b"01"),
+        bad(Kind::Ring, &letters),
+    ];
+    for case in &cases {
+        try_case(&rt, case)?;
+    }
+    Ok(())
+}
+
+#[test]
+fn mix_sends_a_count_where_the_word_says(rt: HostRuntime) -> Result<(), Fail> {
+    let letters = [b'x'; 512];
+    let drawn = [1, 167_951_807];
+    let three = make_case(
+        Kind::Mix,
+        b"3",
+        u64::MAX,
+        Some((1, b"2")),
+        b"7",
+        &[u64::MAX, 7],
+    );
+    let cases = [
+        Case {
+            reading: u64::MAX,
+            word: 7,
+            ..three
+        },
+        make_case(Kind::Mix, b"2", 1, Some((2, b"1")), b"807", &drawn),
+        make_case(Kind::Mix, b"0", 1, None, b"807", &drawn),
+        bad(Kind::Mix, b"x"),
+        bad(Kind::Mix, b""),
+        bad(Kind::Mix, &letters),
+    ];
+    for case in &cases {
+        try_case(&rt, case)?;
+    }
+    Ok(())
+}
