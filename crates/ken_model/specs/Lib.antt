@@ -1,5 +1,8 @@
 pub mod Handler
 pub mod Network
+pub mod Actors
+pub mod Tasks
+pub mod Held
 pub mod Schedule
 pub mod Facts
 pub mod History

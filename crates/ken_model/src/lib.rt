@@ -3,10 +3,12 @@
 #![tactic(auto)]
 
 mod facts;
+mod handler;
 mod kinds;
 mod laws;
 mod lists;
 mod messages;
+mod node;
 mod reports;
 #[cfg(test)]
 mod tests;
@@ -16,6 +18,6 @@ pub use facts::{Facts, Input, MAX_INPUTS, MAX_NODES, MAX_PAGES, MAX_TEXT, MAX_TU
 pub use kinds::Kind;
 pub use laws::{agreement_is_legal, report_spells_its_run};
 pub use lists::{Items, Octets};
-pub use messages::{Message, OUTSIDE, Out, Send, Step};
+pub use messages::{Done, Message, OUTSIDE, Out, Send, Step};
 pub use reports::{Emission, Ending, Lines, RestartLine, TurnLine};
 pub use values::{Block, Value};
