@@ -8,3 +8,4 @@ pub mod Elements
 pub mod Turns
 pub mod Shows
 pub mod Agreement
+pub mod Posting

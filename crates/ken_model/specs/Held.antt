@@ -1,6 +1,6 @@
 -- How a program holds the network: each node with what it has sent, and how much of what was sent to it it has taken.
 use Rattle.std.specs.Prelude.{◌≡◌, ℕ, ◌+◌, ◌<◌, ◌≤◌, List, [], ◌∷◌, ◌++◌, length, map, sum_by, slice_index_or, ◌==◌, if◌then◌else◌}
-use Rattle.std.specs.List.{AllByRecursion}
+use Rattle.std.specs.List.{All}
 use Rattle.ken_model.specs.declared.values.Value.{Value}
 use Rattle.ken_model.specs.declared.messages.Message.{Message}
 use Rattle.ken_model.specs.declared.messages.Send.{Send}
@@ -57,8 +57,8 @@ network_of f hs = record {
 -- no stamp in it is more than t
 pub record AreEarly (t : ℕ) (h : Held) : Type 0 where
   pub stamp : h.place.stamp ≤ t
-  pub sent : (w : ℕ) → AllByRecursion (λ (m : Message). m.stamp ≤ t) (sent_to h w)
-  pub inputs : AllByRecursion (λ (m : Message). m.stamp ≤ t) h.inputs
+  pub sent : (w : ℕ) → All (λ (m : Message). m.stamp ≤ t) (sent_to h w)
+  pub inputs : All (λ (m : Message). m.stamp ≤ t) h.inputs
 
 -- a node of the run: it has a list and a count for each node
 pub record IsOfRun (f : Facts) (h : Held) : Type 0 where
@@ -73,8 +73,8 @@ turns_made hs = sum_by (λ h. h.place.turns) hs
 pub record AreNodes (f : Facts) (hs : List Held) : Type 0 where
   pub limits : IsWithinLimits f
   pub width : length hs ≡ f.nodes
-  pub each : AllByRecursion (IsOfRun f) hs
-  pub early : AllByRecursion (AreEarly (turns_made hs)) hs
+  pub each : All (IsOfRun f) hs
+  pub early : All (AreEarly (turns_made hs)) hs
 
 -- node v made a turn with that stamp, and has a new root: its sends and outputs come after those before
 pub record IsMade (v from stamp root : ℕ) (sends : List Send) (outs : List (List ℕ)) (old new : Held) (made : Made) : Type 0 where

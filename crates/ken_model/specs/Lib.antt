@@ -3,6 +3,7 @@ pub mod Network
 pub mod Actors
 pub mod Tasks
 pub mod Held
+pub mod Letters
 pub mod Schedule
 pub mod Facts
 pub mod History
