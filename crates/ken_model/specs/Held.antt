@@ -1,16 +1,11 @@
--- How a program holds the network: each node with what it has sent, and how much of what was sent to it it has taken.
-use Rattle.std.specs.Prelude.{◌≡◌, ℕ, ◌+◌, ◌<◌, ◌≤◌, List, [], ◌∷◌, ◌++◌, length, map, sum_by, slice_index_or, ◌==◌, if◌then◌else◌}
+-- The network as data: each node with what it has sent, and how much of what was sent to it it has taken.
+use Rattle.std.specs.Prelude.{◌≡◌, ℕ, ◌+◌, ◌<◌, ◌≤◌, List, [], ◌∷◌, ◌++◌, length, sum_by, slice_index_or, ◌==◌, if◌then◌else◌}
 use Rattle.std.specs.List.{All}
-use Rattle.ken_model.specs.declared.values.Value.{Value}
 use Rattle.ken_model.specs.declared.messages.Message.{Message}
-use Rattle.ken_model.specs.declared.messages.Send.{Send}
-use Rattle.ken_model.specs.declared.messages.Out.{Out}
 use Rattle.ken_model.specs.declared.facts.Facts.{Facts}
-use Rattle.ken_model.specs.declared.node.Node.{Node}
-use Rattle.ken_model.specs.declared.node.Made.{Made}
 use Rattle.ken_model.specs.Facts.{IsWithinLimits}
-use Rattle.ken_model.specs.Network.{Place, Link, Network, outside, first_place, numbered}
-use Rattle.ken_model.specs.Actors.{posted_after, outs_after}
+use Rattle.ken_model.specs.Network.{Place, Network, outside, first_place}
+use Rattle.ken_model.specs.Actors.{Playing}
 
 -- a node, what it sent to each node, how many messages of each node it took, its inputs, and how many of those it took
 pub record Held : Type 0 where
@@ -19,15 +14,6 @@ pub record Held : Type 0 where
   pub taken : List ℕ
   pub inputs : List Message
   pub inputs_taken : ℕ
-
-abbrev pub held_of : Node → Held
-held_of n = record {
-  place = record { value = n.value; stamp = n.stamp; turns = n.turns; outs = n.outs.items };
-  sent = map (λ v. v.items) n.sent.items;
-  taken = n.taken.items;
-  inputs = n.inputs.items;
-  inputs_taken = n.inputs_taken;
-}
 
 -- a node past those of the run
 abbrev pub no_node : Facts → Held
@@ -54,6 +40,15 @@ network_of f hs = record {
   };
 }
 
+-- the facts of a run, and what its nodes have come to
+pub record Game : Type 0 where
+  pub facts : Facts
+  pub nodes : List Held
+
+-- the same as a network
+abbrev pub playing_of : Game → Playing
+playing_of g = record { facts = g.facts; network = network_of g.facts g.nodes }
+
 -- no stamp in it is more than t
 pub record AreEarly (t : ℕ) (h : Held) : Type 0 where
   pub stamp : h.place.stamp ≤ t
@@ -69,19 +64,9 @@ pub record IsOfRun (f : Facts) (h : Held) : Type 0 where
 abbrev pub turns_made : List Held → ℕ
 turns_made hs = sum_by (λ h. h.place.turns) hs
 
--- what holds of the nodes of a run, whatever turns were made
-pub record AreNodes (f : Facts) (hs : List Held) : Type 0 where
-  pub limits : IsWithinLimits f
-  pub width : length hs ≡ f.nodes
-  pub each : All (IsOfRun f) hs
-  pub early : All (AreEarly (turns_made hs)) hs
-
--- node v made a turn with that stamp, and has a new root: its sends and outputs come after those before
-pub record IsMade (v from stamp root : ℕ) (sends : List Send) (outs : List (List ℕ)) (old new : Held) (made : Made) : Type 0 where
-  pub place : new.place ≡ record { value = record old.place.value { root = root }; stamp = stamp; turns = old.place.turns + 1; outs = old.place.outs ++ outs }
-  pub sent : (w : ℕ) → sent_to new w ≡ sent_to old w ++ numbered v w (length (sent_to old w)) stamp sends
-  pub taken : (u : ℕ) → taken_from new u ≡ (if u == from then taken_from old u + 1 else taken_from old u)
-  pub inputs : new.inputs ≡ old.inputs
-  pub widths : (length new.sent ≡ length old.sent) × (length new.taken ≡ length old.taken)
-  pub done_sends : made.sends.items ≡ posted_after v stamp (λ w. length (sent_to old w)) sends
-  pub done_outs : made.outs.items ≡ outs_after (length old.place.outs) outs
+-- what holds of every game, whatever turns were made
+pub record IsGame (g : Game) : Type 0 where
+  pub limits : IsWithinLimits g.facts
+  pub width : length g.nodes ≡ g.facts.nodes
+  pub each : All (IsOfRun g.facts) g.nodes
+  pub early : All (AreEarly (turns_made g.nodes)) g.nodes

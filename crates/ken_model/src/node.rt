@@ -1,13 +1,14 @@
 // A node of the abstract network, as a program holds it.
-ghost use Rattle.std.specs.Prelude.{◌≡◌, ℕ, ◌+◌, ◌<◌, ◌≤◌, ◌^◌, ◌++◌, ◌==◌, [], if◌then◌else◌, length, map, slice_index_or, vec_len, vec_capacity, IfOk, IsOk, OnOk, OnErr};
+ghost use Rattle.std.specs.Prelude.{◌≡◌, ℕ, ◌+◌, ◌<◌, ◌≤◌, ◌^◌, ◌++◌, ◌==◌, [], ◌∷◌, if◌then◌else◌, length, map, slice_index_or, vec_len, vec_capacity, IfOk, IsOk, OnOk, OnErr};
 ghost use Rattle.std.specs.List.{All};
 ghost use Rattle.ken_model.specs.Network.{numbered};
 ghost use Rattle.ken_model.specs.Actors.{posted_after, outs_after};
-ghost use Rattle.ken_model.specs.Held.{held_of, taken_from, IsMade};
+ghost use Rattle.ken_model.specs.Held.{taken_from};
+ghost use Rattle.ken_model.specs.Nodes.{held_of, new_node, input_at, IsMade};
 ghost use Rattle.ken_model.specs.Letters.{send_of, copy_of, count_at};
 
 use crate::handler::Answer;
-use crate::{Message, OUTSIDE, Octets, Out, Send, Value};
+use crate::{Input, Items, Message, OUTSIDE, Octets, Out, Send, Value};
 use std::alloc::{AllocError, Global};
 
 #[derive(Debug, Drop)]
@@ -42,6 +43,47 @@ struct Letter {
 }
 
 impl Node {
+    /// One of `nodes` nodes, with an empty heap of `size` bytes, which has made no turn and has no input.
+    pub(crate) fn new(alloc: Global, nodes: u8, size: u64) -> Result<Self, AllocError>
+        ensures { IfOk result (λ n. held_of n ≡ new_node nodes size []) }
+    {
+        let mut sent = Vec::new(alloc);
+        for _node in 0..nodes {
+            sent.push(Vec::new(alloc))?;
+        }
+        Ok(Node {
+            value: Value {
+                size,
+                root: 0,
+                blocks: Items::new(Vec::new(alloc)),
+            },
+            stamp: 0,
+            turns: 0,
+            outs: Vec::new(alloc),
+            sent,
+            taken: Vec::from_elem(alloc, 0, usize::from(nodes))?,
+            inputs: Vec::new(alloc),
+            inputs_taken: 0,
+        })
+    }
+
+    /// Puts an input with the others. After an error the node can't be used.
+    pub(crate) fn give(&mut self, alloc: Global, input: &Input) -> Result<(), AllocError>
+        ensures rest { self.new ≡ record self.old { inputs = self.new.inputs } }
+        ensures inputs { OnOk result (self.new.inputs.items ≡ self.old.inputs.items
+            ++ input_at (length self.old.inputs.items + 1) input.now ∷ []) }
+    {
+        let number = self.inputs.len() as u64 + 1;
+        self.inputs.push(Message {
+            from: OUTSIDE,
+            to: input.node,
+            number,
+            stamp: 0,
+            bytes: copied(alloc, &input.text)?,
+        })?;
+        Ok(())
+    }
+
     /// Makes the turn that takes a message of `from`. After an error nothing has changed.
     pub(crate) fn make(
         &mut self,
