@@ -1,5 +1,5 @@
 -- What the turn of one node changes in the network.
-use Rattle.std.proofs.Common.{◌≡◌, ℕ, ◌+◌, ◌*◌, ◌<◌, ◌≤◌, List, [], ◌∷◌, ◌++◌, length, slice_index_or, slice_set, Bool, true, false, ◌&&◌, ◌==◌, if◌then◌else◌, Some, refl, sym, ap, subst, ◌∙◌, ⊎_elim, arith, eq-eqb, ne_eqb}
+use Rattle.std.proofs.Common.{◌≡◌, ℕ, ◌+◌, ◌<◌, ◌≤◌, List, [], ◌∷◌, ◌++◌, length, slice_set, Bool, true, false, ◌&&◌, ◌==◌, if◌then◌else◌, Some, refl, sym, ap, subst, ◌∙◌, ⊎_elim, arith, eq-eqb, ne_eqb}
 use Rattle.std.specs.List.{All, AllByRecursion}
 use Rattle.std.proofs.lemmas.Bool.{cases_eq}
 use Rattle.std.proofs.lemmas.List.{length-set, get_or-set_same, get_or-set_other}
@@ -12,9 +12,9 @@ use Rattle.ken_model.specs.declared.messages.Done.{Done}
 use Rattle.ken_model.specs.declared.facts.Facts.{Facts}
 use Rattle.ken_model.specs.declared.node.Made.{Made}
 use Rattle.ken_model.specs.Handler.{Effect}
-use Rattle.ken_model.specs.Network.{Place, Link, Turn, outside, numbered, place_after, link_after, applied, turn_of}
+use Rattle.ken_model.specs.Network.{Place, Link, Turn, outside, numbered, place_after, applied, turn_of}
 use Rattle.ken_model.specs.Actors.{AreAlike, IsStep, posted_after, outs_after}
-use Rattle.ken_model.specs.Held.{Held, Game, held_at, no_node, sent_to, taken_from, network_of, turns_made, AreEarly, IsOfRun, IsGame, playing_of}
+use Rattle.ken_model.specs.Held.{Held, held_at, no_node, sent_to, taken_from, network_of, turns_made, AreEarly, IsOfRun, IsGame, playing_of}
 use Rattle.ken_model.specs.Nodes.{IsMade}
 use Rattle.ken_model.proofs.Posting.{posted_after-cong}
 

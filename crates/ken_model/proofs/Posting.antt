@@ -1,8 +1,7 @@
 -- What a turn sends, as it is put at the end of its links one by one.
-use Rattle.std.proofs.Common.{◌≡◌, ℕ, ◌+◌, ◌<◌, ◌≤◌, List, [], ◌∷◌, ◌++◌, length, map, slice_index_or, slice_set, true, false, ◌==◌, if◌then◌else◌, Vec, Global, vec_len, vec_capacity, refl, sym, ap, subst, ◌∙◌, ⊎_elim, arith, append_assoc, eq-eqb, ne_eqb}
-use Rattle.std.specs.List.{All}
+use Rattle.std.proofs.Common.{◌≡◌, ℕ, ◌+◌, ◌<◌, List, [], ◌∷◌, ◌++◌, length, map, slice_index_or, slice_set, true, false, ◌==◌, if◌then◌else◌, Vec, Global, refl, sym, ap, subst, ◌∙◌, ⊎_elim, append_assoc, eq-eqb, ne_eqb}
 use Rattle.std.proofs.lemmas.Bool.{cases_eq}
-use Rattle.std.proofs.lemmas.List.{length-set, length_push, length-map, map-set, get_or-map, get_or-set_same, get_or-set_other}
+use Rattle.std.proofs.lemmas.List.{length_push, map-set, get_or-map, get_or-set_same, get_or-set_other}
 use Rattle.ken_model.specs.declared.messages.Message.{Message}
 use Rattle.ken_model.specs.declared.messages.Send.{Send}
 use Rattle.ken_model.specs.Network.{numbered}

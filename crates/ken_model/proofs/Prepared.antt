@@ -1,10 +1,10 @@
 -- A step that is got ready, and a step that isn't defined.
-use Rattle.std.proofs.Common.{◌≡◌, ℕ, ◌+◌, ◌<◌, ◌≤◌, max, List, [], ◌∷◌, length, map, slice_index_or, slice_get, Bool, true, false, ◌==◌, if◌then◌else◌, nat_lt, Option, Some, None, option_map, refl, sym, ap, subst, ◌∙◌, ⊎_elim, arith, eq-eqb, ne_eqb}
+use Rattle.std.proofs.Common.{◌≡◌, ℕ, ◌+◌, ◌<◌, ◌≤◌, max, List, [], length, map, slice_index_or, Bool, true, false, ◌==◌, if◌then◌else◌, nat_lt, Option, Some, None, option_map, refl, sym, ap, subst, ◌∙◌, ⊎_elim, arith}
 use Rattle.std.specs.List.{All}
-use Rattle.std.proofs.lemmas.Bool.{cases_eq, cases_lt}
+use Rattle.std.proofs.lemmas.Bool.{cases_lt}
 use Rattle.std.proofs.lemmas.Bool.Decides.{nat_tests}
-use Rattle.std.proofs.lemmas.List.{length-map, get_or-map, get_or_past}
-use Rattle.std.proofs.lemmas.List.Elements.{All-nil, All-same, All-get_or}
+use Rattle.std.proofs.lemmas.List.{get_or-map, get_or_past}
+use Rattle.std.proofs.lemmas.List.Elements.{All-nil, All-get_or}
 use Rattle.std.proofs.lemmas.Option.{slice_get_past, slice_get_within, get_or_from_slice_get}
 use Rattle.ken_model.specs.declared.messages.Message.{Message}
 use Rattle.ken_model.specs.declared.messages.Step.{Step}
@@ -13,10 +13,10 @@ use Rattle.ken_model.specs.declared.handler.Task.{Task}
 use Rattle.ken_model.specs.declared.node.Node.{Node}
 use Rattle.ken_model.specs.Handler.{Effect, after}
 use Rattle.ken_model.specs.Tasks.{task_of, effect_of}
-use Rattle.ken_model.specs.Network.{Network, Place, Link, Turn, outside, front, turn_of, turn_at}
-use Rattle.ken_model.specs.Actors.{Playing, IsCapped, HasNoMessage, HasWrongDraws}
-use Rattle.ken_model.specs.Held.{Held, Game, held_at, no_node, sent_to, taken_from, network_of, playing_of, turns_made, AreEarly, IsOfRun, IsGame}
-use Rattle.ken_model.specs.Nodes.{held_of, game_of}
+use Rattle.ken_model.specs.Network.{Network, Turn, outside, front, turn_of, turn_at}
+use Rattle.ken_model.specs.Actors.{Playing, HasWrongDraws}
+use Rattle.ken_model.specs.Held.{Held, held_at, no_node, sent_to, taken_from, network_of, turns_made, AreEarly, IsOfRun, IsGame}
+use Rattle.ken_model.specs.Nodes.{held_of}
 use Rattle.ken_model.proofs.Tasks.{after-task}
 use Rattle.ken_num.specs.Numbers.{num}
 

@@ -1,5 +1,5 @@
 -- The nodes at the start.
-use Rattle.std.proofs.Common.{◌≡◌, ℕ, zero, suc, ◌+◌, ◌<◌, ◌≤◌, List, [], ◌∷◌, ◌++◌, length, map, replicate, slice_index_or, slice_set, Bool, true, false, ◌==◌, if◌then◌else◌, refl, sym, ap, subst, ◌∙◌, ⊎_elim, arith, append_assoc, eq-eqb, ne_eqb}
+use Rattle.std.proofs.Common.{◌≡◌, ℕ, ◌+◌, ◌<◌, ◌≤◌, List, [], ◌∷◌, ◌++◌, length, map, replicate, slice_index_or, slice_set, Bool, true, false, ◌==◌, if◌then◌else◌, refl, sym, ap, subst, ◌∙◌, ⊎_elim, arith, append_assoc, eq-eqb, ne_eqb}
 use Rattle.std.specs.List.{All, AllByRecursion}
 use Rattle.std.proofs.lemmas.Bool.{cases_eq, cases_lt}
 use Rattle.std.proofs.lemmas.List.{length_push, length-map, map-set, get_or-map, get_or-set_same, get_or-set_other, get_or-replicate, get_or_past, length-replicate}
@@ -9,9 +9,9 @@ use Rattle.ken_model.specs.declared.facts.Facts.{Facts}
 use Rattle.ken_model.specs.declared.facts.Input.{Input}
 use Rattle.ken_model.specs.declared.node.Node.{Node}
 use Rattle.ken_model.specs.Facts.{IsWithinLimits}
-use Rattle.ken_model.specs.Network.{Place, Link, first_place, outside, inputs_from, inputs_for, start}
+use Rattle.ken_model.specs.Network.{Link, first_place, outside, inputs_from, inputs_for, start}
 use Rattle.ken_model.specs.Actors.{AreAlike}
-use Rattle.ken_model.specs.Held.{Held, Game, held_at, no_node, sent_to, taken_from, network_of, turns_made, AreEarly, IsOfRun, IsGame}
+use Rattle.ken_model.specs.Held.{Held, held_at, no_node, sent_to, taken_from, network_of, turns_made, AreEarly, IsOfRun, IsGame}
 use Rattle.ken_model.specs.Nodes.{held_of, new_node, input_at, IsGiven}
 
 -- a node without inputs is to be given all its inputs
@@ -37,13 +37,13 @@ given_more f hs i is v all known given =
     let After : Held → ℕ → Type 0 = λ x w. IsGiven f.nodes f.size x (inputs_from w (length x.inputs) is) (all w) in
     ⊎_elim
     (λ e. let here : Before i.node = subst Before (sym e) given in
-        let q : (i.node == i.node) ≡ true = eq-eqb i.node i.node refl in
-        let left = rw q at here.inputs in
-        let made : After (given_to h i) i.node = record { fresh = ap (λ (x : Held). record x { inputs = (given_to h i).inputs }) here.fresh; inputs = rw (append_assoc, length_push) left } in
-        subst (λ w. After (held_at f hs' w) w) e (subst (λ x. After x i.node) (sym (get_or-set_same hs i.node (given_to h i) (no_node f) known)) made))
+    let q : (i.node == i.node) ≡ true = eq-eqb i.node i.node refl in
+    let left = rw q at here.inputs in
+    let made : After (given_to h i) i.node = record { fresh = ap (λ (x : Held). record x { inputs = (given_to h i).inputs }) here.fresh; inputs = rw (append_assoc, length_push) left } in
+    subst (λ w. After (held_at f hs' w) w) e (subst (λ x. After x i.node) (sym (get_or-set_same hs i.node (given_to h i) (no_node f) known)) made))
     (λ ne. let q : (i.node == v) ≡ false = ne_eqb i.node v ne in
-        let left = rw q at given.inputs in
-        subst (λ x. After x v) (sym (get_or-set_other hs i.node v (given_to h i) (no_node f) (λ e. ne (sym e)))) (record { fresh = given.fresh; inputs = left }))
+    let left = rw q at given.inputs in
+    subst (λ x. After x v) (sym (get_or-set_other hs i.node v (given_to h i) (no_node f) (λ e. ne (sym e)))) (record { fresh = given.fresh; inputs = left }))
     (cases_eq i.node v)
 
 -- what giving changes in the nodes

@@ -5,9 +5,11 @@ ghost use Rattle.ken_model.specs.Network.{start};
 ghost use Rattle.ken_model.specs.Held.{playing_of};
 ghost use Rattle.ken_model.specs.Actors.{AreAlike, IsStep, IsCapped, HasNoMessage, HasWrongDraws};
 
-use crate::network;
+#[cfg(test)]
+mod tests;
+
 use crate::node::Node;
-use crate::{Done, Facts, Items, Step, StepFault, Value};
+use crate::{Done, Facts, Items, Step, StepFault, Value, network};
 use std::alloc::{AllocError, Global};
 use std::marker::Model;
 

@@ -1,5 +1,4 @@
 use Rattle.std.proofs.Common.{◌≡◌, ℕ, ◌+◌, ◌<◌, ◌≤◌, List, ◌∷◌, length, map, drop, slice_index_or, slice_set, sym, ap, subst, ◌∙◌, arith, add-one}
-use Rattle.std.specs.List.{All}
 use Rattle.std.proofs.Math.Seq.{drop-cons}
 use Rattle.std.proofs.lemmas.List.{length-map}
 use Rattle.std.proofs.lemmas.List.Elements.{All-from_recursion}
@@ -7,7 +6,7 @@ use Rattle.ken_model.specs.declared.facts.Facts.{Facts}
 use Rattle.ken_model.specs.declared.facts.Input.{Input}
 use Rattle.ken_model.specs.declared.node.Node.{Node}
 use Rattle.ken_model.specs.Network.{inputs_from, inputs_for}
-use Rattle.ken_model.specs.Held.{Held, held_at}
+use Rattle.ken_model.specs.Held.{held_at}
 use Rattle.ken_model.specs.Nodes.{held_of, IsGiven}
 use Rattle.ken_model.proofs.Started.{given_first, given_more, given_to, held_given}
 use Rattle.ken_model.proofs.network.give_inputs.Goals as goal

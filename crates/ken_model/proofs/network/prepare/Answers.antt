@@ -1,5 +1,4 @@
-use Rattle.std.proofs.Common.{rules, ◌≡◌, ℕ, ◌+◌, ◌<◌, ◌≤◌, max, List, length, map, slice_index_or, Option, Some, None, refl, sym, ap, subst, ◌∙◌, arith}
-use Rattle.std.specs.List.{All}
+use Rattle.std.proofs.Common.{◌≡◌, ℕ, ◌+◌, ◌<◌, ◌≤◌, max, List, length, map, slice_index_or, Some, None, refl, sym, ap, subst, ◌∙◌, arith}
 use Rattle.std.proofs.lemmas.Bool.{ltb-true}
 use Rattle.std.proofs.lemmas.List.{length-map, get_or_past}
 use Rattle.std.proofs.lemmas.List.Elements.{All-from_recursion}
@@ -13,7 +12,7 @@ use Rattle.ken_model.specs.Handler.{Effect}
 use Rattle.ken_model.specs.Tasks.{task_of, effect_of}
 use Rattle.ken_model.specs.Network.{front}
 use Rattle.ken_model.specs.Actors.{HasWrongDraws}
-use Rattle.ken_model.specs.Held.{Held, held_at, no_node, network_of, playing_of, turns_made, taken_from, IsOfRun}
+use Rattle.ken_model.specs.Held.{Held, held_at, no_node, network_of, playing_of, IsOfRun}
 use Rattle.ken_model.specs.Nodes.{held_of, game_of}
 use Rattle.ken_model.proofs.Elements.{All-unmap}
 use Rattle.ken_model.proofs.Moved.{few_made}
@@ -66,9 +65,11 @@ not_wrong f ns s m task next is wrong = right_draws (playing_of (game_of f ns)) 
 
 pub returns-in_default-of-clause-draws : goal.returns-in_default-of-clause-draws
 returns-in_default-of-clause-draws c =
-    let at = goal.at.returns-in_default-of-clause-draws c in
-    ((λ e. wrong_draws (playing_of (game_of c.args.facts.now c.args.nodes.now)) c.args.step.now c.in-Some-front.message.now
-        (more c.args.facts.now (map held_of c.args.nodes.now) c.args.step.now.node c.in-Some.receiver.now (receiver at.In-Some) c.if-receiver-facts.false) (waits at.In-Some-front) (no_task c)), (λ h. refl))
+    let at = goal.at.returns-in_default-of-clause-draws c in (
+      (λ e. wrong_draws (playing_of (game_of c.args.facts.now c.args.nodes.now)) c.args.step.now c.in-Some-front.message.now
+          (more c.args.facts.now (map held_of c.args.nodes.now) c.args.step.now.node c.in-Some.receiver.now (receiver at.In-Some) c.if-receiver-facts.false) (waits at.In-Some-front) (no_task c)),
+      (λ h. refl),
+    )
 
 pub returns-in_err-answer-clause-draws : goal.returns-in_err-answer-clause-draws
 returns-in_err-answer-clause-draws c =

@@ -12,6 +12,6 @@ pub loop-list-preserved : goal.loop-list-preserved
 loop-list-preserved c =
     let within : c.loop-list.list-index < length c.loop-list.sent = omega (arith, c.loop-list-test.true, c.loop-list.auto.sent) in
     record {
-  same = map-set_same (λ (v : Vec Message Global). v.items) c.loop-list.sent c.loop-list.list-index c.reserve.new.self c.list-item.result c.in_ok-reserve.ensures.items ∙ c.loop-list.invariant.same;
-  room = AllWithin-more_set c.loop-list.sent c.loop-list.list-index c.reserve.new.self within (λ v. vec_len v + c.args.count ≤ vec_capacity v) c.loop-list.invariant.room c.in_ok-reserve.ensures.ok;
-}
+      same = map-set_same (λ (v : Vec Message Global). v.items) c.loop-list.sent c.loop-list.list-index c.reserve.new.self c.list-item.result c.in_ok-reserve.ensures.items ∙ c.loop-list.invariant.same;
+      room = AllWithin-more_set c.loop-list.sent c.loop-list.list-index c.reserve.new.self within (λ v. vec_len v + c.args.count ≤ vec_capacity v) c.loop-list.invariant.room c.in_ok-reserve.ensures.ok;
+    }

@@ -1,8 +1,8 @@
-use Rattle.std.proofs.Common.{rules, ◌≡◌, ℕ, List, ◌+◌, ◌<◌, length, map, subst, sym, slice_index_or, [], ◌++◌, ap, ◌∙◌, arith}
+use Rattle.std.proofs.Common.{◌≡◌, ℕ, List, ◌+◌, ◌<◌, length, map, subst, sym, slice_index_or, [], ◌++◌, ap, ◌∙◌, arith}
 use Rattle.std.specs.List.{All}
 use Rattle.std.proofs.lemmas.List.{length-map, take_at}
 use Rattle.ken_model.specs.declared.node.Node.{Node}
-use Rattle.ken_model.proofs.Posting.{items_of, posted_after-cong}
+use Rattle.ken_model.proofs.Posting.{items_of}
 use Rattle.ken_model.specs.declared.messages.Send.{Send}
 use Rattle.ken_model.specs.declared.node.Letter.{Letter}
 use Rattle.ken_model.specs.declared.values.Value.{Value}
