@@ -8,3 +8,8 @@ pub mod Elements
 pub mod Turns
 pub mod Shows
 pub mod Agreement
+pub mod Posting
+pub mod Started
+pub mod Tasks
+pub mod Moved
+pub mod Prepared

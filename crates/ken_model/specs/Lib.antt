@@ -1,5 +1,11 @@
 pub mod Handler
 pub mod Network
+pub mod Actors
+pub mod Tasks
+pub mod Held
+pub mod Nodes
+pub mod Letters
+pub mod Planned
 pub mod Schedule
 pub mod Facts
 pub mod History

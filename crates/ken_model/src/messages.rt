@@ -37,3 +37,15 @@ pub struct Out {
     pub number: u64,
     pub text: Octets,
 }
+
+/// What a step did.
+#[derive(Debug, Drop)]
+pub struct Done {
+    pub stamp: u64,
+    /// The number of the message that it took.
+    pub number: u64,
+    /// What its node sent, in order.
+    pub sends: Items<Message>,
+    /// What its node output, in order.
+    pub outs: Items<Out>,
+}

@@ -1,0 +1,53 @@
+-- A node as a program holds it, and its turn.
+use Rattle.std.specs.Prelude.{◌≡◌, ℕ, ◌+◌, List, [], ◌++◌, length, map, replicate, ◌==◌, if◌then◌else◌}
+use Rattle.ken_model.specs.declared.messages.Message.{Message}
+use Rattle.ken_model.specs.declared.messages.Send.{Send}
+use Rattle.ken_model.specs.declared.facts.Facts.{Facts}
+use Rattle.ken_model.specs.declared.facts.Input.{Input}
+use Rattle.ken_model.specs.declared.node.Node.{Node}
+use Rattle.ken_model.specs.declared.node.Made.{Made}
+use Rattle.ken_model.specs.Network.{outside, empty_heap, numbered}
+use Rattle.ken_model.specs.Actors.{posted_after, outs_after}
+use Rattle.ken_model.specs.Held.{Held, Game, sent_to, taken_from}
+
+abbrev pub held_of : Node → Held
+held_of n = record {
+  place = record { value = n.value; stamp = n.stamp; turns = n.turns; outs = n.outs.items };
+  sent = map (λ v. v.items) n.sent.items;
+  taken = n.taken.items;
+  inputs = n.inputs.items;
+  inputs_taken = n.inputs_taken;
+}
+
+-- the game that nodes are
+abbrev pub game_of : Facts → List Node → Game
+game_of f ns = record { facts = f; nodes = map held_of ns }
+
+-- a node of `nodes` that has made no turn, with its inputs
+abbrev pub new_node : ℕ → ℕ → List Message → Held
+new_node nodes size inputs = record {
+  place = record { value = empty_heap size; stamp = 0; turns = 0; outs = [] };
+  sent = replicate nodes [];
+  taken = replicate nodes 0;
+  inputs = inputs;
+  inputs_taken = 0;
+}
+
+-- an input as a message with that number
+abbrev pub input_at : ℕ → Input → Message
+input_at number i = record { from = outside; to = i.node; number = number; stamp = 0; bytes = i.text }
+
+-- a node that has made no turn has its inputs so far, and `left` to come, which are `all` in order
+pub record IsGiven (nodes size : ℕ) (h : Held) (left all : List Message) : Type 0 where
+  pub fresh : h ≡ new_node nodes size h.inputs
+  pub inputs : h.inputs ++ left ≡ all
+
+-- node v made a turn with that stamp, and has a new root: its sends and outputs come after those before
+pub record IsMade (v from stamp root : ℕ) (sends : List Send) (outs : List (List ℕ)) (old new : Held) (made : Made) : Type 0 where
+  pub place : new.place ≡ record { value = record old.place.value { root = root }; stamp = stamp; turns = old.place.turns + 1; outs = old.place.outs ++ outs }
+  pub sent : (w : ℕ) → sent_to new w ≡ sent_to old w ++ numbered v w (length (sent_to old w)) stamp sends
+  pub taken : (u : ℕ) → taken_from new u ≡ (if u == from then taken_from old u + 1 else taken_from old u)
+  pub inputs : new.inputs ≡ old.inputs
+  pub widths : (length new.sent ≡ length old.sent) × (length new.taken ≡ length old.taken)
+  pub done_sends : made.sends.items ≡ posted_after v stamp (λ w. length (sent_to old w)) sends
+  pub done_outs : made.outs.items ≡ outs_after (length old.place.outs) outs

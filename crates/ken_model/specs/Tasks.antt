@@ -1,0 +1,21 @@
+-- A handler's work in two parts: what a message asks for, and what is done about it.
+use Rattle.std.specs.Prelude.{ℕ, List, [], ◌∷◌, Option, Some, None}
+use Rattle.ken_model.specs.declared.kinds.Kind.{Kind}
+use Rattle.ken_model.specs.declared.kinds.Kind.TheVariants.{Ring as OfRing, Mix as OfMix}
+use Rattle.ken_model.specs.declared.values.Value.{Value}
+use Rattle.ken_model.specs.declared.handler.Task.{Task}
+use Rattle.ken_model.specs.declared.handler.Task.TheVariants.{Refuse, Ring, Mix}
+use Rattle.ken_model.specs.Handler.{Effect, refused, ring_counts, mix_counts}
+
+-- the task of a payload's number and draws: none where the number of draws isn't the kind's
+abbrev pub task_of : Kind → Option ℕ → List ℕ → Option Task
+task_of kind None [] = Some Refuse
+task_of OfRing (Some count) [] = Some (Ring count)
+task_of OfMix (Some count) (clock ∷ word ∷ []) = Some (Mix count clock word)
+task_of _ _ _ = None
+
+-- what is done about it
+abbrev pub effect_of : ℕ → ℕ → Value → Task → Effect
+effect_of node nodes value Refuse = refused value
+effect_of node nodes value (Ring count) = ring_counts node nodes value count
+effect_of node nodes value (Mix count clock word) = mix_counts nodes value count clock word

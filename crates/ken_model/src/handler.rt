@@ -1,0 +1,115 @@
+// What a handler makes of a message.
+ghost use Rattle.std.specs.Prelude.{◌≡◌, ◌+◌, ◌-◌, ◌<◌, [], ◌∷◌, nat_lt, if◌then◌else◌, decimal, IfOk};
+ghost use Rattle.std.specs.List.{AllByRecursion};
+ghost use Rattle.ken_model.specs.Tasks.{task_of, effect_of};
+ghost use Rattle.ken_num.specs.Numbers.{num};
+
+use crate::{Kind, Octets, Send, Value};
+use ken_num::{num, put_decimal};
+use std::alloc::{AllocError, Global};
+
+/// The answer to a payload that the kind doesn't know.
+const BAD: &[u8] = b"bad";
+
+/// What mix outputs is below this.
+const MIX_OUTPUTS: u64 = 1000;
+
+/// What a message asks of a node, with what was drawn for it.
+#[derive(Clone, Copy, Debug, PartialEq, Eq)]
+pub(crate) enum Task {
+    /// The kind doesn't know the payload.
+    Refuse,
+    Ring { count: u64 },
+    Mix { count: u64, clock: u64, word: u64 },
+}
+
+/// What a node is to change, send and output.
+#[derive(Debug, Drop)]
+pub(crate) struct Answer {
+    /// The root of the heap from now on.
+    pub root: u64,
+    pub sends: Vec<Send>,
+    pub outs: Vec<Octets>,
+}
+
+impl Task {
+    /// The task of a payload: none where the kind takes another number of draws for it.
+    pub(crate) fn of(kind: Kind, payload: &[u8], draws: &[u64]) -> Option<Task>
+        ensures { result ≡ task_of kind (num payload.now) draws.now }
+    {
+        match (kind, num(payload), draws) {
+            (_, None, []) => Some(Task::Refuse),
+            (Kind::Ring, Some(count), []) => Some(Task::Ring { count }),
+            (Kind::Mix, Some(count), [clock, word]) => Some(Task::Mix {
+                count,
+                clock: *clock,
+                word: *word,
+            }),
+            _ => None,
+        }
+    }
+
+    /// What node `node` of `nodes` with that heap is to do about it.
+    pub(crate) fn answer(
+        self,
+        alloc: Global,
+        node: u8,
+        nodes: u8,
+        value: &Value,
+    ) -> Result<Answer, AllocError>
+        requires { (0 < nodes) × (node < 255) }
+        ensures effect { IfOk result (λ a. effect_of node nodes value.now self
+            ≡ record { value = record value.now { root = a.root }; sends = a.sends.items; outs = a.outs.items }) }
+        ensures known { IfOk result (λ a. AllByRecursion (λ s. s.to < nodes) a.sends.items) }
+    {
+        match self {
+            Task::Refuse => Ok(Answer {
+                root: value.root,
+                sends: Vec::new(alloc),
+                outs: alone(alloc, Octets::new(Vec::from_slice(alloc, BAD)?))?,
+            }),
+            Task::Ring { count } => Ok(Answer {
+                root: value.root.wrapping_add(1),
+                sends: rest_of(alloc, count, (node + 1) % nodes)?,
+                outs: alone(alloc, decimal_text(alloc, count)?)?,
+            }),
+            Task::Mix { count, clock, word } => Ok(Answer {
+                root: clock,
+                sends: rest_of(alloc, count, (word % u64::from(nodes)) as u8)?,
+                outs: alone(alloc, decimal_text(alloc, word % MIX_OUTPUTS)?)?,
+            }),
+        }
+    }
+}
+
+/// What is left of a count, for a node: nothing where the count is 0.
+fn rest_of(alloc: Global, count: u64, to: u8) -> Result<Vec<Send>, AllocError>
+    ensures { IfOk result (λ v. v.items ≡ (if nat_lt 0 count then record { to = to; bytes = decimal (count - 1) } ∷ [] else [])) }
+{
+    let mut sends = Vec::new(alloc);
+    if count > 0 {
+        sends.push(Send {
+            to,
+            bytes: decimal_text(alloc, count - 1)?,
+        })?;
+    }
+    Ok(sends)
+}
+
+/// One output.
+fn alone(alloc: Global, text: Octets) -> Result<Vec<Octets>, AllocError>
+    ensures { IfOk result (λ v. v.items ≡ text ∷ []) }
+{
+    let mut outs = Vec::new(alloc);
+    outs.push(text)?;
+    Ok(outs)
+}
+
+/// A number in decimal.
+fn decimal_text(alloc: Global, n: u64) -> Result<Octets, AllocError>
+    ensures { IfOk result (λ t. t ≡ decimal n) }
+{
+    let mut text = Vec::new(alloc);
+    put_decimal(&mut text, n)?;
+    Ok(Octets::new(text))
+}
