@@ -144,6 +144,9 @@ fn refuses_by_the_first_rule(rt: HostRuntime) -> Result<(), Fail> {
         ("{\"nodes\":3,\"inputs\":7}", rule(4, 0)),
         ("{\"nodes\":3,\"kind\":\"rung\",\"inputs\":7}", rule(4, 0)),
         ("{\"nodes\":3,\"kind\":1,\"inputs\":[]}", rule(4, 0)),
+        ("{\"nodes\":3,\"kind\":\"Mix\",\"inputs\":[]}", rule(4, 0)),
+        ("{\"nodes\":3,\"kind\":\"tally\",\"inputs\":[]}", rule(4, 0)),
+        ("{\"nodes\":3,\"kind\":\"mix\",\"inputs\":[]}", None),
         // The list of inputs.
         ("{\"nodes\":3,\"kind\":\"ring\"}", rule(8, 0)),
         ("{\"nodes\":3,\"kind\":\"ring\",\"inputs\":{}}", rule(8, 0)),

@@ -1,5 +1,7 @@
 ghost use Rattle.std.specs.Prelude.{◌≤◌};
 
+mod abstract_run;
+
 use super::*;
 use crate::world::MemWorld;
 use ken_io::{MemSink, MemSource};
@@ -134,6 +136,37 @@ fn a_settled_run_is_reported(rt: HostRuntime) -> Result<(), Fail> {
         let (status, sink) = run_of(&rt, &ring(rt.alloc(), nodes, items)?)?;
         assert_eq!(rt; status, Status::Settled, "{items}");
         assert_eq!(rt; from_utf8(sink.bytes())?, report, "{items}");
+    }
+    Ok(())
+}
+
+#[test]
+fn what_a_run_drew_is_reported(rt: HostRuntime) -> Result<(), Fail> {
+    let cases = [
+        (
+            "{\"nodes\":1,\"kind\":\"mix\",\"inputs\":[[0,\"0\"]]}",
+            "turn 1 0 out 1 1,167951807\n\
+             emit 0 1 807\n\
+             heap 0 1\n\
+             end settled 1\n",
+        ),
+        // The second word of the generator from 0 is the second turn's, and its clock reads 2.
+        (
+            "{\"nodes\":1,\"kind\":\"mix\",\"seed\":0,\"inputs\":[[0,\"x\"],[0,\"1\"]]}",
+            "turn 1 0 out 1 -\n\
+             turn 2 0 out 2 1,167951807\n\
+             turn 3 0 0 1 2,218396424\n\
+             emit 0 1 bad\n\
+             emit 0 2 807\n\
+             emit 0 3 424\n\
+             heap 0 2\n\
+             end settled 3\n",
+        ),
+    ];
+    for (script, report) in cases {
+        let (status, sink) = run_of(&rt, script)?;
+        assert_eq!(rt; status, Status::Settled, "{script}");
+        assert_eq!(rt; from_utf8(sink.bytes())?, report, "{script}");
     }
     Ok(())
 }

@@ -111,3 +111,21 @@ impl World for MemWorld {
         self.kept[node as usize] = Some(luck);
     }
 }
+
+#[cfg(test)]
+mod tests {
+    use super::*;
+
+    #[test]
+    fn a_node_has_its_own_clock_and_words(rt: HostRuntime) {
+        let mut world = MemWorld::new();
+        // Both generators begin at 0: the sum of seed and node has no carry.
+        for (node, seed) in [(0, 0), (1, u64::MAX)] {
+            let mut oracle = world.oracle(node, seed);
+            assert_eq!(rt; (oracle.clock(), oracle.clock()), (1, 2));
+            assert_eq!(rt; (oracle.word(), oracle.word()), (167_951_807, 218_396_424));
+            assert_eq!(rt; oracle.clock(), 3);
+            world.keep(node, oracle);
+        }
+    }
+}
