@@ -1,8 +1,9 @@
 // Random small scripts, run by the program and played by the abstract network.
+ghost use Rattle.std.specs.Prelude.{◌≡◌, ◌≤◌};
 ghost use Rattle.ken_model.specs.Facts.{IsWithinLimits};
 
 use super::*;
-use ken_model::{Actors, Facts, MAX_NODES, OUTSIDE, Step};
+use ken_model::{Actors, Done, Facts, MAX_NODES, OUTSIDE, Step};
 use ken_num::Lcg;
 
 /// How many scripts.
@@ -64,54 +65,109 @@ fn words_of(alloc: Global, step: &Step) -> Result<(String, String), AllocError> 
     Ok((from, draws))
 }
 
+// What playing has shown so far.
+#[derive(Drop)]
+struct Played {
+    turns: String,
+    // The emit lines of each node.
+    emitted: Vec<String>,
+    count: u64,
+    waiting: usize,
+}
+
+impl Played {
+    fn new(alloc: Global, facts: &Facts) -> Result<Self, AllocError> {
+        let mut emitted = Vec::new(alloc);
+        for _node in 0..facts.nodes {
+            emitted.push(String::new(alloc))?;
+        }
+        Ok(Played {
+            turns: String::new(alloc),
+            emitted,
+            count: 0,
+            waiting: facts.inputs.len(),
+        })
+    }
+
+    // Adds a step that was made.
+    fn add(&mut self, alloc: Global, step: &Step, done: &Done) -> Result<(), AllocError> {
+        let node = step.node;
+        let (from, draws) = words_of(alloc, step)?;
+        let line = format!(in alloc;
+            "turn {} {node} {from} {} {draws}\n",
+            done.stamp, done.number
+        )?;
+        self.turns.push_str(&line)?;
+        self.count = self.count.wrapping_add(1);
+        self.waiting = self.waiting.wrapping_add(done.sends.len()).wrapping_sub(1);
+        let Some(lines) = self.emitted.get_mut(node as usize) else {
+            return Ok(());
+        };
+        for out in done.outs.as_slice() {
+            let text = from_utf8(out.text.as_slice()).unwrap_or("");
+            lines.push_str(&format!(in alloc; "emit {node} {} {text}\n", out.number)?)?;
+        }
+        Ok(())
+    }
+
+    fn end(&self, alloc: Global) -> Result<String, AllocError> {
+        let (count, waiting) = (self.count, self.waiting);
+        if waiting == 0 {
+            format!(in alloc; "end settled {count}\n")
+        } else {
+            format!(in alloc; "end cut {count} {waiting}\n")
+        }
+    }
+}
+
+// Makes the step that a line names, if it names one: false where the step isn't defined.
+fn play(
+    alloc: Global,
+    actors: &mut Actors<'_>,
+    line: &str,
+    played: &mut Played,
+) -> Result<bool, AllocError>
+    ensures { actors.new.facts ≡ actors.old.facts }
+{
+    let Some(step) = step_in(alloc, line)? else {
+        return Ok(true);
+    };
+    let Ok(done) = actors.step(&step) else {
+        return Ok(false);
+    };
+    played.add(alloc, &step, &done)?;
+    Ok(true)
+}
+
+fn heaps(alloc: Global, actors: &Actors<'_>, nodes: u8) -> Result<String, AllocError>
+    requires { nodes ≤ actors.now.facts.nodes }
+{
+    let mut text = String::new(alloc);
+    for node in 0..nodes {
+        let root = actors.value(node).root();
+        text.push_str(&format!(in alloc; "heap {node} {root}\n")?)?;
+    }
+    Ok(text)
+}
+
 // The report of the run that a report spells, as the abstract network plays it: none where a step isn't defined.
 fn replayed(alloc: Global, facts: &Facts, report: &str) -> Result<Option<String>, AllocError>
     requires { IsWithinLimits facts.now }
 {
     let mut actors = Actors::start(alloc, facts)?;
-    let mut text = String::new(alloc);
-    let mut emitted = Vec::new(alloc);
-    for _node in 0..facts.nodes {
-        emitted.push(String::new(alloc))?;
-    }
-    let mut turns: u64 = 0;
-    let mut waiting = facts.inputs.len();
+    let mut played = Played::new(alloc, facts)?;
     'lines: for line in report.lines() {
-        let Some(step) = step_in(alloc, line)? else {
-            continue;
-        };
-        let Ok(done) = actors.step(&step) else {
+        if !play(alloc, &mut actors, line, &mut played)? {
             return Ok(None);
-        };
-        turns = turns.wrapping_add(1);
-        waiting = waiting.wrapping_add(done.sends.len()).wrapping_sub(1);
-        let (from, draws) = words_of(alloc, &step)?;
-        text.push_str(&format!(in alloc;
-            "turn {} {} {from} {} {draws}\n",
-            done.stamp, step.node, done.number
-        )?)?;
-        if let Some(lines) = emitted.get_mut(step.node as usize) {
-            for out in done.outs.as_slice() {
-                let output = from_utf8(out.text.as_slice()).unwrap_or("");
-                lines.push_str(&format!(in alloc;
-                    "emit {} {} {output}\n",
-                    step.node, out.number
-                )?)?;
-            }
         }
     }
-    for lines in &emitted {
+    let heaps = heaps(alloc, &actors, facts.nodes)?;
+    let end = played.end(alloc)?;
+    let mut text = played.turns;
+    for lines in &played.emitted {
         text.push_str(lines)?;
     }
-    'heaps: for node in 0..facts.nodes {
-        let root = actors.value(node).root();
-        text.push_str(&format!(in alloc; "heap {node} {root}\n")?)?;
-    }
-    let end = if waiting == 0 {
-        format!(in alloc; "end settled {turns}\n")?
-    } else {
-        format!(in alloc; "end cut {turns} {waiting}\n")?
-    };
+    text.push_str(&heaps)?;
     text.push_str(&end)?;
     Ok(Some(text))
 }
