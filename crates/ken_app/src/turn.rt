@@ -92,7 +92,7 @@ impl<'a, O: Oracle> Turn<'a, O> {
     }
 
     /// The message that the turn takes.
-    pub fn message(&self) -> &Message
+    pub fn message(&self) -> &'a Message
         ensures { result.now ≡ (turning self.now).message }
     {
         self.message

@@ -45,7 +45,19 @@ pub(crate) fn send_number<O: Oracle>(
     ensures oracle { oracle_of turn.new ≡ oracle_of turn.old }
     ensures same { IsOneTurn turn.old turn.new }
 {
-    match turn.send(to, Buffer::new().format(n).as_bytes()) {
+    send(turn, to, Buffer::new().format(n).as_bytes())
+}
+
+/// Sends a short text to a node of the run.
+pub(crate) fn send<O: Oracle>(turn: &mut Turn<'_, O>, to: u8, text: &[u8]) -> Result<(), AllocError>
+    requires known { to < (turning turn.old).nodes }
+    requires short { length text.now ≤ MAX_TEXT }
+    requires few { length (turning turn.old).sends < MAX_SENDS }
+    ensures ok { OnOk result (turning turn.new ≡ record (turning turn.old) { sends = (turning turn.old).sends ++ record { to = to; bytes = text.now } ∷ [] }) }
+    ensures oracle { oracle_of turn.new ≡ oracle_of turn.old }
+    ensures same { IsOneTurn turn.old turn.new }
+{
+    match turn.send(to, text) {
         Ok(()) => Ok(()),
         Err(SendFault::Memory) => Err(AllocError),
         Err(_) => unreachable!(),

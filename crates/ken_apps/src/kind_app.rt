@@ -1,7 +1,7 @@
 // The handler of each kind.
 ghost use Rattle.std.specs.Prelude.{◌≡◌};
 
-use crate::{mix, ring};
+use crate::{mix, ring, share, tally};
 use ken_app::{App, Oracle, Turn};
 use ken_model::Kind;
 use std::alloc::AllocError;
@@ -16,6 +16,8 @@ impl App for KindApp {
     fn on_message<O: Oracle>(&self, turn: &mut Turn<'_, O>) -> Result<(), AllocError> {
         match self.0 {
             Kind::Ring => ring::on_message(turn),
+            Kind::Tally => tally::on_message(turn),
+            Kind::Share => share::on_message(turn),
             Kind::Mix => mix::on_message(turn),
         }
     }

@@ -5,6 +5,8 @@ mod answers;
 mod kind_app;
 mod mix;
 mod ring;
+mod share;
+mod tally;
 #[cfg(test)]
 mod tests;
 

@@ -13,3 +13,4 @@ pub mod Started
 pub mod Tasks
 pub mod Moved
 pub mod Prepared
+pub mod Others

@@ -1,21 +1,26 @@
 -- A handler's work in two parts: what a message asks for, and what is done about it.
 use Rattle.std.specs.Prelude.{ℕ, List, [], ◌∷◌, Option, Some, None}
 use Rattle.ken_model.specs.declared.kinds.Kind.{Kind}
-use Rattle.ken_model.specs.declared.kinds.Kind.TheVariants.{Ring as OfRing, Mix as OfMix}
+use Rattle.ken_model.specs.declared.kinds.Kind.TheVariants.{Ring as OfRing, Tally as OfTally, Share as OfShare, Mix as OfMix}
 use Rattle.ken_model.specs.declared.values.Value.{Value}
+use Rattle.ken_model.specs.declared.messages.Message.{Message}
 use Rattle.ken_model.specs.declared.handler.Task.{Task}
-use Rattle.ken_model.specs.declared.handler.Task.TheVariants.{Refuse, Ring, Mix}
-use Rattle.ken_model.specs.Handler.{Effect, refused, ring_counts, mix_counts}
+use Rattle.ken_model.specs.declared.handler.Task.TheVariants.{Refuse, Ring, Tally, Share, Mix}
+use Rattle.ken_model.specs.Handler.{Effect, refused, ring_counts, tally_counts, share_counts, mix_counts}
 
 -- the task of a payload's number and draws: none where the number of draws isn't the kind's
 abbrev pub task_of : Kind → Option ℕ → List ℕ → Option Task
 task_of kind None [] = Some Refuse
 task_of OfRing (Some count) [] = Some (Ring count)
+task_of OfTally (Some amount) [] = Some (Tally amount)
+task_of OfShare (Some amount) [] = Some (Share amount)
 task_of OfMix (Some count) (clock ∷ word ∷ []) = Some (Mix count clock word)
 task_of _ _ _ = None
 
 -- what is done about it
-abbrev pub effect_of : ℕ → ℕ → Value → Task → Effect
-effect_of node nodes value Refuse = refused value
-effect_of node nodes value (Ring count) = ring_counts node nodes value count
-effect_of node nodes value (Mix count clock word) = mix_counts nodes value count clock word
+abbrev pub effect_of : ℕ → ℕ → Value → Message → Task → Effect
+effect_of node nodes value message Refuse = refused value
+effect_of node nodes value message (Ring count) = ring_counts node nodes value count
+effect_of node nodes value message (Tally amount) = tally_counts node nodes value message amount
+effect_of node nodes value message (Share amount) = share_counts node nodes value amount
+effect_of node nodes value message (Mix count clock word) = mix_counts nodes value count clock word

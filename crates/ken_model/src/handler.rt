@@ -1,10 +1,11 @@
 // What a handler makes of a message.
 ghost use Rattle.std.specs.Prelude.{◌≡◌, ◌+◌, ◌-◌, ◌<◌, [], ◌∷◌, nat_lt, if◌then◌else◌, decimal, IfOk};
 ghost use Rattle.std.specs.List.{AllByRecursion};
+ghost use Rattle.ken_model.specs.Handler.{to_others, tally_counts};
 ghost use Rattle.ken_model.specs.Tasks.{task_of, effect_of};
 ghost use Rattle.ken_num.specs.Numbers.{num};
 
-use crate::{Kind, Octets, Send, Value};
+use crate::{Kind, Message, OUTSIDE, Octets, Send, Value};
 use ken_num::{num, put_decimal};
 use std::alloc::{AllocError, Global};
 
@@ -20,6 +21,8 @@ pub(crate) enum Task {
     /// The kind doesn't know the payload.
     Refuse,
     Ring { count: u64 },
+    Tally { amount: u64 },
+    Share { amount: u64 },
     Mix { count: u64, clock: u64, word: u64 },
 }
 
@@ -40,6 +43,8 @@ impl Task {
         match (kind, num(payload), draws) {
             (_, None, []) => Some(Task::Refuse),
             (Kind::Ring, Some(count), []) => Some(Task::Ring { count }),
+            (Kind::Tally, Some(amount), []) => Some(Task::Tally { amount }),
+            (Kind::Share, Some(amount), []) => Some(Task::Share { amount }),
             (Kind::Mix, Some(count), [clock, word]) => Some(Task::Mix {
                 count,
                 clock: *clock,
@@ -49,16 +54,17 @@ impl Task {
         }
     }
 
-    /// What node `node` of `nodes` with that heap is to do about it.
+    /// What node `node` of `nodes` with that heap is to do about it. It is the task of the message.
     pub(crate) fn answer(
         self,
         alloc: Global,
         node: u8,
         nodes: u8,
         value: &Value,
+        message: &Message,
     ) -> Result<Answer, AllocError>
         requires { (0 < nodes) × (node < 255) }
-        ensures effect { IfOk result (λ a. effect_of node nodes value.now self
+        ensures effect { IfOk result (λ a. effect_of node nodes value.now message.now self
             ≡ record { value = record value.now { root = a.root }; sends = a.sends.items; outs = a.outs.items }) }
         ensures known { IfOk result (λ a. AllByRecursion (λ s. s.to < nodes) a.sends.items) }
     {
@@ -73,6 +79,12 @@ impl Task {
                 sends: rest_of(alloc, count, (node + 1) % nodes)?,
                 outs: alone(alloc, decimal_text(alloc, count)?)?,
             }),
+            Task::Tally { amount } => tally(alloc, node, nodes, value, message, amount),
+            Task::Share { amount } => Ok(Answer {
+                root: value.root.wrapping_add(amount - amount / 2),
+                sends: number_to(alloc, amount / 2, (node + 1) % nodes)?,
+                outs: alone(alloc, decimal_text(alloc, amount)?)?,
+            }),
             Task::Mix { count, clock, word } => Ok(Answer {
                 root: clock,
                 sends: rest_of(alloc, count, (word % u64::from(nodes)) as u8)?,
@@ -80,6 +92,58 @@ impl Task {
             }),
         }
     }
+}
+
+/// The sum, and a number from outside for all other nodes.
+fn tally(
+    alloc: Global,
+    node: u8,
+    nodes: u8,
+    value: &Value,
+    message: &Message,
+    amount: u64,
+) -> Result<Answer, AllocError>
+    ensures effect { IfOk result (λ a. tally_counts node nodes value.now message.now amount
+        ≡ record { value = record value.now { root = a.root }; sends = a.sends.items; outs = a.outs.items }) }
+    ensures known { IfOk result (λ a. AllByRecursion (λ s. s.to < nodes) a.sends.items) }
+{
+    let root = value.root.wrapping_add(amount);
+    let sends = if message.from == OUTSIDE {
+        to_others(alloc, node, nodes, message.bytes.as_slice())?
+    } else {
+        Vec::new(alloc)
+    };
+    let outs = alone(alloc, decimal_text(alloc, root)?)?;
+    Ok(Answer { root, sends, outs })
+}
+
+/// A text for each node but one.
+fn to_others(alloc: Global, node: u8, nodes: u8, text: &[u8]) -> Result<Vec<Send>, AllocError>
+    ensures sends { IfOk result (λ v. v.items ≡ to_others node nodes text.now) }
+    ensures known { IfOk result (λ v. AllByRecursion (λ s. s.to < nodes) v.items) }
+{
+    let mut sends = Vec::new(alloc);
+    for to in 0..nodes {
+        if to != node {
+            let bytes = Octets::new(Vec::from_slice(alloc, text)?);
+            sends.push(Send { to, bytes })?;
+        }
+    }
+    Ok(sends)
+}
+
+/// A number above 0, for a node.
+fn number_to(alloc: Global, n: u64, to: u8) -> Result<Vec<Send>, AllocError>
+    ensures { IfOk result (λ v. v.items ≡ (if nat_lt 0 n then record { to = to; bytes = decimal n } ∷ [] else [])) }
+{
+    let mut sends = Vec::new(alloc);
+    if n > 0 {
+        sends.push(Send {
+            to,
+            bytes: decimal_text(alloc, n)?,
+        })?;
+    }
+    Ok(sends)
 }
 
 /// What is left of a count, for a node: nothing where the count is 0.

@@ -6,6 +6,10 @@ ghost use Rattle.ken_model.specs.Handler.{kind_of};
 pub enum Kind {
     /// A count goes round the nodes.
     Ring,
+    /// Numbers are added up, and those from outside at each node.
+    Tally,
+    /// A number is halved from node to node, and each keeps its half.
+    Share,
     /// A count goes from node to node by random words, and each turn reads the clock.
     Mix,
 }
@@ -17,6 +21,10 @@ impl Kind {
     {
         if name == b"ring".as_slice() {
             Some(Kind::Ring)
+        } else if name == b"tally".as_slice() {
+            Some(Kind::Tally)
+        } else if name == b"share".as_slice() {
+            Some(Kind::Share)
         } else if name == b"mix".as_slice() {
             Some(Kind::Mix)
         } else {

@@ -104,7 +104,7 @@ pub(crate) fn prepare(
     let Some(task) = Task::of(facts.kind, payload, step.draws.as_slice()) else {
         return Err(StepFault::Draws);
     };
-    let answer = task.answer(alloc, step.node, facts.nodes, &receiver.value)?;
+    let answer = task.answer(alloc, step.node, facts.nodes, &receiver.value, message)?;
     Ok(Plan {
         stamp: receiver.stamp.max(message.stamp) + 1,
         number: message.number,

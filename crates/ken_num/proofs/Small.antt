@@ -20,3 +20,11 @@ num-lt bytes n e =
     let taken = chosen (is_num bytes) (value_from 0 bytes) n e in
     let parts = second_and_third (nat_lt 0 (length bytes)) (all_ascii_digits bytes) (not (slice_index bytes 0 == 48) || (length bytes == 1)) (length bytes) taken.0 in
     omega (arith, digits_value_short numerals bytes 9 parts.1 parts.0, taken.1)
+
+-- it has few bytes, and all are digits
+pub num-digits : (bytes : List ℕ) (n : ℕ) → num bytes ≡ Some n → (all_ascii_digits bytes ≡ true) × (length bytes ≤ 9)
+unfolding num
+num-digits bytes n e =
+    let taken = chosen (is_num bytes) (value_from 0 bytes) n e in
+    let parts = second_and_third (nat_lt 0 (length bytes)) (all_ascii_digits bytes) (not (slice_index bytes 0 == 48) || (length bytes == 1)) (length bytes) taken.0 in
+    (parts.1, parts.0)

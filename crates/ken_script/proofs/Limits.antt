@@ -5,9 +5,9 @@ use Rattle.std.proofs.lemmas.Bool.Decides.{nat_tests}
 use Rattle.serde_json.specs.Data.{Data}
 use Rattle.serde_json.specs.Find.{get, as_str, as_array}
 use Rattle.ken_model.specs.declared.facts.Input.{Input}
-use Rattle.ken_model.specs.declared.facts.TheConstants.{MAX_NODES, MAX_TURNS, MAX_INPUTS, MAX_TEXT}
+use Rattle.ken_model.specs.declared.facts.TheConstants.{MAX_NODES, MAX_PAGES, MAX_TURNS, MAX_INPUTS, MAX_TEXT}
 use Rattle.ken_model.specs.Facts.{IsPlain, ArePlain, IsWithinLimits, IsPlainRun}
-use Rattle.ken_script.specs.declared.scripts.TheConstants.{DEFAULT_TURNS}
+use Rattle.ken_script.specs.declared.scripts.TheConstants.{DEFAULT_PAGES, DEFAULT_TURNS}
 use Rattle.ken_script.specs.declared.scripts.Script.{Script}
 use Rattle.ken_script.specs.Keys.{whole, within, taken_or, items_in}
 use Rattle.ken_script.specs.Inputs.{both, node_of, input, input_of, inputs_of, least, overflow, wrong_input, long_text, is_plain, odd_text}
@@ -133,15 +133,16 @@ module _ (d : Data) (s : Script) (states : States d s) where
       let unbroken = none_broken (rules_of d) states.right in
       let nodes = within_bounds 1 MAX_NODES s.facts.nodes (option_and_then whole (get (codes "nodes") d)) states.nodes in
       let turns = taken_or_bounds DEFAULT_TURNS 1 MAX_TURNS s.facts.turns (get (codes "turns") d) (lit≤ tt) (lit≤ tt) states.turns in
+      let pages = taken_or_bounds DEFAULT_PAGES 1 MAX_PAGES states.pages (get (codes "pages") d) (lit≤ tt) (lit≤ tt) states.told_pages in
       let count : node_count d ≡ s.facts.nodes = ap (λ o. unwrap_or o 0) states.nodes in
-      let items = items_within (node_count d) (items_in d) s.facts.inputs unbroken.1.1.1.1.1.0 states.inputs in
-      let long : long_text s.facts.inputs ≡ None = rw states.inputs at unbroken.1.1.1.1.1.1.0 in
+      let items = items_within (node_count d) (items_in d) s.facts.inputs unbroken.1.1.1.1.1.1.0 states.inputs in
+      let long : long_text s.facts.inputs ≡ None = rw states.inputs at unbroken.1.1.1.1.1.1.1.0 in
       record {
         some_node = nodes.0;
         few_nodes = nodes.1;
         some_turn = turns.0;
         few_turns = turns.1;
-        pages = (16, lit≤ tt, lit≤ tt, states.size);
+        pages = (states.pages, pages.0, pages.1, states.size);
         few_inputs = items.0;
         inputs = rw count at (both_all (node_count d) s.facts.inputs items.1 (none_passes (λ (i : Input). nat_lt MAX_TEXT (length i.text)) s.facts.inputs long));
       }
@@ -149,5 +150,5 @@ module _ (d : Data) (s : Script) (states : States d s) where
   pub plain_run_of : IsPlainRun s.facts
   plain_run_of =
       let unbroken = none_broken (rules_of d) states.right in
-      let odd : odd_text s.facts.inputs ≡ None = rw states.inputs at unbroken.1.1.1.1.1.1.1.0 in
+      let odd : odd_text s.facts.inputs ≡ None = rw states.inputs at unbroken.1.1.1.1.1.1.1.1.0 in
       plain_texts s.facts.inputs (none_passes (λ (i : Input). not (list_all is_plain i.text)) s.facts.inputs odd)

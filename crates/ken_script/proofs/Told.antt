@@ -1,12 +1,13 @@
 -- A text that is read only as far as one byte past the longest script.
-use Rattle.std.proofs.Common.{◌≡◌, ℕ, ◌+◌, ◌<◌, ◌≤◌, inl, inr, List, length, take, Option, Some, refl, sym, ap, ◌∙◌, subst, arith}
+use Rattle.std.proofs.Common.{◌≡◌, ℕ, ◌+◌, ◌<◌, ◌≤◌, inl, inr, List, length, take, Option, Some, refl, sym, ap, ◌∙◌, subst, arith, ◌*◌}
 use Rattle.std.proofs.lemmas.List.{take_all, length-take}
 use Rattle.std.proofs.lemmas.Bool.{cases_lt}
 use Rattle.serde_json.specs.Data.{Data}
 use Rattle.ken_script.specs.declared.scripts.TheConstants.{LIMIT}
 use Rattle.ken_script.specs.declared.scripts.Script.{Script}
 use Rattle.ken_model.specs.declared.facts.Facts.{Facts}
-use Rattle.ken_script.specs.Keys.{nodes_of, kind_in, seed_of, turns_of}
+use Rattle.ken_model.specs.declared.facts.TheConstants.{PAGE}
+use Rattle.ken_script.specs.Keys.{nodes_of, kind_in, pages_of, seed_of, turns_of}
 use Rattle.ken_script.specs.Faults.{Breaks, no_object, in_object, inputs_in, fault_in}
 use Rattle.ken_script.specs.Says.{States, Says}
 use Rattle.ken_script.specs.Laws.{BreaksByItsFront, SaysByItsFront, SaysOrBreaks, BreaksOnce, SaysOnce}
@@ -61,7 +62,7 @@ same_script s s' facts seed = grind arith
 
 states_once : (d : Data) (s s' : Script) → States d s → States d s' → s ≡ s'
 states_once d s s' a b =
-    let facts : s.facts ≡ s'.facts = same_facts s.facts s'.facts (same_value (nodes_of d) _ _ a.nodes b.nodes) (same_value (kind_in d) _ _ a.kind b.kind) (a.size ∙ sym b.size) (same_value (turns_of d) _ _ a.turns b.turns) (same_value (inputs_in d) _ _ a.inputs b.inputs) in
+    let facts : s.facts ≡ s'.facts = same_facts s.facts s'.facts (same_value (nodes_of d) _ _ a.nodes b.nodes) (same_value (kind_in d) _ _ a.kind b.kind) (a.size ∙ ap (λ n. PAGE * n) (same_value (pages_of d) _ _ a.told_pages b.told_pages) ∙ sym b.size) (same_value (turns_of d) _ _ a.turns b.turns) (same_value (inputs_in d) _ _ a.inputs b.inputs) in
     let seed : s.seed ≡ s'.seed = same_value (seed_of d) _ _ a.seed b.seed in
     same_script s s' facts seed
 

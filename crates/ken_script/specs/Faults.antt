@@ -4,7 +4,7 @@ use Rattle.serde_json.specs.Data.{Data}
 use Rattle.ken_model.specs.declared.facts.Input.{Input}
 use Rattle.ken_script.specs.declared.faults.ScriptFault.{ScriptFault}
 use Rattle.ken_script.specs.declared.faults.ScriptFault.TheVariants.{Rule, Memory}
-use Rattle.ken_script.specs.Keys.{unknown_key, nodes_of, kind_in, seed_of, turns_of, items_in}
+use Rattle.ken_script.specs.Keys.{unknown_key, nodes_of, kind_in, pages_of, seed_of, turns_of, items_in}
 use Rattle.ken_script.specs.Inputs.{inputs_of, wrong_input, long_text, odd_text}
 use Rattle.ken_script.specs.Object.{IsObject}
 
@@ -33,13 +33,14 @@ first_of ((rule, None) ∷ more) = first_of more
 first_of ((rule, Some index) ∷ more) = Some (rule, index)
 
 -- each rule of an object by its number, with the least place at which it is broken: 2, each key is known; 3, the number
--- of nodes; 4, the kind; 6, the seed; 7, the most turns of a node, at place 1; 8, the items of `inputs`; 9, the lengths
--- of their texts; 10, the bytes of their texts
+-- of nodes; 4, the kind; 5, the pages of each heap; 6, the seed; 7, the most turns of a node, at place 1; 8, the items of
+-- `inputs`; 9, the lengths of their texts; 10, the bytes of their texts
 abbrev pub rules_of : Data → List (ℕ × Option ℕ)
 rules_of d =
     (2, unknown_key d)
     ∷ (3, missing 0 (nodes_of d))
     ∷ (4, missing 0 (kind_in d))
+    ∷ (5, missing 0 (pages_of d))
     ∷ (6, missing 0 (seed_of d))
     ∷ (7, missing 1 (turns_of d))
     ∷ (8, item_fault (wrong_input (node_count d)) (items_in d))

@@ -4,13 +4,13 @@ use Rattle.std.specs.List.{list_any}
 use Rattle.serde_json.specs.Data.{Data, Items, no_items, item, Members, no_members, member}
 use Rattle.serde_json.specs.Find.{get, as_object, as_array, as_str, as_number, as_u64}
 use Rattle.ken_model.specs.declared.kinds.Kind.{Kind}
-use Rattle.ken_model.specs.declared.facts.TheConstants.{MAX_NODES, MAX_TURNS}
+use Rattle.ken_model.specs.declared.facts.TheConstants.{MAX_NODES, MAX_PAGES, MAX_TURNS}
 use Rattle.ken_model.specs.Handler.{kind_of}
-use Rattle.ken_script.specs.declared.scripts.TheConstants.{DEFAULT_SEED, DEFAULT_TURNS}
+use Rattle.ken_script.specs.declared.scripts.TheConstants.{DEFAULT_PAGES, DEFAULT_SEED, DEFAULT_TURNS}
 
 -- the keys that a script may have
 abbrev pub keys : List (List ℕ)
-keys = codes "nodes" ∷ codes "kind" ∷ codes "seed" ∷ codes "turns" ∷ codes "inputs" ∷ []
+keys = codes "nodes" ∷ codes "kind" ∷ codes "pages" ∷ codes "seed" ∷ codes "turns" ∷ codes "inputs" ∷ []
 
 -- whether a key is one of them
 abbrev pub is_key : List ℕ → Bool
@@ -45,6 +45,10 @@ kind_in d = option_and_then kind_of (option_and_then as_str (get (codes "kind") 
 abbrev pub taken_or : {T : Type 0} → T → (Data → Option T) → Option Data → Option T
 taken_or absent take None = Some absent
 taken_or absent take (Some value) = take value
+
+-- the pages of each heap, if `pages` is absent or a number that a heap can have
+abbrev pub pages_of : Data → Option ℕ
+pages_of d = taken_or DEFAULT_PAGES (λ value. option_and_then (within 1 MAX_PAGES) (whole value)) (get (codes "pages") d)
 
 -- where the random words start, if `seed` is absent or a whole number
 abbrev pub seed_of : Data → Option ℕ

@@ -2,19 +2,20 @@
 use Rattle.std.specs.Prelude.{◌≡◌, ℕ, ◌*◌, List, Some, None}
 use Rattle.serde_json.specs.Data.{Data}
 use Rattle.ken_model.specs.declared.facts.TheConstants.{PAGE}
-use Rattle.ken_script.specs.declared.scripts.TheConstants.{DEFAULT_PAGES}
 use Rattle.ken_script.specs.declared.scripts.Script.{Script}
 use Rattle.ken_script.specs.Object.{IsObject}
-use Rattle.ken_script.specs.Keys.{nodes_of, kind_in, seed_of, turns_of}
+use Rattle.ken_script.specs.Keys.{nodes_of, kind_in, pages_of, seed_of, turns_of}
 use Rattle.ken_script.specs.Faults.{inputs_in, fault_in}
 
--- the object breaks no rule, and the facts and the seed are what stands under its keys; a script doesn't say the size
+-- the object breaks no rule, and the facts and the seed are what stands under its keys; a heap has the size of its pages
 pub record States (d : Data) (s : Script) : Type 0 where
   pub right : fault_in d ≡ None
   pub nodes : nodes_of d ≡ Some s.facts.nodes
   pub kind : kind_in d ≡ Some s.facts.kind
   pub inputs : inputs_in d ≡ Some s.facts.inputs
-  pub size : s.facts.size ≡ PAGE * DEFAULT_PAGES
+  pub pages : ℕ
+  pub told_pages : pages_of d ≡ Some pages
+  pub size : s.facts.size ≡ PAGE * pages
   pub turns : turns_of d ≡ Some s.facts.turns
   pub seed : seed_of d ≡ Some s.seed
 

@@ -10,6 +10,8 @@ pub(crate) const NODES: u8 = 3;
 
 pub(crate) const KIND: u8 = 4;
 
+pub(crate) const PAGES: u8 = 5;
+
 pub(crate) const SEED: u8 = 6;
 
 pub(crate) const COUNTS: u8 = 7;

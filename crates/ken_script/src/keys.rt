@@ -1,16 +1,19 @@
 // What stands under each key of a script.
 ghost use Rattle.std.specs.Prelude.{◌≡◌, option_map};
 ghost use Rattle.serde_json.specs.View.{view, items_view, members_view};
-ghost use Rattle.ken_script.specs.Keys.{is_key, unknown_key, nodes_of, kind_in, seed_of, turns_of, items_in, listed};
+ghost use Rattle.ken_script.specs.Keys.{is_key, unknown_key, nodes_of, kind_in, pages_of, seed_of, turns_of, items_in, listed};
 
-use crate::scripts::{DEFAULT_SEED, DEFAULT_TURNS};
-use ken_model::{Kind, MAX_NODES, MAX_TURNS};
+use crate::scripts::{DEFAULT_PAGES, DEFAULT_SEED, DEFAULT_TURNS};
+use ken_model::{Kind, MAX_NODES, MAX_PAGES, MAX_TURNS};
 use serde_json::Value;
 
 fn is_key(name: &str) -> bool
     ensures { result ≡ is_key name.now }
 {
-    matches!(name, "nodes" | "kind" | "seed" | "turns" | "inputs")
+    matches!(
+        name,
+        "nodes" | "kind" | "pages" | "seed" | "turns" | "inputs"
+    )
 }
 
 /// The place of the first key that isn't known, among the keys in byte order.
@@ -39,6 +42,20 @@ pub(crate) fn kind_in(script: &Value) -> Option<Kind>
     ensures { result ≡ kind_in (view script.now) }
 {
     Kind::of(script.get("kind")?.as_str()?.as_bytes())
+}
+
+/// The pages of each heap, from 1 to `MAX_PAGES`.
+pub(crate) fn pages_of(script: &Value) -> Option<u64>
+    ensures { result ≡ pages_of (view script.now) }
+{
+    let Some(pages) = script.get("pages") else {
+        return Some(DEFAULT_PAGES);
+    };
+    let pages = pages.as_u64()?;
+    if pages == 0 || pages > MAX_PAGES {
+        return None;
+    }
+    Some(pages)
 }
 
 /// Where the random words start: any `u64`.

@@ -6,11 +6,11 @@ ghost use Rattle.ken_script.specs.Faults.{IsFaultOf, IsFaultIn};
 ghost use Rattle.ken_script.specs.Says.{States, Says};
 
 use crate::faults::{
-    COUNTS, INPUTS, KEYS, KIND, NODES, OBJECT, SEED, ScriptFault, TEXT_BYTES, TEXT_LENGTHS,
+    COUNTS, INPUTS, KEYS, KIND, NODES, OBJECT, PAGES, SEED, ScriptFault, TEXT_BYTES, TEXT_LENGTHS,
 };
 use crate::inputs::{inputs_of, long_text, odd_text};
-use crate::keys::{items_in, kind_in, nodes_of, seed_of, turns_of, unknown_key};
-use crate::scripts::{DEFAULT_PAGES, LIMIT, Script};
+use crate::keys::{items_in, kind_in, nodes_of, pages_of, seed_of, turns_of, unknown_key};
+use crate::scripts::{LIMIT, Script};
 use ken_model::{Facts, Items, PAGE};
 use serde_json::Value;
 use std::alloc::Global;
@@ -44,6 +44,9 @@ fn script_in(alloc: Global, object: &Value) -> Result<Script, ScriptFault>
     let Some(kind) = kind_in(object) else {
         return Err(ScriptFault::at(KIND, 0));
     };
+    let Some(pages) = pages_of(object) else {
+        return Err(ScriptFault::at(PAGES, 0));
+    };
     let Some(seed) = seed_of(object) else {
         return Err(ScriptFault::at(SEED, 0));
     };
@@ -64,7 +67,7 @@ fn script_in(alloc: Global, object: &Value) -> Result<Script, ScriptFault>
         facts: Facts {
             nodes,
             kind,
-            size: PAGE * DEFAULT_PAGES,
+            size: PAGE * pages,
             turns,
             inputs: Items::new(inputs),
         },

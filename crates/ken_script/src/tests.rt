@@ -47,24 +47,39 @@ fn reads_what_a_script_says(rt: HostRuntime) -> Result<(), Fail> {
 }
 
 #[test]
-fn reads_the_seed_and_the_turns(rt: HostRuntime) -> Result<(), Fail> {
+fn reads_the_pages_the_seed_and_the_turns(rt: HostRuntime) -> Result<(), Fail> {
     let cases = [
-        ("", 0, 1_000),
-        (",\"turns\":1", 0, 1),
-        (",\"turns\":100000,\"seed\":0", 0, 100_000),
-        (",\"seed\":18446744073709551615", u64::MAX, 1_000),
+        ("", 4_096, 0, 1_000),
+        (",\"pages\":1", 256, 0, 1_000),
+        (",\"turns\":1", 4_096, 0, 1),
+        (
+            ",\"pages\":4096,\"turns\":100000,\"seed\":0",
+            1_048_576,
+            0,
+            100_000,
+        ),
+        (",\"seed\":18446744073709551615", 4_096, u64::MAX, 1_000),
         // The last value of a key counts.
-        (",\"seed\":-1,\"seed\":7,\"turns\":0,\"turns\":2", 7, 2),
+        (
+            ",\"seed\":-1,\"seed\":7,\"turns\":0,\"turns\":2,\"pages\":0,\"pages\":2",
+            512,
+            7,
+            2,
+        ),
     ];
-    for (keys, seed, turns) in cases {
+    for (keys, size, seed, turns) in cases {
         let script = read(rt.alloc(), with_keys(rt.alloc(), keys)?.as_bytes())?;
-        assert_eq!(rt; (script.seed, script.facts.turns), (seed, turns), "{keys}");
+        assert_eq!(rt;
+            (script.facts.size, script.seed, script.facts.turns),
+            (size, seed, turns),
+            "{keys}"
+        );
     }
     Ok(())
 }
 
 #[test]
-fn refuses_a_seed_or_turns_out_of_range(rt: HostRuntime) -> Result<(), Fail> {
+fn refuses_pages_a_seed_or_turns_out_of_range(rt: HostRuntime) -> Result<(), Fail> {
     let cases = [
         (",\"seed\":18446744073709551616", rule(6, 0)),
         (",\"seed\":-1", rule(6, 0)),
@@ -79,7 +94,12 @@ fn refuses_a_seed_or_turns_out_of_range(rt: HostRuntime) -> Result<(), Fail> {
         (",\"turns\":null", rule(7, 1)),
         // A rule of lower number goes first.
         (",\"turns\":0,\"seed\":-1", rule(6, 0)),
-        (",\"turns\":0,\"pages\":1", rule(2, 3)),
+        (",\"turns\":0,\"restarts\":1", rule(2, 3)),
+        (",\"pages\":0,\"seed\":-1", rule(5, 0)),
+        (",\"pages\":4097", rule(5, 0)),
+        (",\"pages\":\"16\"", rule(5, 0)),
+        (",\"pages\":null,\"turns\":0", rule(5, 0)),
+        (",\"pages\":-1,\"kind\":\"rung\"", rule(4, 0)),
         (",\"turns\":0,\"nodes\":9", rule(3, 0)),
         (",\"seed\":-1,\"kind\":\"rung\"", rule(4, 0)),
         (",\"turns\":0,\"inputs\":7", rule(7, 1)),
@@ -112,7 +132,7 @@ fn refuses_by_the_first_rule(rt: HostRuntime) -> Result<(), Fail> {
             rule(2, 0),
         ),
         (
-            "{\"nodes\":3,\"kind\":\"ring\",\"inputs\":[[0,\"2\"]],\"pages\":16}",
+            "{\"nodes\":3,\"kind\":\"ring\",\"inputs\":[[0,\"2\"]],\"restarts\":1}",
             rule(2, 3),
         ),
         (
@@ -145,7 +165,9 @@ fn refuses_by_the_first_rule(rt: HostRuntime) -> Result<(), Fail> {
         ("{\"nodes\":3,\"kind\":\"rung\",\"inputs\":7}", rule(4, 0)),
         ("{\"nodes\":3,\"kind\":1,\"inputs\":[]}", rule(4, 0)),
         ("{\"nodes\":3,\"kind\":\"Mix\",\"inputs\":[]}", rule(4, 0)),
-        ("{\"nodes\":3,\"kind\":\"tally\",\"inputs\":[]}", rule(4, 0)),
+        ("{\"nodes\":3,\"kind\":\"kv\",\"inputs\":[]}", rule(4, 0)),
+        ("{\"nodes\":3,\"kind\":\"tally\",\"inputs\":[]}", None),
+        ("{\"nodes\":3,\"kind\":\"share\",\"inputs\":[]}", None),
         ("{\"nodes\":3,\"kind\":\"mix\",\"inputs\":[]}", None),
         // The list of inputs.
         ("{\"nodes\":3,\"kind\":\"ring\"}", rule(8, 0)),

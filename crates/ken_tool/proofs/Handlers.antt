@@ -1,17 +1,20 @@
 -- What a handler sends and outputs is little, goes to nodes of the run, and holds no line feed.
-use Rattle.std.proofs.Common.{◌≡◌, ℕ, ◌+◌, ◌-◌, ◌<◌, ◌≤◌, ◌^◌, ◌%◌, List, [], ◌∷◌, length, Bool, true, false, if◌then◌else◌, nat_lt, Option, Some, None, decimal, refl, subst, arith}
+use Rattle.std.proofs.Common.{◌≡◌, ℕ, ◌+◌, ◌-◌, ◌<◌, ◌≤◌, ◌^◌, ◌%◌, ◌/◌, List, [], ◌∷◌, length, Bool, ◌==◌, true, false, if◌then◌else◌, nat_lt, Option, Some, None, decimal, refl, subst, arith}
 use Rattle.std.specs.List.{AllByRecursion}
 use Rattle.std.proofs.lemmas.Fmt.{length-decimal-le}
+use Rattle.std.specs.Str.{all_ascii_digits}
+use Rattle.std.proofs.lemmas.Str.Parse.{tells_all_ascii_digits}
 use Rattle.std.proofs.lemmas.List.Elements.{recursion_from_All}
 use Rattle.ken_model.specs.declared.kinds.Kind.{Kind}
-use Rattle.ken_model.specs.declared.kinds.Kind.TheVariants.{Ring, Mix}
+use Rattle.ken_model.specs.declared.kinds.Kind.TheVariants.{Ring, Tally, Share, Mix}
 use Rattle.ken_model.specs.declared.values.Value.{Value}
 use Rattle.ken_model.specs.declared.messages.Message.{Message}
 use Rattle.ken_model.specs.declared.messages.Send.{Send}
-use Rattle.ken_model.specs.Handler.{Effect, after, ring, mix, refused, without_draws}
+use Rattle.ken_model.specs.Handler.{Effect, after, ring, tally, share, mix, refused, without_draws, to_others}
 use Rattle.ken_num.specs.Numbers.{num}
 use Rattle.ken_num.proofs.Decimals.{All-decimal}
-use Rattle.ken_num.proofs.Small.{num-lt}
+use Rattle.ken_num.proofs.Small.{num-lt, num-digits}
+use Rattle.ken_model.proofs.Others.{to_others-each, to_others-few}
 use Rattle.ken_model.specs.Report.{IsOneLine}
 use Rattle.ken_tool.specs.Turns.{IsModest, IsPayload}
 
@@ -20,6 +23,15 @@ one_line_decimal n word = recursion_from_All (λ b. (b ≡ 10) → ⊥) (decimal
 
 payload_decimal : (n : ℕ) → n < 10 ^ 9 → IsPayload (decimal n)
 payload_decimal n small = (one_line_decimal n (omega arith), omega (arith, length-decimal-le 9 n (omega arith) small (omega arith)))
+
+-- digits hold no line feed
+digits_line : (bytes : List ℕ) → all_ascii_digits bytes ≡ true → IsOneLine bytes
+digits_line [] digits = tt
+digits_line (b ∷ bs) digits = let parts = tells_all_ascii_digits.parts b bs digits in ((λ e. omega (arith, parts.0.0)), digits_line bs parts.1)
+
+-- a text that is a number may be sent on
+payload_num : (bytes : List ℕ) (n : ℕ) → num bytes ≡ Some n → IsPayload bytes
+payload_num bytes n is = let digits = num-digits bytes n is in (digits_line bytes digits.0, omega (arith, digits.1))
 
 -- what is left of a count goes to a node of the run, if anything is left
 modest_sends : (b : Bool) (nodes to : ℕ) (bytes : List ℕ) → to < nodes → IsPayload bytes → (length {A = Send} (if b then record { to = to; bytes = bytes } ∷ [] else []) ≤ 16) × AllByRecursion (λ (s : Send). (s.to < nodes) × IsPayload s.bytes) (if b then record { to = to; bytes = bytes } ∷ [] else [])
@@ -40,6 +52,24 @@ modest_ring node nodes value (Some n) some small =
     let sends = modest_sends (nat_lt 0 n) nodes ((node + 1) % nodes) (decimal (n - 1)) (omega arith) (payload_decimal (n - 1) (omega arith)) in
     record { few_sends = sends.0; few_outs = omega arith; known = sends.1; one_line = (one_line_decimal n (omega arith), tt) }
 
+-- a number goes to all other nodes, if it came from outside
+modest_others : (b : Bool) (node nodes : ℕ) (bytes : List ℕ) → nodes ≤ 8 → IsPayload bytes → (length (if b then to_others node nodes bytes else []) ≤ 16) × AllByRecursion (λ (s : Send). (s.to < nodes) × IsPayload s.bytes) (if b then to_others node nodes bytes else [])
+modest_others true node nodes bytes few payload = (omega (arith, to_others-few node nodes bytes), to_others-each (λ (s : Send). (s.to < nodes) × IsPayload s.bytes) node nodes bytes (λ k less. (less, payload)))
+modest_others false node nodes bytes few payload = (omega arith, tt)
+
+modest_tally : (node nodes : ℕ) (value : Value) (m : Message) (o : Option ℕ) → nodes ≤ 8 → ((n : ℕ) → o ≡ Some n → IsPayload m.bytes) → IsModestEffect nodes (tally node nodes value m o)
+modest_tally node nodes value m None few payload = modest_refused nodes value
+modest_tally node nodes value m (Some n) few payload =
+    let sends = modest_others (m.from == 255) node nodes m.bytes few (payload n refl) in
+    record { few_sends = sends.0; few_outs = omega arith; known = sends.1; one_line = (one_line_decimal ((value.root + n) % 2 ^ 64) (omega arith), tt) }
+
+modest_share : (node nodes : ℕ) (value : Value) (o : Option ℕ) → 0 < nodes → ((n : ℕ) → o ≡ Some n → n < 10 ^ 9) → IsModestEffect nodes (share node nodes value o)
+modest_share node nodes value None some small = modest_refused nodes value
+modest_share node nodes value (Some n) some small =
+    let little : n < 10 ^ 9 = small n refl in
+    let sends = modest_sends (nat_lt 0 (n / 2)) nodes ((node + 1) % nodes) (decimal (n / 2)) (omega arith) (payload_decimal (n / 2) (omega arith)) in
+    record { few_sends = sends.0; few_outs = omega arith; known = sends.1; one_line = (one_line_decimal n (omega arith), tt) }
+
 modest_without_draws : (nodes : ℕ) (draws : List ℕ) (made e : Effect) → IsModestEffect nodes made → without_draws draws made ≡ Some e → IsModestEffect nodes e
 modest_without_draws nodes [] made e modest is = let same : made ≡ e = cc in subst (IsModestEffect nodes) same modest
 modest_without_draws nodes (d ∷ ds) made e modest is = absurd cc
@@ -58,7 +88,9 @@ modest_mix nodes value (Some n) (clock ∷ word ∷ []) e some small is =
     subst (IsModestEffect nodes) same modest
 
 -- whatever a handler makes is little
-pub modest_after : (kind : Kind) (node nodes : ℕ) (value : Value) (m : Message) (draws : List ℕ) (e : Effect) → 0 < nodes → after kind node nodes value m draws ≡ Some e → IsModest nodes e.sends e.outs
+pub modest_after : (kind : Kind) (node nodes : ℕ) (value : Value) (m : Message) (draws : List ℕ) (e : Effect) → 0 < nodes → nodes ≤ 8 → after kind node nodes value m draws ≡ Some e → IsModest nodes e.sends e.outs
 unfolding after
-modest_after Ring node nodes value m draws e some is = modest_without_draws nodes draws (ring node nodes value (num m.bytes)) e (modest_ring node nodes value (num m.bytes) some (num-lt m.bytes)) is
-modest_after Mix node nodes value m draws e some is = modest_mix nodes value (num m.bytes) draws e some (num-lt m.bytes) is
+modest_after Ring node nodes value m draws e some few is = modest_without_draws nodes draws (ring node nodes value (num m.bytes)) e (modest_ring node nodes value (num m.bytes) some (num-lt m.bytes)) is
+modest_after Tally node nodes value m draws e some few is = modest_without_draws nodes draws (tally node nodes value m (num m.bytes)) e (modest_tally node nodes value m (num m.bytes) few (payload_num m.bytes)) is
+modest_after Share node nodes value m draws e some few is = modest_without_draws nodes draws (share node nodes value (num m.bytes)) e (modest_share node nodes value (num m.bytes) some (num-lt m.bytes)) is
+modest_after Mix node nodes value m draws e some few is = modest_mix nodes value (num m.bytes) draws e some (num-lt m.bytes) is

@@ -3,12 +3,12 @@ use Rattle.std.proofs.Common.{◌≡◌, ℕ, ◌+◌, max, List, [], ◌∷◌,
 use Rattle.std.specs.List.{AllByRecursion}
 use Rattle.std.proofs.lemmas.Bool.{cases_eq}
 use Rattle.ken_model.specs.declared.kinds.Kind.{Kind}
-use Rattle.ken_model.specs.declared.kinds.Kind.TheVariants.{Ring, Mix}
+use Rattle.ken_model.specs.declared.kinds.Kind.TheVariants.{Ring, Tally, Share, Mix}
 use Rattle.ken_model.specs.declared.values.Value.{Value}
 use Rattle.ken_model.specs.declared.messages.Message.{Message}
 use Rattle.ken_model.specs.declared.facts.Facts.{Facts}
 use Rattle.ken_model.specs.declared.reports.TurnLine.{TurnLine}
-use Rattle.ken_model.specs.Handler.{Effect, after, ring, mix, mix_counts, refused, without_draws}
+use Rattle.ken_model.specs.Handler.{Effect, after, ring, tally, share, mix, mix_counts, refused, without_draws}
 use Rattle.ken_num.specs.Numbers.{num}
 use Rattle.ken_model.specs.Network.{Place, Turn, turn_at, place_after}
 use Rattle.ken_model.specs.History.{AreTurns, places, lines_at, line_at}
@@ -32,6 +32,14 @@ printable_ring : (node nodes : ℕ) (value : Value) (o : Option ℕ) → IsPrint
 printable_ring node nodes value None heap = heap
 printable_ring node nodes value (Some n) heap = record { root = omega arith; blocks = heap.blocks }
 
+printable_tally : (node nodes : ℕ) (value : Value) (m : Message) (o : Option ℕ) → IsPrintableHeap value → IsPrintableHeap (tally node nodes value m o).value
+printable_tally node nodes value m None heap = heap
+printable_tally node nodes value m (Some n) heap = record { root = omega arith; blocks = heap.blocks }
+
+printable_share : (node nodes : ℕ) (value : Value) (o : Option ℕ) → IsPrintableHeap value → IsPrintableHeap (share node nodes value o).value
+printable_share node nodes value None heap = heap
+printable_share node nodes value (Some n) heap = record { root = omega arith; blocks = heap.blocks }
+
 printable_without_draws : (draws : List ℕ) (made e : Effect) → IsPrintableHeap made.value → without_draws draws made ≡ Some e → IsPrintableHeap e.value
 printable_without_draws [] made e heap is = let same : made ≡ e = cc in subst (λ (x : Effect). IsPrintableHeap x.value) same heap
 printable_without_draws (d ∷ ds) made e heap is = absurd cc
@@ -48,6 +56,8 @@ printable_mix nodes value (Some n) (clock ∷ word ∷ []) e words is heap =
 printable_after : (kind : Kind) (node nodes : ℕ) (value : Value) (m : Message) (draws : List ℕ) (e : Effect) → AllByRecursion IsWord draws → after kind node nodes value m draws ≡ Some e → IsPrintableHeap value → IsPrintableHeap e.value
 unfolding after
 printable_after Ring node nodes value m draws e words made heap = printable_without_draws draws (ring node nodes value (num m.bytes)) e (printable_ring node nodes value (num m.bytes) heap) made
+printable_after Tally node nodes value m draws e words made heap = printable_without_draws draws (tally node nodes value m (num m.bytes)) e (printable_tally node nodes value m (num m.bytes) heap) made
+printable_after Share node nodes value m draws e words made heap = printable_without_draws draws (share node nodes value (num m.bytes)) e (printable_share node nodes value (num m.bytes) heap) made
 printable_after Mix node nodes value m draws e words made heap = printable_mix nodes value (num m.bytes) draws e words made heap
 
 some_effect : (p : Place) (draws : List ℕ) (m : Message) (o : Option Effect) (t : Turn) → option_map (λ (e : Effect). record { message = m; draws = draws; stamp = max p.stamp m.stamp + 1; effect = e }) o ≡ Some t → o ≡ Some t.effect

@@ -172,6 +172,48 @@ fn what_a_run_drew_is_reported(rt: HostRuntime) -> Result<(), Fail> {
 }
 
 #[test]
+fn numbers_are_added_up_and_shared_out(rt: HostRuntime) -> Result<(), Fail> {
+    let cases = [
+        (
+            "{\"nodes\":2,\"kind\":\"tally\",\"pages\":1,\"inputs\":[[0,\"1\"],[0,\"2\"],[0,\"3\"]]}",
+            "turn 1 0 out 1 -\n\
+             turn 2 0 out 2 -\n\
+             turn 2 1 0 1 -\n\
+             turn 3 0 out 3 -\n\
+             turn 3 1 0 2 -\n\
+             turn 4 1 0 3 -\n\
+             emit 0 1 1\n\
+             emit 0 2 3\n\
+             emit 0 3 6\n\
+             emit 1 1 1\n\
+             emit 1 2 3\n\
+             emit 1 3 6\n\
+             heap 0 6\n\
+             heap 1 6\n\
+             end settled 6\n",
+        ),
+        (
+            "{\"nodes\":2,\"kind\":\"share\",\"inputs\":[[0,\"5\"]]}",
+            "turn 1 0 out 1 -\n\
+             turn 2 1 0 1 -\n\
+             turn 3 0 1 1 -\n\
+             emit 0 1 5\n\
+             emit 0 2 1\n\
+             emit 1 1 2\n\
+             heap 0 4\n\
+             heap 1 1\n\
+             end settled 3\n",
+        ),
+    ];
+    for (script, report) in cases {
+        let (status, sink) = run_of(&rt, script)?;
+        assert_eq!(rt; status, Status::Settled, "{script}");
+        assert_eq!(rt; from_utf8(sink.bytes())?, report, "{script}");
+    }
+    Ok(())
+}
+
+#[test]
 fn a_run_that_is_cut_is_reported(rt: HostRuntime) -> Result<(), Fail> {
     let (status, sink) = run_of(&rt, &ring(rt.alloc(), 1, "[0,\"1000\"]")?)?;
     assert_eq!(rt; status, Status::Cut);

@@ -107,7 +107,7 @@ returns-clause-planned c =
       defined = turn_of-task f (network_of f hs) s m c.in-Some-of.task turns_left (waits at.In-Some-front) (a_task at.In-Some-of);
       stamp = ap (λ k. k + 1) (c.max.ensures ∙ ap (λ k. max k m.stamp) (sym stamp));
       number = refl;
-      effect = subst (λ (h : Held). ◌≡◌ {A = Effect} (effect_of s.node f.nodes h.place.value c.in-Some-of.task) (record { value = record h.place.value { root = c.in_ok-answer.answer.root }; sends = c.in_ok-answer.answer.sends.items; outs = c.in_ok-answer.answer.outs.items })) (sym is) c.in_ok-answer.ensures.effect;
+      effect = subst (λ (h : Held). ◌≡◌ {A = Effect} (effect_of s.node f.nodes h.place.value m c.in-Some-of.task) (record { value = record h.place.value { root = c.in_ok-answer.answer.root }; sends = c.in_ok-answer.answer.sends.items; outs = c.in_ok-answer.answer.outs.items })) (sym is) c.in_ok-answer.ensures.effect;
       known = omega (arith, width, within at.In-Some);
       receivers = All-from_recursion (λ (x : Send). x.to < f.nodes) c.in_ok-answer.answer.sends.items c.in_ok-answer.ensures.known;
       sender = λ node. (let known = c.in-Some-front.ensures.sender node in omega arith);

@@ -12,7 +12,12 @@ const SCRIPTS: u64 = 60;
 // A script of a few inputs, where a count goes on for a few turns.
 fn random_script(alloc: Global, dice: &mut Lcg) -> Result<String, AllocError> {
     let nodes = dice.next() % 5 + 1;
-    let kind = if dice.next() % 3 == 0 { "ring" } else { "mix" };
+    let kind = match dice.next() % 5 {
+        0 => "ring",
+        1 => "tally",
+        2 => "share",
+        _ => "mix",
+    };
     let (seed, turns) = (dice.next(), dice.next() % 9 + 1);
     let mut items = String::new(alloc);
     for place in 0..dice.next() % 6 {

@@ -1,0 +1,31 @@
+// The share: a number is halved from node to node, and each keeps its half.
+ghost use Rattle.std.specs.Prelude.{◌≡◌, OnOk};
+ghost use Rattle.ken_model.specs.declared.kinds.Kind.TheVariants.{Share};
+ghost use Rattle.ken_app.specs.Turning.{turning, oracle_of, IsOneTurn, IsFresh, IsHandled};
+
+use crate::answers::{output_number, refuse, send_number};
+use ken_app::{Oracle, Turn};
+use ken_num::num;
+use std::alloc::AllocError;
+
+/// The smaller half of a number goes on to the next node, if it isn't 0, and the rest is added to the root.
+#[tactic(auto, unfolding(ken_model::specs::Handler::after))]
+pub(crate) fn on_message<O: Oracle>(turn: &mut Turn<'_, O>) -> Result<(), AllocError>
+    requires { IsFresh (turning turn.old) }
+    ensures handled { OnOk result (IsHandled Share (turning turn.old) (turning turn.new)) }
+    ensures oracle { oracle_of turn.new ≡ oracle_of turn.old }
+    ensures same { IsOneTurn turn.old turn.new }
+{
+    let Some(amount) = num(turn.message().bytes.as_slice()) else {
+        return refuse(turn);
+    };
+    let half = amount / 2;
+    let root = turn.objects().root();
+    turn.objects().set_root(root.wrapping_add(amount - half));
+    output_number(turn, amount)?;
+    if half > 0 {
+        let next = (turn.node() + 1) % turn.nodes();
+        send_number(turn, next, half)?;
+    }
+    Ok(())
+}
