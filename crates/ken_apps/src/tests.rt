@@ -34,6 +34,7 @@ impl Oracle for Fixed {
 #[derive(Clone, Copy)]
 struct Case<'a> {
     kind: Kind,
+    from: u8,
     node: u8,
     root: u64,
     payload: &'a [u8],
@@ -41,7 +42,7 @@ struct Case<'a> {
     reading: u64,
     word: u64,
     root_then: u64,
-    sent: Option<(u8, &'a [u8])>,
+    sent: &'a [(u8, &'a [u8])],
     out: &'a [u8],
     draws: &'a [u64],
 }
@@ -49,7 +50,7 @@ struct Case<'a> {
 // Makes the turn, and compares.
 fn try_case(rt: &(impl Abort + AllocGlobal), case: &Case<'_>) -> Result<(), Fail> {
     let message = Message {
-        from: OUTSIDE,
+        from: case.from,
         to: case.node,
         number: 1,
         stamp: 0,
@@ -80,10 +81,9 @@ fn try_case(rt: &(impl Abort + AllocGlobal), case: &Case<'_>) -> Result<(), Fail
     assert_eq!(rt; (objects.size, objects.blocks.len()), (4096, 0));
     assert_eq!(rt; made.draws.as_slice(), case.draws);
     assert_eq!(rt; oracle.asked, case.draws.len() as u64);
-    match (made.sends.as_slice(), case.sent) {
-        ([], None) => {}
-        ([send], Some(want)) => assert_eq!(rt; (send.to, send.bytes.as_slice()), want),
-        _ => assert!(rt; false, "other messages"),
+    assert_eq!(rt; made.sends.len(), case.sent.len());
+    for (send, want) in made.sends.iter().zip(case.sent) {
+        assert_eq!(rt; (send.to, send.bytes.as_slice()), *want);
     }
     assert_eq!(rt; made.outs.len(), 1);
     for out in &made.outs {
@@ -97,12 +97,13 @@ fn make_case<'a>(
     kind: Kind,
     payload: &'a [u8],
     root_then: u64,
-    sent: Option<(u8, &'a [u8])>,
+    sent: &'a [(u8, &'a [u8])],
     out: &'a [u8],
     draws: &'a [u64],
 ) -> Case<'a> {
     Case {
         kind,
+        from: OUTSIDE,
         node: 2,
         root: 5,
         payload,
@@ -117,18 +118,18 @@ fn make_case<'a>(
 
 // Such a turn for a payload that no kind knows.
 fn bad<'a>(kind: Kind, payload: &'a [u8]) -> Case<'a> {
-    make_case(kind, payload, 5, None, b"bad", &[])
+    make_case(kind, payload, 5, &[], b"bad", &[])
 }
 
 #[test]
 fn ring_sends_a_count_to_the_next_node(rt: HostRuntime) -> Result<(), Fail> {
     let letters = [b'x'; 512];
-    let last = make_case(Kind::Ring, b"2", 6, Some((0, b"1")), b"2", &[]);
+    let last = make_case(Kind::Ring, b"2", 6, &[(0, b"1")], b"2", &[]);
     let cases = [
         last,
         Case {
             node: 0,
-            sent: Some((1, b"1")),
+            sent: &[(1, b"1")],
             ..last
         },
         Case {
@@ -136,11 +137,65 @@ fn ring_sends_a_count_to_the_next_node(rt: HostRuntime) -> Result<(), Fail> {
             root_then: 0,
             ..last
         },
-        make_case(Kind::Ring, b"0", 6, None, b"0", &[]),
-        make_case(Kind::Ring, b"10", 6, Some((0, b"9")), b"10", &[]),
+        make_case(Kind::Ring, b"0", 6, &[], b"0", &[]),
+        make_case(Kind::Ring, b"10", 6, &[(0, b"9")], b"10", &[]),
         bad(Kind::Ring, b"x"),
         bad(Kind::Ring, b"01"),
         bad(Kind::Ring, &letters),
+    ];
+    for case in &cases {
+        try_case(&rt, case)?;
+    }
+    Ok(())
+}
+
+#[test]
+fn share_sends_the_smaller_half_on(rt: HostRuntime) -> Result<(), Fail> {
+    let five = make_case(Kind::Share, b"5", 8, &[(0, b"2")], b"5", &[]);
+    let cases = [
+        five,
+        Case {
+            node: 0,
+            sent: &[(1, b"2")],
+            ..five
+        },
+        Case {
+            root: u64::MAX,
+            root_then: 2,
+            ..five
+        },
+        make_case(Kind::Share, b"1", 6, &[], b"1", &[]),
+        make_case(Kind::Share, b"0", 5, &[], b"0", &[]),
+        bad(Kind::Share, b"05"),
+    ];
+    for case in &cases {
+        try_case(&rt, case)?;
+    }
+    Ok(())
+}
+
+#[test]
+fn tally_sends_what_comes_from_outside_to_all_others(rt: HostRuntime) -> Result<(), Fail> {
+    let seven = make_case(Kind::Tally, b"7", 12, &[(0, b"7"), (1, b"7")], b"12", &[]);
+    let cases = [
+        seven,
+        Case {
+            node: 1,
+            sent: &[(0, b"7"), (2, b"7")],
+            ..seven
+        },
+        Case {
+            from: 0,
+            sent: &[],
+            ..seven
+        },
+        Case {
+            root: u64::MAX,
+            root_then: 6,
+            out: b"6",
+            ..seven
+        },
+        bad(Kind::Tally, b"7 "),
     ];
     for case in &cases {
         try_case(&rt, case)?;
@@ -156,7 +211,7 @@ fn mix_sends_a_count_where_the_word_says(rt: HostRuntime) -> Result<(), Fail> {
         Kind::Mix,
         b"3",
         u64::MAX,
-        Some((1, b"2")),
+        &[(1, b"2")],
         b"7",
         &[u64::MAX, 7],
     );
@@ -166,8 +221,8 @@ fn mix_sends_a_count_where_the_word_says(rt: HostRuntime) -> Result<(), Fail> {
             word: 7,
             ..three
         },
-        make_case(Kind::Mix, b"2", 1, Some((2, b"1")), b"807", &drawn),
-        make_case(Kind::Mix, b"0", 1, None, b"807", &drawn),
+        make_case(Kind::Mix, b"2", 1, &[(2, b"1")], b"807", &drawn),
+        make_case(Kind::Mix, b"0", 1, &[], b"807", &drawn),
         bad(Kind::Mix, b"x"),
         bad(Kind::Mix, b""),
         bad(Kind::Mix, &letters),

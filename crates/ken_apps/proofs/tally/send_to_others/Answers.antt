@@ -1,4 +1,4 @@
-use Rattle.std.proofs.Common.{◌≡◌, ℕ, ◌+◌, ◌≤◌, List, [], ◌∷◌, ◌++◌, length, refl, sym, ap, subst, ◌∙◌, arith}
+use Rattle.std.proofs.Common.{◌≡◌, ℕ, List, [], ◌∷◌, ◌++◌, length, sym, ap, subst, ◌∙◌, arith}
 use Rattle.std.proofs.lemmas.List.{length_push}
 use Rattle.ken_model.specs.declared.messages.Send.{Send}
 use Rattle.ken_model.specs.Handler.{to_others}
@@ -16,16 +16,16 @@ loop-to-preserved g c =
     let with : List Send → Turning = λ ss. record first { sends = ss } in
     let node : c.node.result ≡ first.node = c.node.ensures ∙ ap (λ (t : Turning). t.node) inv.so_far in
     elim c.if-to-node.branch [
-      then-to-node+in_ok-send w ↦ (let one : List Send = record { to = to; bytes = text } ∷ [] in
-      let sent = w.in_ok-send.ensures in
-      let now : turning w.send.new.turn ≡ with (to_others first.node to text ++ one) = sent.ok ∙ ap (λ (t : Turning). record t { sends = t.sends ++ one }) inv.so_far in
-      let turn_is = w.turn-is in
-      record {
-        so_far = ap turning turn_is ∙ now ∙ ap with (sym (to_others-other first.node to text (λ same. w.if-to-node.true (same ∙ sym node))));
-        few = omega (arith, inv.few, ap (λ (t : Turning). length t.sends) (ap turning turn_is ∙ sent.ok), length_push (turning c.loop-to.turn).sends (record { to = to; bytes = text }));
-        oracle = ap oracle_of turn_is ∙ sent.oracle ∙ inv.oracle;
-        same = subst (IsOneTurn c.args.turn.now) (sym turn_is) (record { objects = sent.same.objects ∙ inv.same.objects; oracle = sent.same.oracle ∙ inv.same.oracle; made = sent.same.made ∙ inv.same.made });
-      })
+      | then-to-node+in_ok-send w ↦ (let one : List Send = record { to = to; bytes = text } ∷ [] in
+          let sent = w.in_ok-send.ensures in
+          let now : turning w.send.new.turn ≡ with (to_others first.node to text ++ one) = sent.ok ∙ ap (λ (t : Turning). record t { sends = t.sends ++ one }) inv.so_far in
+          let turn_is = w.turn-is in
+          record {
+            so_far = ap turning turn_is ∙ now ∙ ap with (sym (to_others-other first.node to text (λ same. w.if-to-node.true (same ∙ sym node))));
+            few = omega (arith, inv.few, ap (λ (t : Turning). length t.sends) (ap turning turn_is ∙ sent.ok), length_push (turning c.loop-to.turn).sends (record { to = to; bytes = text }));
+            oracle = ap oracle_of turn_is ∙ sent.oracle ∙ inv.oracle;
+            same = subst (IsOneTurn c.args.turn.now) (sym turn_is) (record { objects = sent.same.objects ∙ inv.same.objects; oracle = sent.same.oracle ∙ inv.same.oracle; made = sent.same.made ∙ inv.same.made });
+          })
       | else-to-node w ↦ record {
         so_far = ap turning w.turn-is ∙ inv.so_far ∙ ap with (sym (to_others-same first.node to text (w.if-to-node.false ∙ node)));
         few = omega (arith, inv.few, ap (λ (t : Turning). length t.sends) (ap turning w.turn-is));

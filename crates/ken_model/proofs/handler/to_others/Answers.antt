@@ -1,7 +1,4 @@
-use Rattle.std.proofs.Common.{rules, ◌≡◌, ◌+◌, ◌<◌, [], ◌∷◌, ◌++◌, refl, sym, ap, subst, ◌∙◌, arith}
-use Rattle.std.specs.List.{AllByRecursion}
-use Rattle.ken_model.specs.declared.messages.Send.{Send}
-use Rattle.ken_model.specs.Handler.{to_others}
+use Rattle.std.proofs.Common.{sym, ◌∙◌}
 use Rattle.ken_model.proofs.Others.{to_others-other, to_others-same, all-push}
 use Rattle.ken_model.proofs.handler.to_others.Goals as goal
 use Rattle.ken_model.proofs.handler.to_others.Goals.{then-to-node+in_ok-from_slice+in_ok-push, else-to-node}
@@ -12,7 +9,7 @@ loop-to-preserved c =
     let to = c.loop-to.to in
     let text = c.args.text.now in
     elim c.if-to-node.branch [
-      then-to-node+in_ok-from_slice+in_ok-push w ↦ record {
+      | then-to-node+in_ok-from_slice+in_ok-push w ↦ record {
         sends = rw (w.sends-is, w.in_ok-push.ensures.items, w.new-bytes.ensures, w.in_ok-from_slice.ensures.items, c.loop-to.invariant.sends) (sym (to_others-other node to text w.if-to-node.true));
         known = rw (w.sends-is, w.in_ok-push.ensures.items) (all-push _ c.loop-to.sends.items _ c.loop-to.invariant.known c.loop-to-test.true);
       }
