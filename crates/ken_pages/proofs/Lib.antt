@@ -3,3 +3,4 @@ pub mod Parts
 pub mod Flat
 pub mod Restored
 pub mod Dirty
+pub mod Frozen

@@ -1,8 +1,7 @@
 // A heap of pages, with the turn that is begun on it.
 ghost use Rattle.std.specs.Prelude.{◌≡◌, ℕ, ◌+◌, ◌*◌, ◌<◌, ◌≤◌, length, take, drop, map, replicate, IfOk, OnOk, OnErr, IfSome, IsSome, Some, None};
-ghost use Rattle.std.specs.Arc.{arc_value};
 ghost use Rattle.ken_frame.specs.Written.{written};
-ghost use Rattle.ken_pages.specs.Paged.{Paged, page_of, dirty_pages};
+ghost use Rattle.ken_pages.specs.Paged.{Paged, dirty_pages, frozen_pages, shared_pages};
 
 use crate::{frames, saved};
 use ken_frame::{FRAME, Frame};
@@ -100,7 +99,7 @@ impl PageHeap {
     /// Those pages with their bytes as they are now.
     pub fn freeze(&self) -> Result<Vec<(u32, Arc<Frame>)>, AllocError>
         requires { IsSome self.now.begun }
-        ensures { IfOk result (λ frozen. IfSome self.now.begun (λ before. map (λ e. (e.0, arc_value e.1)) frozen.items ≡ map (λ p. (p, page_of self.now.bytes p)) (dirty_pages before self.now.bytes))) }
+        ensures { IfOk result (λ frozen. IfSome self.now.begun (λ before. shared_pages frozen.items ≡ frozen_pages before self.now.bytes)) }
     {
         let pages = self.dirty()?;
         saved::frozen(self.alloc, &self.frames, &pages)

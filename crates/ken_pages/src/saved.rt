@@ -1,8 +1,7 @@
 // Frames as they were, by their pages.
-ghost use Rattle.std.specs.Prelude.{◌≡◌, ℕ, ◌+◌, ◌*◌, ◌<◌, ◌≤◌, length, map, IfOk};
-ghost use Rattle.std.specs.Arc.{arc_value};
-ghost use Rattle.std.specs.List.{concat, AllByRecursion};
-ghost use Rattle.ken_pages.specs.Paged.{page_of, dirty_pages};
+ghost use Rattle.std.specs.Prelude.{◌≡◌, ℕ, ◌+◌, ◌*◌, ◌<◌, ◌≤◌, length, map, All, IfOk};
+ghost use Rattle.std.specs.List.{concat};
+ghost use Rattle.ken_pages.specs.Paged.{dirty_pages, with_bytes, shared_pages};
 ghost use Rattle.ken_pages.specs.Layout.{AreWhole, AreWithin, IsSaved, AreSaved, restored};
 
 use ken_frame::{FRAME, Frame};
@@ -74,8 +73,8 @@ pub(crate) fn changed(alloc: Global, frames: &[Frame], saved: &BTreeMap<u32, Fra
 // Copies of the pages.
 pub(crate) fn frozen(alloc: Global, frames: &[Frame], pages: &[u32]) -> Result<Vec<(u32, Arc<Frame>)>, AllocError>
     requires whole { AreWhole frames.now }
-    requires within { AllByRecursion (λ p. p < length frames.now) pages.now }
-    ensures { IfOk result (λ copies. map (λ e. (e.0, arc_value e.1)) copies.items ≡ map (λ p. (p, page_of (concat frames.now) p)) pages.now) }
+    requires within { All (λ p. p < length frames.now) pages.now }
+    ensures { IfOk result (λ copies. shared_pages copies.items ≡ map (with_bytes (concat frames.now)) pages.now) }
 {
     let mut copies = Vec::new(alloc);
     for page in pages {
