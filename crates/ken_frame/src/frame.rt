@@ -2,6 +2,9 @@
 ghost use Rattle.std.specs.Prelude.{◌≡◌, ℕ, ◌+◌, ◌≤◌, length, take, drop, replicate, IfOk};
 ghost use Rattle.ken_frame.specs.Written.{written};
 
+#[cfg(test)]
+mod tests;
+
 use std::alloc::{AllocError, Global};
 use std::marker::Model;
 
@@ -9,7 +12,7 @@ use std::marker::Model;
 pub const FRAME: usize = 256;
 
 /// As many bytes as a page has.
-#[derive(Drop)]
+#[derive(Debug, Drop)]
 pub struct Frame {
     bytes: Vec<u8>,
 }

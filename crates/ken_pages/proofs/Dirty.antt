@@ -94,13 +94,13 @@ filter_from_entries P fs (suc n) a (e ∷ es) rises within none tested =
     let long : a + suc n ≡ a + 1 + n = omega arith in
     by_ranked _ _ _ (nat_cmp a e.0) (ranked a e.0 (nat_cmp a e.0) refl)
     (λ o lt.
-      let later : Rises (a + 1) (e ∷ es) = (omega arith, rises.1) in
-      let here : P a ≡ false = none a (omega arith) (omega arith) (saved_at-below (a + 1) (e ∷ es) a later (omega arith)) in
-      rw here (filter_from_entries P fs n (a + 1) (e ∷ es) later (subst (λ m. AreWithin m (e ∷ es)) long within) (λ p low high s. none p (omega arith) (omega arith) s) tested))
+    let later : Rises (a + 1) (e ∷ es) = (omega arith, rises.1) in
+    let here : P a ≡ false = none a (omega arith) (omega arith) (saved_at-below (a + 1) (e ∷ es) a later (omega arith)) in
+    rw here (filter_from_entries P fs n (a + 1) (e ∷ es) later (subst (λ m. AreWithin m (e ∷ es)) long within) (λ p low high s. none p (omega arith) (omega arith) s) tested))
     (λ o is.
-      let later : Rises (a + 1) es = subst (λ m. Rises (m + 1) es) (sym is) rises.1 in
-      let rest : filter P (range_with_len (a + 1) n) ≡ changed_of fs es = filter_from_entries P fs n (a + 1) es later (subst (λ m. AreWithin m es) long within.2) (λ p low high s. none p (omega arith) (omega arith) (saved_at-other e es p (omega arith) ∙ s)) tested.1 in
-      joined (bytes_eq e.1 (get_or fs e.0 [])) (P a) (ap P is ∙ tested.0) (filter P (range_with_len (a + 1) n)) (changed_of fs es) rest a e.0 is)
+    let later : Rises (a + 1) es = subst (λ m. Rises (m + 1) es) (sym is) rises.1 in
+    let rest : filter P (range_with_len (a + 1) n) ≡ changed_of fs es = filter_from_entries P fs n (a + 1) es later (subst (λ m. AreWithin m es) long within.2) (λ p low high s. none p (omega arith) (omega arith) (saved_at-other e es p (omega arith) ∙ s)) tested.1 in
+    joined (bytes_eq e.1 (get_or fs e.0 [])) (P a) (ap P is ∙ tested.0) (filter P (range_with_len (a + 1) n)) (changed_of fs es) rest a e.0 is)
     (λ o gt. absurd (omega (arith, rises.0)))
   where
     joined : (b b' : Bool) → b' ≡ not b → (xs ys : List ℕ) → xs ≡ ys → (x y : ℕ) → x ≡ y → cond b' (x ∷ xs) xs ≡ cond b ys (y ∷ ys)

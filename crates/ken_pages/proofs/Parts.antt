@@ -3,7 +3,7 @@ use Rattle.std.proofs.Common.{◌≡◌, ℕ, ◌+◌, ◌-◌, ◌≤◌, List,
 use Rattle.std.proofs.lemmas.Slice.{take-put_mid}
 use borrow.Rule.Slice.PartMut.{put_mid}
 use Rattle.ken_frame.specs.Written.{written}
-use Rattle.ken_pages.proofs.Written.{written-written}
+use Rattle.ken_frame.proofs.Written.{written-written}
 
 -- the part of a buffer that is read next
 part_of_buffer : (buf : List ℕ) (done part k : ℕ) → k ≡ part → done + part ≤ length buf → length (take k (drop done buf)) ≡ part

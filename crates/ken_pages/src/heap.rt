@@ -3,6 +3,9 @@ ghost use Rattle.std.specs.Prelude.{◌≡◌, ℕ, ◌+◌, ◌*◌, ◌<◌, �
 ghost use Rattle.ken_frame.specs.Written.{written};
 ghost use Rattle.ken_pages.specs.Paged.{Paged, dirty_pages, frozen_pages, shared_pages};
 
+#[cfg(test)]
+mod tests;
+
 use crate::{frames, saved};
 use ken_frame::{FRAME, Frame};
 use std::alloc::{AllocError, Global};
@@ -14,7 +17,7 @@ use std::sync::Arc;
 pub const MAX_PAGES: u32 = 4096;
 
 /// Pages of 256 bytes, seen as one list of bytes. A turn that is begun on them can be kept or taken back.
-#[derive(Drop)]
+#[derive(Debug, Drop)]
 pub struct PageHeap {
     alloc: Global,
     frames: Vec<Frame>,
@@ -37,11 +40,11 @@ impl PageHeap {
     /// Pages of zeros, with no turn begun.
     pub fn new(alloc: Global, pages: u32) -> Result<PageHeap, AllocError>
         requires some { 1 ≤ pages }
-        requires most { pages ≤ 4096 }
+        requires most { pages ≤ MAX_PAGES }
         ensures { IfOk result (λ h. h ≡ record { bytes = replicate (256 * pages) 0; begun = None }) }
     {
         let mut frames = Vec::new(alloc);
-        for page in 0..pages {
+        for _page in 0..pages {
             frames.push(Frame::zeroed(alloc)?)?;
         }
         Ok(PageHeap {
@@ -75,7 +78,13 @@ impl PageHeap {
         ensures begun { OnOk result (self.new.begun ≡ self.old.begun) }
         ensures unchanged { OnErr result (self.new ≡ self.old) }
     {
-        saved::save(self.alloc, &self.frames, &mut self.saved, at as usize, bytes.len())?;
+        saved::save(
+            self.alloc,
+            &self.frames,
+            &mut self.saved,
+            at as usize,
+            bytes.len(),
+        )?;
         frames::write(&mut self.frames, at as usize, bytes);
         Ok(())
     }

@@ -10,7 +10,12 @@ use std::collections::BTreeMap;
 use std::sync::Arc;
 
 // Saves the page as it is, where it is not saved yet.
-fn save_page(alloc: Global, frames: &[Frame], saved: &mut BTreeMap<u32, Frame>, page: u32) -> Result<(), AllocError>
+fn save_page(
+    alloc: Global,
+    frames: &[Frame],
+    saved: &mut BTreeMap<u32, Frame>,
+    page: u32,
+) -> Result<(), AllocError>
     requires whole { AreWhole frames.now }
     requires inside { page < length frames.now }
     requires within { AreWithin (length frames.now) saved.old.entries }
@@ -28,7 +33,13 @@ fn save_page(alloc: Global, frames: &[Frame], saved: &mut BTreeMap<u32, Frame>, 
 }
 
 // Saves each page that the bytes from the place `at` on touch.
-pub(crate) fn save(alloc: Global, frames: &[Frame], saved: &mut BTreeMap<u32, Frame>, at: usize, len: usize) -> Result<(), AllocError>
+pub(crate) fn save(
+    alloc: Global,
+    frames: &[Frame],
+    saved: &mut BTreeMap<u32, Frame>,
+    at: usize,
+    len: usize,
+) -> Result<(), AllocError>
     requires whole { AreWhole frames.now }
     requires few { length frames.now ≤ 4096 }
     requires inside { at + len ≤ 256 * length frames.now }
@@ -56,7 +67,11 @@ pub(crate) fn put_back(frames: &mut [Frame], saved: &BTreeMap<u32, Frame>)
 }
 
 // The saved pages whose bytes are not as they were.
-pub(crate) fn changed(alloc: Global, frames: &[Frame], saved: &BTreeMap<u32, Frame>) -> Result<Vec<u32>, AllocError>
+pub(crate) fn changed(
+    alloc: Global,
+    frames: &[Frame],
+    saved: &BTreeMap<u32, Frame>,
+) -> Result<Vec<u32>, AllocError>
     requires whole { AreWhole frames.now }
     requires within { AreWithin (length frames.now) saved.now.entries }
     ensures { IfOk result (λ pages. pages.items ≡ dirty_pages (concat (restored saved.now.entries frames.now)) (concat frames.now)) }
@@ -71,7 +86,11 @@ pub(crate) fn changed(alloc: Global, frames: &[Frame], saved: &BTreeMap<u32, Fra
 }
 
 // Copies of the pages.
-pub(crate) fn frozen(alloc: Global, frames: &[Frame], pages: &[u32]) -> Result<Vec<(u32, Arc<Frame>)>, AllocError>
+pub(crate) fn frozen(
+    alloc: Global,
+    frames: &[Frame],
+    pages: &[u32],
+) -> Result<Vec<(u32, Arc<Frame>)>, AllocError>
     requires whole { AreWhole frames.now }
     requires within { All (λ p. p < length frames.now) pages.now }
     ensures { IfOk result (λ copies. shared_pages copies.items ≡ map (with_bytes (concat frames.now)) pages.now) }

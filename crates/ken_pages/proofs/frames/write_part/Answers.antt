@@ -1,6 +1,6 @@
 use Rattle.std.proofs.Common.{◌≡◌, ◌/◌, ◌%◌, ◌<◌, length, get_or, slice_set, ap, ◌∙◌, arith}
 use Rattle.std.specs.List.{concat}
-use Rattle.ken_pages.proofs.Written.{length-written}
+use Rattle.ken_frame.proofs.Written.{length-written}
 use Rattle.ken_pages.proofs.Flat.{AreWhole-set, length-frame, written_in_frame}
 use Rattle.ken_pages.proofs.Restored.{restored-set}
 use Rattle.ken_pages.proofs.frames.write_part.Goals as goal

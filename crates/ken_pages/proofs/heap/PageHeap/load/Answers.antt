@@ -1,11 +1,8 @@
-use Rattle.std.proofs.Common.{◌≡◌, ◌*◌, length, ap, arith}
-use Rattle.std.specs.List.{concat}
-use Rattle.ken_pages.specs.Paged.{Paged}
-use Rattle.ken_pages.proofs.Flat.{length-concat_whole}
+use Rattle.std.proofs.Common.{◌≡◌, ◌*◌, length, arith}
+use Rattle.ken_pages.proofs.Flat.{length_seen}
 use Rattle.ken_pages.proofs.heap.PageHeap.load.Goals as goal
 
 pub write-requires-clause-within : goal.write-requires-clause-within
 write-requires-clause-within c =
-    let long : length (concat c.self.inside.frames.items) ≡ 256 * length c.self.inside.frames.items = length-concat_whole c.self.inside.frames.items c.self.invariant.whole in
-    let same : length (concat c.self.inside.frames.items) ≡ length c.args.self.now.bytes = ap (λ (v : Paged). length v.bytes) c.self.view_is in
+    let long : length c.args.self.now.bytes ≡ 256 * length c.self.inside.frames.items = length_seen c.self.inside.begun c.self.inside.frames.items c.self.inside.saved.entries c.args.self.now c.self.invariant.whole c.self.view_is in
     rw c.deref_mut.ensures.value (omega (arith, c.as_slice.ensures.whole))

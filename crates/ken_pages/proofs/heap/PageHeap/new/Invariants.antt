@@ -5,7 +5,7 @@ use Rattle.ken_pages.proofs.heap.PageHeap.new.Given as goal
 
 abbrev pub invariant-loop-page : goal.invariant-loop-page
 invariant-loop-page l = record {
-  many : length l.frames.items ≡ l.page;
+  many : length l.frames.items ≡ l._page;
   whole : AreWhole l.frames.items;
-  zeros : concat l.frames.items ≡ replicate (256 * l.page) 0;
+  zeros : concat l.frames.items ≡ replicate (256 * l._page) 0;
 }
