@@ -1,5 +1,5 @@
 -- Frames with saved ones put back.
-use Rattle.std.proofs.Common.{◌≡◌, ◌≢◌, ℕ, ◌+◌, ◌<◌, ◌≤◌, List, [], ◌∷◌, length, get_or, set, refl, sym, ap, ◌∙◌, arith, length-set, set-set, get_or-set_other, get_or-set_same, Bool, true, false, Option, Some, None, IsSome, cond, unwrap_or}
+use Rattle.std.proofs.Common.{◌≡◌, ◌≢◌, ℕ, ◌<◌, List, [], ◌∷◌, length, get_or, set, refl, sym, ap, ◌∙◌, arith, length-set, set-set, get_or-set_other, Option, Some, None, IsSome, cond}
 use Rattle.std.specs.Ordering.{MatchOrdering, match_ordering, nat_cmp, is_eq}
 use Rattle.std.specs.declared.cmp.Ordering.{Ordering}
 use Rattle.std.specs.declared.cmp.Ordering.TheVariants.{Less, Equal, Greater}

@@ -128,8 +128,7 @@ impl PageHeap {
         ensures begun { IfSome self.old.begun (λ before. self.new ≡ record { bytes = before; begun = None }) }
         ensures none { self.old.begun ≡ None → self.new ≡ self.old }
     {
-        saved::put_back(&mut self.frames, &self.saved);
-        self.saved.clear();
+        saved::put_back(&mut self.frames, &mut self.saved);
         self.begun = false;
     }
 

@@ -1,5 +1,5 @@
 // Frames as they were, by their pages.
-ghost use Rattle.std.specs.Prelude.{◌≡◌, ℕ, ◌+◌, ◌*◌, ◌<◌, ◌≤◌, length, map, All, IfOk};
+ghost use Rattle.std.specs.Prelude.{◌≡◌, ℕ, ◌+◌, ◌*◌, ◌<◌, ◌≤◌, [], length, map, All, IfOk};
 ghost use Rattle.std.specs.List.{concat};
 ghost use Rattle.ken_pages.specs.Paged.{dirty_pages, with_bytes, shared_pages};
 ghost use Rattle.ken_pages.specs.Layout.{AreWhole, AreWithin, IsSaved, AreSaved, restored};
@@ -56,14 +56,16 @@ pub(crate) fn save(
     Ok(())
 }
 
-// Puts the saved frames back.
-pub(crate) fn put_back(frames: &mut [Frame], saved: &BTreeMap<u32, Frame>)
-    requires within { AreWithin (length frames.old) saved.now.entries }
-    ensures { frames.new ≡ restored saved.now.entries frames.old }
+// Puts the saved frames back, and lets them go.
+pub(crate) fn put_back(frames: &mut [Frame], saved: &mut BTreeMap<u32, Frame>)
+    requires within { AreWithin (length frames.old) saved.old.entries }
+    ensures back { frames.new ≡ restored saved.old.entries frames.old }
+    ensures gone { saved.new.entries ≡ [] }
 {
-    for (page, frame) in saved {
+    for (page, frame) in &*saved {
         frames[*page as usize].copy_from(frame);
     }
+    saved.clear();
 }
 
 // The saved pages whose bytes are not as they were.

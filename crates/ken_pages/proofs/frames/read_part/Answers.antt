@@ -1,4 +1,4 @@
-use Rattle.std.proofs.Common.{◌+◌, ◌*◌, ◌/◌, ◌%◌, ◌<◌, length, take, drop, sym, ap, ◌∙◌, arith}
+use Rattle.std.proofs.Common.{◌/◌, ◌%◌, ◌<◌, length, take, drop, sym, ap, ◌∙◌, arith}
 use Rattle.ken_pages.proofs.Flat.{part_of_frame}
 use Rattle.ken_pages.proofs.frames.read_part.Goals as goal
 

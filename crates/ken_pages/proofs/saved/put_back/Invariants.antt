@@ -8,4 +8,4 @@ invariant-loop-page l =
     (goal.iterator-loop-page).can_next l.page-iterator ×
     (goal.iterator-loop-page).is_finite l.page-iterator ×
     AreWithin (length l.frames) l.page-iterator ×
-    (restored l.page-iterator l.frames ≡ restored l.saved.entries l.initial.frames)
+    (restored l.page-iterator l.frames ≡ restored l.fn.saved.entries l.initial.frames)

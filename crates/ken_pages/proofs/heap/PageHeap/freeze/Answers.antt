@@ -1,4 +1,4 @@
-use Rattle.std.proofs.Common.{◌≡◌, ◌*◌, ◌/◌, length, arith}
+use Rattle.std.proofs.Common.{◌≡◌, ◌*◌, length, arith}
 use Rattle.ken_pages.proofs.Flat.{length_seen}
 use Rattle.ken_pages.proofs.Frozen.{dirty_below}
 use Rattle.ken_pages.proofs.heap.PageHeap.freeze.Goals as goal
