@@ -1,5 +1,5 @@
 // A frame: 256 bytes on the heap.
-ghost use Rattle.std.specs.Prelude.{◌≡◌, ℕ, ◌+◌, ◌≤◌, length, take, drop, replicate, IfOk};
+ghost use Rattle.std.specs.Prelude.{◌≡◌, ◌+◌, ◌≤◌, length, take, drop, replicate, IfOk};
 ghost use Rattle.ken_frame.specs.Written.{written};
 
 #[cfg(test)]

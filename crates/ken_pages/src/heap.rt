@@ -1,7 +1,7 @@
 // A heap of pages, with the turn that is begun on it.
-ghost use Rattle.std.specs.Prelude.{◌≡◌, ℕ, ◌+◌, ◌*◌, ◌<◌, ◌≤◌, length, take, drop, map, replicate, IfOk, OnOk, OnErr, IfSome, IsSome, Some, None};
+ghost use Rattle.std.specs.Prelude.{◌≡◌, ◌+◌, ◌*◌, ◌<◌, ◌≤◌, length, take, drop, replicate, IfOk, OnOk, OnErr, IfSome, IsSome};
 ghost use Rattle.ken_frame.specs.Written.{written};
-ghost use Rattle.ken_pages.specs.Paged.{Paged, dirty_pages, frozen_pages, shared_pages};
+ghost use Rattle.ken_pages.specs.Paged.{dirty_pages, frozen_pages, shared_pages};
 
 #[cfg(test)]
 mod tests;
