@@ -1,0 +1,5 @@
+pub mod Parts
+pub mod Flat
+pub mod Restored
+pub mod Dirty
+pub mod Frozen
