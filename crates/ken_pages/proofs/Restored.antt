@@ -1,5 +1,5 @@
 -- Frames with saved ones put back.
-use Rattle.std.proofs.Common.{◌≡◌, ◌≢◌, ℕ, ◌<◌, List, [], ◌∷◌, length, get_or, set, refl, sym, ap, ◌∙◌, arith, length-set, set-set, get_or-set_other, Option, Some, None, IsSome, cond}
+use Rattle.std.proofs.Common.{◌≡◌, ◌≢◌, ℕ, ◌<◌, List, [], ◌∷◌, length, get_or, set, ◌*◌, refl, sym, ap, subst, ◌∙◌, arith, length-set, set-set, get_or-set_other, Option, Some, None, IsSome, IfSome, Bool, true, false, cond}
 use Rattle.std.specs.Ordering.{MatchOrdering, match_ordering, nat_cmp, is_eq}
 use Rattle.std.specs.declared.cmp.Ordering.{Ordering}
 use Rattle.std.specs.declared.cmp.Ordering.TheVariants.{Less, Equal, Greater}
@@ -7,8 +7,9 @@ use Rattle.std.specs.Map.{lookup}
 use Rattle.std.specs.BTreeMap.{insert_entry, is_at}
 use Rattle.std.proofs.lemmas.Cmp.{ranked}
 use Rattle.std.proofs.lemmas.List.{set_comm, set-get_or}
-use Rattle.ken_pages.specs.Layout.{AreWhole, AreWithin, IsSaved, restored}
-use Rattle.ken_pages.proofs.Flat.{AreWhole-set}
+use Rattle.ken_pages.specs.Paged.{Paged}
+use Rattle.ken_pages.specs.Layout.{AreWhole, AreWithin, IsSaved, restored, paged_of}
+use Rattle.ken_pages.proofs.Flat.{AreWhole-set, length-concat_whole}
 
 -- an entry
 abbrev Entry : Type 0
@@ -59,3 +60,9 @@ AreWithin-insert_entry n (e ∷ es) p v within below one = go (nat_cmp p e.0) (A
     go Less rest = (below, one, within)
     go Equal rest = (within.0, one, within.2)
     go Greater rest = (within.0, within.1, rest)
+
+-- the bytes at `begin` are as many as those now
+pub length_begun : (begun : Bool) (fs : List (List ℕ)) (es : List Entry) (v : Paged) → AreWhole fs → AreWithin (length fs) es → paged_of begun fs es ≡ v → IfSome v.begun (λ before. length before ≡ 256 * length fs)
+length_begun true fs es v whole within is =
+    subst (λ (w : Paged). IfSome w.begun (λ before. length before ≡ 256 * length fs)) is (length-concat_whole (restored es fs) (AreWhole-restored (length fs) es fs within whole) ∙ ap (λ n. 256 * n) (length-restored es fs))
+length_begun false fs es v whole within is = subst (λ (w : Paged). IfSome w.begun (λ before. length before ≡ 256 * length fs)) is tt

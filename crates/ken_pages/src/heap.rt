@@ -57,7 +57,8 @@ impl PageHeap {
 
     /// How many pages there are.
     pub fn pages(&self) -> u32
-        ensures { length self.now.bytes ≡ 256 * result }
+        ensures bytes { length self.now.bytes ≡ 256 * result }
+        ensures begun { IfSome self.now.begun (λ before. length before ≡ 256 * result) }
     {
         self.frames.len() as u32
     }
@@ -75,6 +76,7 @@ impl PageHeap {
         requires begun { IsSome self.old.begun }
         requires within { at + length bytes.now ≤ length self.old.bytes }
         ensures bytes { OnOk result (self.new.bytes ≡ written self.old.bytes at bytes.now) }
+        ensures length { length self.new.bytes ≡ length self.old.bytes }
         ensures begun { OnOk result (self.new.begun ≡ self.old.begun) }
         ensures unchanged { OnErr result (self.new ≡ self.old) }
     {
