@@ -97,13 +97,17 @@ impl MemWorld {
 }
 
 impl World for MemWorld {
-    ghost use Rattle.std.specs.Prelude.{slice_index_or, None};
+    ghost use Rattle.std.specs.Prelude.{◌≡◌, slice_index_or, None};
+    ghost use Rattle.ken_tool.specs.Oracles.{start_of};
 
     type Luck = MemOracle;
 
     ghost kept = { λ w v. slice_index_or w v None };
 
-    fn oracle(&mut self, node: u8, seed: u64) -> MemOracle {
+    fn oracle(&mut self, node: u8, seed: u64) -> MemOracle
+        ensures its_own { result ≡ record { readings = 0; words = 0; start = start_of node seed } }
+        ensures kept { self.new ≡ self.old }
+    {
         MemOracle::new(node, seed)
     }
 
