@@ -11,7 +11,7 @@ use Rattle.ken_model.specs.declared.messages.Step.{Step}
 use Rattle.ken_model.specs.declared.messages.Done.{Done}
 use Rattle.ken_model.specs.declared.facts.Facts.{Facts}
 use Rattle.ken_model.specs.declared.node.Made.{Made}
-use Rattle.ken_model.specs.Handler.{Effect}
+use Rattle.ken_model.specs.Effects.{Effect}
 use Rattle.ken_model.specs.Network.{Place, Link, Turn, outside, numbered, place_after, applied, turn_of}
 use Rattle.ken_model.specs.Actors.{AreAlike, IsStep, posted_after, outs_after}
 use Rattle.ken_model.specs.Held.{Held, held_at, no_node, sent_to, taken_from, network_of, turns_made, AreEarly, IsOfRun, IsGame, playing_of}

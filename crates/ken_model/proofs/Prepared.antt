@@ -11,7 +11,8 @@ use Rattle.ken_model.specs.declared.messages.Step.{Step}
 use Rattle.ken_model.specs.declared.facts.Facts.{Facts}
 use Rattle.ken_model.specs.declared.handler.Task.{Task}
 use Rattle.ken_model.specs.declared.node.Node.{Node}
-use Rattle.ken_model.specs.Handler.{Effect, after}
+use Rattle.ken_model.specs.Handler.{after}
+use Rattle.ken_model.specs.Effects.{Effect}
 use Rattle.ken_model.specs.Tasks.{task_of, effect_of}
 use Rattle.ken_model.specs.Network.{Network, Turn, outside, front, turn_of, turn_at}
 use Rattle.ken_model.specs.Actors.{Playing, HasWrongDraws}

@@ -7,7 +7,8 @@ use Rattle.ken_model.specs.declared.messages.Message.{Message}
 use Rattle.ken_model.specs.declared.messages.Send.{Send}
 use Rattle.ken_model.specs.declared.facts.Facts.{Facts}
 use Rattle.ken_model.specs.declared.reports.TurnLine.{TurnLine}
-use Rattle.ken_model.specs.Handler.{Effect, after}
+use Rattle.ken_model.specs.Handler.{after}
+use Rattle.ken_model.specs.Effects.{Effect}
 use Rattle.ken_model.specs.Network.{Place, Turn, outside, inputs_for, numbered, turn_at, place_after}
 use Rattle.ken_model.specs.Schedule.{ComesBefore}
 use Rattle.ken_model.specs.History.{AreTurns, places, consumed, sent_by, messages, Rises}

@@ -2,31 +2,23 @@
 use Rattle.std.specs.Prelude.{ℕ, ◌+◌, ◌-◌, ◌/◌, ◌%◌, ◌^◌, List, [], ◌∷◌, map, filter, ◌==◌, not, if◌then◌else◌, nat_lt, bytes_eq, Option, Some, None, codes, decimal}
 use Rattle.std.specs.List.{range_with_len}
 use Rattle.ken_model.specs.declared.kinds.Kind.{Kind}
-use Rattle.ken_model.specs.declared.kinds.Kind.TheVariants.{Ring, Tally, Share, Mix}
+use Rattle.ken_model.specs.declared.kinds.Kind.TheVariants.{Ring, Tally, Share, Mix, Kv}
 use Rattle.ken_model.specs.declared.values.Value.{Value}
 use Rattle.ken_model.specs.declared.messages.Message.{Message}
 use Rattle.ken_model.specs.declared.messages.Send.{Send}
 use Rattle.ken_model.specs.declared.messages.TheConstants.{OUTSIDE}
 use Rattle.ken_num.specs.Numbers.{num}
+use Rattle.ken_model.specs.Effects.{Effect, refused}
+use Rattle.ken_model.specs.KeyValue.{kv, command_of}
 
 -- the kind of a name
 abbrev pub kind_of : List ℕ → Option Kind
-kind_of name = if bytes_eq name (codes "ring") then Some Ring else if bytes_eq name (codes "tally") then Some Tally else if bytes_eq name (codes "share") then Some Share else if bytes_eq name (codes "mix") then Some Mix else None
-
--- what a turn changes, sends and outputs
-pub record Effect : Type 0 where
-  pub value : Value
-  pub sends : List Send
-  pub outs : List (List ℕ)
+kind_of name = if bytes_eq name (codes "ring") then Some Ring else if bytes_eq name (codes "tally") then Some Tally else if bytes_eq name (codes "share") then Some Share else if bytes_eq name (codes "mix") then Some Mix else if bytes_eq name (codes "kv") then Some Kv else None
 
 -- a handler that draws nothing isn't defined at any draws
 abbrev pub without_draws : List ℕ → Effect → Option Effect
 without_draws [] e = Some e
 without_draws (_ ∷ _) e = None
-
--- a payload that the kind doesn't know is answered `bad`, and changes nothing
-abbrev pub refused : Value → Effect
-refused value = record { value = value; sends = []; outs = codes "bad" ∷ [] }
 
 -- ring takes a count: it adds 1 to the root, and sends what is left of the count on to the next node
 abbrev pub ring_counts : ℕ → ℕ → Value → ℕ → Effect
@@ -89,6 +81,7 @@ after Ring node nodes value message draws = without_draws draws (ring node nodes
 after Tally node nodes value message draws = without_draws draws (tally node nodes value message (num message.bytes))
 after Share node nodes value message draws = without_draws draws (share node nodes value (num message.bytes))
 after Mix node nodes value message draws = mix nodes value (num message.bytes) draws
+after Kv node nodes value message draws = without_draws draws (kv value (command_of message.bytes))
 
 -- which of a kind's draws are readings of the clock
 abbrev pub clocks_in : Kind → List ℕ → List ℕ

@@ -1,3 +1,6 @@
+pub mod Effects
+pub mod Heap
+pub mod KeyValue
 pub mod Handler
 pub mod Network
 pub mod Actors

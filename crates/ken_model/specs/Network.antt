@@ -7,7 +7,8 @@ use Rattle.ken_model.specs.declared.messages.Step.{Step}
 use Rattle.ken_model.specs.declared.facts.Facts.{Facts}
 use Rattle.ken_model.specs.declared.facts.Input.{Input}
 use Rattle.ken_model.specs.declared.messages.TheConstants.{OUTSIDE}
-use Rattle.ken_model.specs.Handler.{Effect, after}
+use Rattle.ken_model.specs.Handler.{after}
+use Rattle.ken_model.specs.Effects.{Effect}
 
 -- a node: its heap, its stamp, how many turns it has made, and its outputs, the k-th of which has the number k
 pub record Place : Type 0 where

@@ -6,7 +6,8 @@ use Rattle.ken_model.specs.declared.values.Value.{Value}
 use Rattle.ken_model.specs.declared.messages.Message.{Message}
 use Rattle.ken_model.specs.declared.handler.Task.{Task}
 use Rattle.ken_model.specs.declared.handler.Task.TheVariants.{Refuse, Ring, Tally, Share, Mix}
-use Rattle.ken_model.specs.Handler.{Effect, refused, ring_counts, tally_counts, share_counts, mix_counts}
+use Rattle.ken_model.specs.Handler.{ring_counts, tally_counts, share_counts, mix_counts}
+use Rattle.ken_model.specs.Effects.{Effect, refused}
 
 -- the task of a payload's number and draws: none where the number of draws isn't the kind's
 abbrev pub task_of : Kind → Option ℕ → List ℕ → Option Task

@@ -12,6 +12,8 @@ pub enum Kind {
     Share,
     /// A count goes from node to node by random words, and each turn reads the clock.
     Mix,
+    /// Texts are kept by keys, in the blocks of the heap.
+    Kv,
 }
 
 impl Kind {
@@ -27,6 +29,8 @@ impl Kind {
             Some(Kind::Share)
         } else if name == b"mix".as_slice() {
             Some(Kind::Mix)
+        } else if name == b"kv".as_slice() {
+            Some(Kind::Kv)
         } else {
             None
         }

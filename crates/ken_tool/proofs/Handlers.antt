@@ -10,7 +10,8 @@ use Rattle.ken_model.specs.declared.kinds.Kind.TheVariants.{Ring, Tally, Share, 
 use Rattle.ken_model.specs.declared.values.Value.{Value}
 use Rattle.ken_model.specs.declared.messages.Message.{Message}
 use Rattle.ken_model.specs.declared.messages.Send.{Send}
-use Rattle.ken_model.specs.Handler.{Effect, after, ring, tally, share, mix, refused, without_draws, to_others}
+use Rattle.ken_model.specs.Handler.{after, ring, tally, share, mix, without_draws, to_others}
+use Rattle.ken_model.specs.Effects.{Effect, refused}
 use Rattle.ken_num.specs.Numbers.{num}
 use Rattle.ken_num.proofs.Decimals.{All-decimal}
 use Rattle.ken_num.proofs.Small.{num-lt, num-digits}

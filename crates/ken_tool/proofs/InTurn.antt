@@ -4,7 +4,8 @@ use Rattle.std.specs.List.{AllByRecursion}
 use Rattle.ken_model.specs.declared.messages.Message.{Message}
 use Rattle.ken_model.specs.declared.facts.Facts.{Facts}
 use Rattle.ken_model.specs.declared.reports.TurnLine.{TurnLine}
-use Rattle.ken_model.specs.Handler.{Effect, after}
+use Rattle.ken_model.specs.Handler.{after}
+use Rattle.ken_model.specs.Effects.{Effect}
 use Rattle.ken_model.specs.Network.{Place, Turn, turn_at, place_after, first_place}
 use Rattle.ken_model.specs.History.{AreTurns, line_at}
 use Rattle.ken_tool.specs.declared.node.Node.{Node}

@@ -8,7 +8,8 @@ use Rattle.ken_model.specs.declared.values.Value.{Value}
 use Rattle.ken_model.specs.declared.messages.Message.{Message}
 use Rattle.ken_model.specs.declared.facts.Facts.{Facts}
 use Rattle.ken_model.specs.declared.reports.TurnLine.{TurnLine}
-use Rattle.ken_model.specs.Handler.{Effect, after, ring, tally, share, mix, mix_counts, refused, without_draws}
+use Rattle.ken_model.specs.Handler.{after, ring, tally, share, mix, mix_counts, without_draws}
+use Rattle.ken_model.specs.Effects.{Effect, refused}
 use Rattle.ken_num.specs.Numbers.{num}
 use Rattle.ken_model.specs.Network.{Place, Turn, turn_at, place_after}
 use Rattle.ken_model.specs.History.{AreTurns, places, lines_at, line_at}

@@ -2,7 +2,8 @@
 use Rattle.std.specs.Prelude.{◌≡◌, ℕ, ◌+◌, ◌-◌, ◌*◌, ◌<◌, ◌≤◌, ◌^◌, max, ◌⊎◌, List, length, [], ◌∷◌, ◌++◌, Some, vec_len}
 use Rattle.std.specs.List.{AllByRecursion}
 use Rattle.ken_model.specs.declared.messages.Message.{Message}
-use Rattle.ken_model.specs.Handler.{Effect, after}
+use Rattle.ken_model.specs.Handler.{after}
+use Rattle.ken_model.specs.Effects.{Effect}
 use Rattle.ken_model.specs.declared.facts.Facts.{Facts}
 use Rattle.ken_model.specs.declared.facts.TheConstants.{MAX_TEXT}
 use Rattle.ken_model.specs.Spelling.{IsWord}

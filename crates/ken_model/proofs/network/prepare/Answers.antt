@@ -8,7 +8,7 @@ use Rattle.ken_model.specs.declared.messages.Step.{Step}
 use Rattle.ken_model.specs.declared.facts.Facts.{Facts}
 use Rattle.ken_model.specs.declared.handler.Task.{Task}
 use Rattle.ken_model.specs.declared.node.Node.{Node}
-use Rattle.ken_model.specs.Handler.{Effect}
+use Rattle.ken_model.specs.Effects.{Effect}
 use Rattle.ken_model.specs.Tasks.{task_of, effect_of}
 use Rattle.ken_model.specs.Network.{front}
 use Rattle.ken_model.specs.Actors.{HasWrongDraws}
