@@ -1,0 +1,37 @@
+-- Objects in a heap, as their callers see them.
+use Rattle.std.specs.Prelude.{◌≡◌, ℕ, List, [], ◌∷◌, replicate, ◌==◌, if◌then◌else◌, Option, Some, None, IfSome, IsSome}
+use Rattle.ken_frame.specs.Written.{written}
+use Rattle.ken_pages.specs.Paged.{Paged}
+use Rattle.ken_model.specs.declared.values.Block.{Block}
+use Rattle.ken_model.specs.declared.values.Value.{Value}
+use Rattle.ken_model.specs.Heap.{with_block, block_at}
+use Rattle.ken_alloc.specs.Layout.{StandsFor}
+use Rattle.ken_alloc.specs.Blocks.{value_of}
+
+-- the value, the bytes that stand for it, and those at `begin` where a turn is begun
+pub record Heap : Type 0 where
+  pub value : Value
+  pub bytes : List ℕ
+  pub begun : Option (List ℕ)
+
+abbrev pub heap_of : Paged → Heap
+heap_of p = record { value = value_of p.bytes; bytes = p.bytes; begun = p.begun }
+
+-- the bytes stand for the value, and so do those at `begin`
+pub record IsHeld (p : Paged) : Type 0 where
+  pub now : StandsFor p.bytes (value_of p.bytes)
+  pub before : IfSome p.begun (λ b. StandsFor b (value_of b))
+
+-- a block stands at a place
+abbrev pub IsBlock : Value → ℕ → Type 0
+IsBlock v place = IsSome (block_at place v.blocks)
+
+-- a block of n zeros at a place, where there is one
+abbrev pub with_zeros : Option ℕ → ℕ → Value → Value
+with_zeros None n v = v
+with_zeros (Some place) n v = record v { blocks = with_block (record { place = place; bytes = replicate n 0 }) v.blocks }
+
+-- with bytes over those of the block at a place
+abbrev pub rewritten : ℕ → ℕ → List ℕ → List Block → List Block
+rewritten place at bytes [] = []
+rewritten place at bytes (b ∷ bs) = if b.place == place then record b { bytes = written b.bytes at bytes } ∷ bs else b ∷ rewritten place at bytes bs
