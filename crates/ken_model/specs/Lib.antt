@@ -1,6 +1,7 @@
 pub mod Effects
 pub mod Heap
 pub mod KeyValue
+pub mod Commands
 pub mod Handler
 pub mod Network
 pub mod Actors

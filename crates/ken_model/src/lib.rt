@@ -3,6 +3,7 @@
 #![tactic(auto)]
 
 mod actors;
+mod commands;
 mod facts;
 mod faults;
 mod handler;
@@ -18,6 +19,7 @@ mod tests;
 mod values;
 
 pub use actors::Actors;
+pub use commands::{Command, is_pair_of};
 pub use facts::{Facts, Input, MAX_INPUTS, MAX_NODES, MAX_PAGES, MAX_TEXT, MAX_TURNS, PAGE};
 pub use faults::StepFault;
 pub use kinds::Kind;
