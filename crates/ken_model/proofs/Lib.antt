@@ -11,6 +11,8 @@ pub mod Agreement
 pub mod Posting
 pub mod Started
 pub mod Tasks
+pub mod Heaps
+pub mod Edits
 pub mod Moved
 pub mod Prepared
 pub mod Others

@@ -11,7 +11,9 @@ use Rattle.ken_model.specs.declared.messages.Step.{Step}
 use Rattle.ken_model.specs.declared.messages.Done.{Done}
 use Rattle.ken_model.specs.declared.facts.Facts.{Facts}
 use Rattle.ken_model.specs.declared.node.Made.{Made}
+use Rattle.ken_model.specs.declared.values.Value.{Value}
 use Rattle.ken_model.specs.Effects.{Effect}
+use Rattle.ken_model.specs.Heap.{IsHeap}
 use Rattle.ken_model.specs.Network.{Place, Link, Turn, outside, numbered, place_after, applied, turn_of}
 use Rattle.ken_model.specs.Actors.{AreAlike, IsStep, posted_after, outs_after}
 use Rattle.ken_model.specs.Held.{Held, held_at, no_node, sent_to, taken_from, network_of, turns_made, AreEarly, IsOfRun, IsGame, playing_of}
@@ -21,12 +23,12 @@ use Rattle.ken_model.proofs.Posting.{posted_after-cong}
 -- a turn, and what the code made of it
 pub record IsTurnMade (s : Step) (t : Turn) (old new : Held) (made : Made) : Type 0 where
   pub stamp : ℕ
-  pub root : ℕ
+  pub value : Value
   pub sends : List Send
   pub outs : List (List ℕ)
   pub is_stamp : stamp ≡ t.stamp
-  pub effect : t.effect ≡ record { value = record old.place.value { root = root }; sends = sends; outs = outs }
-  pub moved : IsMade s.node s.from stamp root sends outs old new made
+  pub effect : t.effect ≡ record { value = value; sends = sends; outs = outs }
+  pub moved : IsMade s.node s.from stamp value sends outs old new made
 
 now_place : (s : Step) (t : Turn) (old new : Held) (made : Made) → IsTurnMade s t old new made → new.place ≡ place_after old.place t
 now_place s t old new made is =
@@ -110,10 +112,10 @@ later_is_early a b le h early =
     record { stamp = omega (arith, early.stamp); sent = λ w. weaker _ (early.sent w); inputs = weaker _ early.inputs }
 
 -- the game goes on
-pub game_moved : (f : Facts) (hs : List Held) (s : Step) (stamp root : ℕ) (sends : List Send) (outs : List (List ℕ)) (new : Held) (made : Made) → IsGame (record { facts = f; nodes = hs }) → s.node < length hs
-    → (held_at f hs s.node).place.turns < f.turns → stamp ≤ turns_made hs + 1 → IsMade s.node s.from stamp root sends outs (held_at f hs s.node) new made
+pub game_moved : (f : Facts) (hs : List Held) (s : Step) (stamp : ℕ) (value : Value) (sends : List Send) (outs : List (List ℕ)) (new : Held) (made : Made) → IsGame (record { facts = f; nodes = hs }) → s.node < length hs
+    → (held_at f hs s.node).place.turns < f.turns → stamp ≤ turns_made hs + 1 → IsHeap value → IsMade s.node s.from stamp value sends outs (held_at f hs s.node) new made
     → IsGame (record { facts = f; nodes = slice_set hs s.node new })
-game_moved f hs s stamp root sends outs new made game within more early is =
+game_moved f hs s stamp value sends outs new made game within more early heap is =
     let old : Held = held_at f hs s.node in
     let turns : new.place.turns ≡ old.place.turns + 1 = ap (λ (p : Place). p.turns) is.place in
     let later : turns_made (slice_set hs s.node new) ≡ turns_made hs + 1 = omega (arith, sum_by-set (λ (h : Held). h.place.turns) hs s.node new (no_node f) within) in
@@ -129,7 +131,7 @@ game_moved f hs s stamp root sends outs new made game within more early is =
     record {
       limits = game.limits;
       width = length-set hs s.node new ∙ game.width;
-      each = All-set (IsOfRun f) hs s.node new (record { sent = is.widths.0 ∙ old_of_run.sent; taken = is.widths.1 ∙ old_of_run.taken; turns = omega arith }) game.each;
+      each = All-set (IsOfRun f) hs s.node new (record { sent = is.widths.0 ∙ old_of_run.sent; taken = is.widths.1 ∙ old_of_run.taken; turns = omega arith; heap = subst IsHeap (sym (ap (λ (p : Place). p.value) is.place)) heap }) game.each;
       early = subst (λ k. All (AreEarly k) (slice_set hs s.node new)) (sym later) (All-set (AreEarly (turns_made hs + 1)) hs s.node new now (All-weaker (AreEarly (turns_made hs)) (AreEarly (turns_made hs + 1)) (later_is_early (turns_made hs) (turns_made hs + 1) (omega arith)) hs game.early));
     }
 

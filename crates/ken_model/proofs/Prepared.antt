@@ -25,12 +25,16 @@ use Rattle.ken_num.specs.Numbers.{num}
 abbrev pub turn_by : Facts → Network → Step → Message → Task → Turn
 turn_by f w s m task = record { message = m; draws = s.draws; stamp = max (w.place s.node).stamp m.stamp + 1; effect = effect_of s.node f.nodes (w.place s.node).value m task }
 
+-- what the handler makes of it
+pub after_by_task : (f : Facts) (w : Network) (s : Step) (m : Message) (task : Task) → task_of f.kind (num m.bytes) s.draws ≡ Some task → after f.kind s.node f.nodes (w.place s.node).value m s.draws ≡ Some (effect_of s.node f.nodes (w.place s.node).value m task)
+after_by_task f w s m task is = after-task f.kind s.node f.nodes (w.place s.node).value m s.draws ∙ ap (option_map (effect_of s.node f.nodes (w.place s.node).value m)) is
+
 pub turn_of-task : (f : Facts) (w : Network) (s : Step) (m : Message) (task : Task) → (w.place s.node).turns < f.turns → front (w.link s.from s.node) ≡ Some m → task_of f.kind (num m.bytes) s.draws ≡ Some task
     → turn_of f w s ≡ Some (turn_by f w s m task)
 unfolding turn_at
 turn_of-task f w s m task more waits is =
     let q : nat_lt (w.place s.node).turns f.turns ≡ true = grind (arith, nat_tests) in
-    let handled : after f.kind s.node f.nodes (w.place s.node).value m s.draws ≡ Some (effect_of s.node f.nodes (w.place s.node).value m task) = after-task f.kind s.node f.nodes (w.place s.node).value m s.draws ∙ ap (option_map (effect_of s.node f.nodes (w.place s.node).value m)) is in
+    let handled = after_by_task f w s m task is in
     rw (q, waits, handled) refl
 
 pub wrong_draws : (p : Playing) (s : Step) (m : Message) → (p.network.place s.node).turns < p.facts.turns → front (p.network.link s.from s.node) ≡ Some m → task_of p.facts.kind (num m.bytes) s.draws ≡ None → HasWrongDraws p s
@@ -45,7 +49,7 @@ pub right_draws : (p : Playing) (s : Step) (m : Message) (task : Task) → front
 right_draws p s m task waits is wrong =
     let same : ◌≡◌ {A = Option Message} (Some wrong.message) (Some m) = sym wrong.waits ∙ waits in
     let value = (p.network.place s.node).value in
-    let handled : after p.facts.kind s.node p.facts.nodes value m s.draws ≡ Some (effect_of s.node p.facts.nodes value m task) = after-task p.facts.kind s.node p.facts.nodes value m s.draws ∙ ap (option_map (effect_of s.node p.facts.nodes value m)) is in
+    let handled = after_by_task p.facts p.network s m task is in
     let m_same : wrong.message ≡ m = cc in
     let none : after p.facts.kind s.node p.facts.nodes value m s.draws ≡ None = ap (λ x. after p.facts.kind s.node p.facts.nodes value x s.draws) (sym m_same) ∙ wrong.undefined in
     let both : ◌≡◌ {A = Option Effect} None (Some (effect_of s.node p.facts.nodes value m task)) = sym none ∙ handled in

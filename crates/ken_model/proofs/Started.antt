@@ -9,7 +9,8 @@ use Rattle.ken_model.specs.declared.facts.Facts.{Facts}
 use Rattle.ken_model.specs.declared.facts.Input.{Input}
 use Rattle.ken_model.specs.declared.node.Node.{Node}
 use Rattle.ken_model.specs.Facts.{IsWithinLimits}
-use Rattle.ken_model.specs.Network.{Link, first_place, outside, inputs_from, inputs_for, start}
+use Rattle.ken_model.specs.Network.{Link, empty_heap, first_place, outside, inputs_from, inputs_for, start}
+use Rattle.ken_model.specs.Heap.{IsHeap}
 use Rattle.ken_model.specs.Actors.{AreAlike}
 use Rattle.ken_model.specs.Held.{Held, held_at, no_node, sent_to, taken_from, network_of, turns_made, AreEarly, IsOfRun, IsGame}
 use Rattle.ken_model.specs.Nodes.{held_of, new_node, input_at, IsGiven}
@@ -106,10 +107,13 @@ new_is_early f v t = record {
   inputs = All-from_recursion (λ (m : Message). m.stamp ≤ t) (inputs_for f v) (inputs_early v 0 t f.inputs);
 }
 
+empty_is_heap : (f : Facts) → IsWithinLimits f → IsHeap (empty_heap f.size)
+empty_is_heap f limits = record { pages = limits.pages; root = omega arith; blocks = omega (arith, limits.pages.1, limits.pages.3) }
+
 pub game_start : (f : Facts) (hs : List Held) → IsWithinLimits f → length hs ≡ f.nodes → AreStarted f hs → IsGame (record { facts = f; nodes = hs })
 game_start f hs limits width started = record {
   limits = limits;
   width = width;
-  each = All-from_get_or (IsOfRun f) hs (no_node f) (λ i within. subst (IsOfRun f) (sym (started i (omega (arith, width, within)))) (record { sent = length-replicate f.nodes []; taken = length-replicate f.nodes 0; turns = omega arith }));
+  each = All-from_get_or (IsOfRun f) hs (no_node f) (λ i within. subst (IsOfRun f) (sym (started i (omega (arith, width, within)))) (record { sent = length-replicate f.nodes []; taken = length-replicate f.nodes 0; turns = omega arith; heap = empty_is_heap f limits }));
   early = All-from_get_or (AreEarly (turns_made hs)) hs (no_node f) (λ i within. subst (AreEarly (turns_made hs)) (sym (started i (omega (arith, width, within)))) (new_is_early f i (turns_made hs)));
 }

@@ -4,6 +4,7 @@ use Rattle.std.specs.List.{All}
 use Rattle.ken_model.specs.declared.messages.Message.{Message}
 use Rattle.ken_model.specs.declared.facts.Facts.{Facts}
 use Rattle.ken_model.specs.Facts.{IsWithinLimits}
+use Rattle.ken_model.specs.Heap.{IsHeap}
 use Rattle.ken_model.specs.Network.{Place, Network, outside, first_place}
 use Rattle.ken_model.specs.Actors.{Playing}
 
@@ -55,11 +56,12 @@ pub record AreEarly (t : ℕ) (h : Held) : Type 0 where
   pub sent : (w : ℕ) → All (λ (m : Message). m.stamp ≤ t) (sent_to h w)
   pub inputs : All (λ (m : Message). m.stamp ≤ t) h.inputs
 
--- a node of the run: it has a list and a count for each node
+-- a node of the run: it has a list and a count for each node, and a heap
 pub record IsOfRun (f : Facts) (h : Held) : Type 0 where
   pub sent : length h.sent ≡ f.nodes
   pub taken : length h.taken ≡ f.nodes
   pub turns : h.place.turns ≤ f.turns
+  pub heap : IsHeap h.place.value
 
 abbrev pub turns_made : List Held → ℕ
 turns_made hs = sum_by (λ h. h.place.turns) hs

@@ -6,6 +6,7 @@ pub mod Handler
 pub mod Network
 pub mod Actors
 pub mod Tasks
+pub mod Answers
 pub mod Held
 pub mod Nodes
 pub mod Letters

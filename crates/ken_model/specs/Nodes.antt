@@ -2,6 +2,7 @@
 use Rattle.std.specs.Prelude.{◌≡◌, ℕ, ◌+◌, List, [], ◌++◌, length, map, replicate, ◌==◌, if◌then◌else◌}
 use Rattle.ken_model.specs.declared.messages.Message.{Message}
 use Rattle.ken_model.specs.declared.messages.Send.{Send}
+use Rattle.ken_model.specs.declared.values.Value.{Value}
 use Rattle.ken_model.specs.declared.facts.Facts.{Facts}
 use Rattle.ken_model.specs.declared.facts.Input.{Input}
 use Rattle.ken_model.specs.declared.node.Node.{Node}
@@ -42,9 +43,9 @@ pub record IsGiven (nodes size : ℕ) (h : Held) (left all : List Message) : Typ
   pub fresh : h ≡ new_node nodes size h.inputs
   pub inputs : h.inputs ++ left ≡ all
 
--- node v made a turn with that stamp, and has a new root: its sends and outputs come after those before
-pub record IsMade (v from stamp root : ℕ) (sends : List Send) (outs : List (List ℕ)) (old new : Held) (made : Made) : Type 0 where
-  pub place : new.place ≡ record { value = record old.place.value { root = root }; stamp = stamp; turns = old.place.turns + 1; outs = old.place.outs ++ outs }
+-- node v made a turn with that stamp, and has that heap: its sends and outputs come after those before
+pub record IsMade (v from stamp : ℕ) (value : Value) (sends : List Send) (outs : List (List ℕ)) (old new : Held) (made : Made) : Type 0 where
+  pub place : new.place ≡ record { value = value; stamp = stamp; turns = old.place.turns + 1; outs = old.place.outs ++ outs }
   pub sent : (w : ℕ) → sent_to new w ≡ sent_to old w ++ numbered v w (length (sent_to old w)) stamp sends
   pub taken : (u : ℕ) → taken_from new u ≡ (if u == from then taken_from old u + 1 else taken_from old u)
   pub inputs : new.inputs ≡ old.inputs

@@ -4,6 +4,8 @@ use Rattle.std.specs.List.{All}
 use Rattle.ken_model.specs.declared.messages.Send.{Send}
 use Rattle.ken_model.specs.declared.messages.Step.{Step}
 use Rattle.ken_model.specs.declared.network.Plan.{Plan}
+use Rattle.ken_model.specs.Heap.{IsHeap}
+use Rattle.ken_model.specs.Answers.{effect_by}
 use Rattle.ken_model.specs.Network.{Turn, turn_of}
 use Rattle.ken_model.specs.Held.{Game, held_at, network_of, taken_from, turns_made}
 
@@ -13,7 +15,8 @@ pub record IsPlanned (g : Game) (s : Step) (p : Plan) : Type 0 where
   pub defined : turn_of g.facts (network_of g.facts g.nodes) s ≡ Some turn
   pub stamp : p.stamp ≡ turn.stamp
   pub number : p.number ≡ turn.message.number
-  pub effect : turn.effect ≡ record { value = record (held_at g.facts g.nodes s.node).place.value { root = p.answer.root }; sends = p.answer.sends.items; outs = p.answer.outs.items }
+  pub effect : turn.effect ≡ effect_by (held_at g.facts g.nodes s.node).place.value p.answer
+  pub heap : IsHeap turn.effect.value
   pub known : s.node < g.facts.nodes
   pub receivers : All (λ (x : Send). x.to < g.facts.nodes) p.answer.sends.items
   pub sender : s.from < 255 → s.from < g.facts.nodes

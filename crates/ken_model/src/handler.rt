@@ -1,16 +1,18 @@
 // What a handler makes of a message.
-ghost use Rattle.std.specs.Prelude.{◌≡◌, ◌+◌, ◌-◌, ◌<◌, [], ◌∷◌, nat_lt, if◌then◌else◌, decimal, IfOk};
-ghost use Rattle.std.specs.List.{AllByRecursion};
+ghost use Rattle.std.specs.Prelude.{◌≡◌, ◌+◌, ◌-◌, ◌<◌, ◌^◌, [], ◌∷◌, nat_lt, if◌then◌else◌, decimal, IfOk};
+ghost use Rattle.std.specs.List.{All, AllByRecursion};
 ghost use Rattle.ken_model.specs.Handler.{to_others, tally_counts};
+ghost use Rattle.ken_model.specs.Heap.{IsHeap};
 ghost use Rattle.ken_model.specs.Tasks.{task_of, effect_of};
+ghost use Rattle.ken_model.specs.Answers.{effect_by};
 ghost use Rattle.ken_num.specs.Numbers.{num};
 
-use crate::{Kind, Message, OUTSIDE, Octets, Send, Value};
+use crate::{Kind, Message, OUTSIDE, Octets, Send, Value, key_value};
 use ken_num::{num, put_decimal};
 use std::alloc::{AllocError, Global};
 
 /// The answer to a payload that the kind doesn't know.
-const BAD: &[u8] = b"bad";
+pub(crate) const BAD: &[u8] = b"bad";
 
 /// What mix outputs is below this.
 const MIX_OUTPUTS: u64 = 1000;
@@ -24,6 +26,23 @@ pub(crate) enum Task {
     Tally { amount: u64 },
     Share { amount: u64 },
     Mix { count: u64, clock: u64, word: u64 },
+    /// The payload is a command, or none.
+    KeyValue,
+}
+
+/// What becomes of the blocks of a heap.
+#[derive(Debug, Drop)]
+pub(crate) enum BlockChange {
+    Keep,
+    /// A new block comes, and then the one at `old` goes.
+    Put {
+        place: u64,
+        bytes: Octets,
+        old: Option<u64>,
+    },
+    Delete {
+        place: u64,
+    },
 }
 
 /// What a node is to change, send and output.
@@ -31,6 +50,7 @@ pub(crate) enum Task {
 pub(crate) struct Answer {
     /// The root of the heap from now on.
     pub root: u64,
+    pub blocks: BlockChange,
     pub sends: Vec<Send>,
     pub outs: Vec<Octets>,
 }
@@ -38,9 +58,11 @@ pub(crate) struct Answer {
 impl Task {
     /// The task of a payload: none where the kind takes another number of draws for it.
     pub(crate) fn of(kind: Kind, payload: &[u8], draws: &[u64]) -> Option<Task>
-        ensures { result ≡ task_of kind (num payload.now) draws.now }
+        ensures task { result ≡ task_of kind (num payload.now) draws.now }
+        ensures words { All (λ d. d < 2 ^ 64) draws.now }
     {
         match (kind, num(payload), draws) {
+            (Kind::Kv, _, []) => Some(Task::KeyValue),
             (_, None, []) => Some(Task::Refuse),
             (Kind::Ring, Some(count), []) => Some(Task::Ring { count }),
             (Kind::Tally, Some(amount), []) => Some(Task::Tally { amount }),
@@ -63,30 +85,30 @@ impl Task {
         value: &Value,
         message: &Message,
     ) -> Result<Answer, AllocError>
-        requires { (0 < nodes) × (node < 255) }
-        ensures effect { IfOk result (λ a. effect_of node nodes value.now message.now self
-            ≡ record { value = record value.now { root = a.root }; sends = a.sends.items; outs = a.outs.items }) }
+        requires nodes { (0 < nodes) × (node < 255) }
+        requires heap { IsHeap value.now }
+        ensures effect { IfOk result (λ a. effect_of node nodes value.now message.now self ≡ effect_by value.now a) }
         ensures known { IfOk result (λ a. AllByRecursion (λ s. s.to < nodes) a.sends.items) }
     {
         match self {
-            Task::Refuse => Ok(Answer {
-                root: value.root,
-                sends: Vec::new(alloc),
-                outs: alone(alloc, Octets::new(Vec::from_slice(alloc, BAD)?))?,
-            }),
+            Task::Refuse => key_value::told(alloc, value, BlockChange::Keep, BAD),
+            Task::KeyValue => key_value::answer(alloc, value, message.bytes.as_slice()),
             Task::Ring { count } => Ok(Answer {
                 root: value.root.wrapping_add(1),
+                blocks: BlockChange::Keep,
                 sends: rest_of(alloc, count, (node + 1) % nodes)?,
                 outs: alone(alloc, decimal_text(alloc, count)?)?,
             }),
             Task::Tally { amount } => tally(alloc, node, nodes, value, message, amount),
             Task::Share { amount } => Ok(Answer {
                 root: value.root.wrapping_add(amount - amount / 2),
+                blocks: BlockChange::Keep,
                 sends: number_to(alloc, amount / 2, (node + 1) % nodes)?,
                 outs: alone(alloc, decimal_text(alloc, amount)?)?,
             }),
             Task::Mix { count, clock, word } => Ok(Answer {
                 root: clock,
+                blocks: BlockChange::Keep,
                 sends: rest_of(alloc, count, (word % u64::from(nodes)) as u8)?,
                 outs: alone(alloc, decimal_text(alloc, word % MIX_OUTPUTS)?)?,
             }),
@@ -103,8 +125,7 @@ fn tally(
     message: &Message,
     amount: u64,
 ) -> Result<Answer, AllocError>
-    ensures effect { IfOk result (λ a. tally_counts node nodes value.now message.now amount
-        ≡ record { value = record value.now { root = a.root }; sends = a.sends.items; outs = a.outs.items }) }
+    ensures effect { IfOk result (λ a. tally_counts node nodes value.now message.now amount ≡ effect_by value.now a) }
     ensures known { IfOk result (λ a. AllByRecursion (λ s. s.to < nodes) a.sends.items) }
 {
     let root = value.root.wrapping_add(amount);
@@ -114,7 +135,12 @@ fn tally(
         Vec::new(alloc)
     };
     let outs = alone(alloc, decimal_text(alloc, root)?)?;
-    Ok(Answer { root, sends, outs })
+    Ok(Answer {
+        root,
+        blocks: BlockChange::Keep,
+        sends,
+        outs,
+    })
 }
 
 /// A text for each node but one.
@@ -161,7 +187,7 @@ fn rest_of(alloc: Global, count: u64, to: u8) -> Result<Vec<Send>, AllocError>
 }
 
 /// One output.
-fn alone(alloc: Global, text: Octets) -> Result<Vec<Octets>, AllocError>
+pub(crate) fn alone(alloc: Global, text: Octets) -> Result<Vec<Octets>, AllocError>
     ensures { IfOk result (λ v. v.items ≡ text ∷ []) }
 {
     let mut outs = Vec::new(alloc);

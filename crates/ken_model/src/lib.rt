@@ -7,6 +7,7 @@ mod commands;
 mod facts;
 mod faults;
 mod handler;
+mod key_value;
 mod kinds;
 mod laws;
 mod lists;

@@ -1,6 +1,8 @@
 // Lists in public types: a contract sees the list, and no capacity.
-ghost use Rattle.std.specs.Prelude.{◌≡◌, ◌==◌, ℕ, List, length};
+ghost use Rattle.std.specs.Prelude.{◌≡◌, ◌==◌, ◌<◌, ◌≤◌, ℕ, List, length, OnOk, OnErr};
+ghost use Rattle.std.specs.List.{insert, remove};
 
+use std::alloc::AllocError;
 use std::marker::Model;
 
 /// A byte string.
@@ -94,5 +96,25 @@ impl<T> Items<T> {
         ensures { result.items ≡ self }
     {
         self.items
+    }
+}
+
+impl<T: Drop> Items<T> {
+    /// Puts an item before the one at `index`. After an error nothing has changed.
+    pub(crate) fn insert(&mut self, index: usize, item: T) -> Result<(), AllocError>
+        requires { index ≤ length self.old }
+        ensures ok { OnOk result (self.new ≡ insert self.old index item) }
+        ensures err { OnErr result (self.new ≡ self.old) }
+    {
+        self.items.insert(index, item)?;
+        Ok(())
+    }
+
+    /// Takes the item at `index` away.
+    pub(crate) fn remove(&mut self, index: usize)
+        requires { index < length self.old }
+        ensures { self.new ≡ remove self.old index }
+    {
+        self.items.remove(index);
     }
 }

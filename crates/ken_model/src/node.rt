@@ -5,10 +5,11 @@ ghost use Rattle.ken_model.specs.Network.{numbered};
 ghost use Rattle.ken_model.specs.Actors.{posted_after, outs_after};
 ghost use Rattle.ken_model.specs.Held.{taken_from};
 ghost use Rattle.ken_model.specs.Nodes.{held_of, new_node, input_at, IsMade};
+ghost use Rattle.ken_model.specs.Answers.{changed, value_after};
 ghost use Rattle.ken_model.specs.Letters.{send_of, copy_of, count_at};
 
-use crate::handler::Answer;
-use crate::{Input, Items, Message, OUTSIDE, Octets, Out, Send, Value};
+use crate::handler::{Answer, BlockChange};
+use crate::{Block, Input, Items, Message, OUTSIDE, Octets, Out, Send, Value};
 use std::alloc::{AllocError, Global};
 
 #[derive(Debug, Drop)]
@@ -97,11 +98,12 @@ impl Node {
         requires turns { self.old.turns + 1 < 2 ^ 64 }
         requires waits { taken_from (held_of self.old) from + 1 < 2 ^ 64 }
         requires sender { from < 255 → from < length self.old.taken.items }
-        ensures made { IfOk result (IsMade node from stamp answer.root answer.sends.items answer.outs.items (held_of self.old) (held_of self.new)) }
+        ensures made { IfOk result (IsMade node from stamp (value_after self.old.value answer) answer.sends.items answer.outs.items (held_of self.old) (held_of self.new)) }
         ensures err { OnErr result (held_of self.new ≡ held_of self.old) }
     {
         let Answer {
             root,
+            blocks,
             sends,
             mut outs,
         } = answer;
@@ -109,6 +111,8 @@ impl Node {
         let letters = letters(alloc, sends)?;
         let mut mail = Vec::with_capacity(alloc, letters.len())?;
         reserve(&mut self.sent, letters.len())?;
+        self.outs.reserve(outs.len())?;
+        change(&mut self.value, blocks)?;
         self.outs.append(&mut outs)?;
         post_all(&mut self.sent, node, stamp, letters, &mut mail)?;
         self.take(from);
@@ -135,6 +139,24 @@ impl Node {
             self.taken[usize::from(from)] += 1;
         }
     }
+}
+
+/// Changes the blocks of a heap. After an error nothing has changed.
+fn change(value: &mut Value, blocks: BlockChange) -> Result<(), AllocError>
+    ensures ok { OnOk result (value.new ≡ record value.old { blocks = changed blocks value.old.blocks }) }
+    ensures err { OnErr result (value.new ≡ value.old) }
+{
+    match blocks {
+        BlockChange::Keep => {}
+        BlockChange::Put { place, bytes, old } => {
+            value.put(Block { place, bytes })?;
+            if let Some(old) = old {
+                value.remove(old);
+            }
+        }
+        BlockChange::Delete { place } => value.remove(place),
+    }
+    Ok(())
 }
 
 /// A copy of a text.

@@ -1,6 +1,11 @@
-ghost use Rattle.std.specs.Prelude.{◌≡◌};
+ghost use Rattle.std.specs.Prelude.{◌≡◌, ◌<◌, ◌^◌, nat_lt, ◌==◌, option_map, option_copied, OnOk, OnErr};
+ghost use Rattle.std.specs.List.{position, find};
+ghost use Rattle.ken_model.specs.declared.values.Block.{Block};
+ghost use Rattle.ken_model.specs.Heap.{IsHeap, rounded, first_gap, with_block, without_block};
+ghost use Rattle.ken_model.specs.KeyValue.{pair_of, is_key, at_space};
 
-use crate::{Items, Octets};
+use crate::{Items, Octets, is_pair_of};
+use std::alloc::AllocError;
 
 /// A block of a heap.
 #[derive(Debug, Drop)]
@@ -33,4 +38,94 @@ impl Value {
     {
         self.root = root;
     }
+
+    /// The place of a block of `len` bytes in the first gap that it fits into.
+    pub(crate) fn first_gap(&self, len: usize) -> Option<u64>
+        requires heap { IsHeap self.now }
+        requires len { len < 2 ^ 63 }
+        ensures { result ≡ first_gap self.now len }
+    {
+        let needed = rounded(len);
+        let mut from = 16;
+        for block in self.blocks.as_slice() {
+            if block.place >= from + 32 + needed {
+                return Some(from + 16);
+            }
+            from = block.place + rounded(block.bytes.len());
+        }
+        if from + 16 + needed <= self.size {
+            Some(from + 16)
+        } else {
+            None
+        }
+    }
+
+    /// Puts a block among the others. After an error nothing has changed.
+    #[tactic(auto, using(crate::proofs::Edits::insert_past, crate::proofs::Edits::index_within))]
+    pub(crate) fn put(&mut self, block: Block) -> Result<(), AllocError>
+        ensures ok { OnOk result (self.new ≡ record self.old { blocks = with_block block self.old.blocks }) }
+        ensures err { OnErr result (self.new ≡ self.old) }
+    {
+        let index = self.index_past(block.place).unwrap_or(self.blocks.len());
+        self.blocks.insert(index, block)
+    }
+
+    /// Takes the block at a place away.
+    #[tactic(auto, using(crate::proofs::Edits::remove_first, crate::proofs::Edits::remove_none))]
+    pub(crate) fn remove(&mut self, place: u64)
+        ensures { self.new ≡ record self.old { blocks = without_block place self.old.blocks } }
+    {
+        if let Some(index) = self.index_of(place) {
+            self.blocks.remove(index);
+        }
+    }
+
+    /// The pair of a key.
+    pub(crate) fn pair_of(&self, key: &[u8]) -> Option<&Block>
+        ensures { option_copied result ≡ find (λ (b : Block). is_key key.now (at_space b.bytes)) self.now.blocks }
+    {
+        self.blocks
+            .as_slice()
+            .iter()
+            .find(|block| is_pair_of(block.bytes.as_slice(), key))
+    }
+
+    /// Its place.
+    #[tactic(auto, using(crate::proofs::Edits::pair_found))]
+    pub(crate) fn place_of_pair(&self, key: &[u8]) -> Option<u64>
+        ensures { result ≡ option_map (λ (b : Block). b.place) (pair_of key.now self.now.blocks) }
+    {
+        match self.pair_of(key) {
+            Some(pair) => Some(pair.place),
+            None => None,
+        }
+    }
+
+    /// How many blocks stand before the first past a place.
+    fn index_past(&self, place: u64) -> Option<usize>
+        ensures { result ≡ position (λ (b : Block). nat_lt place b.place) self.now.blocks }
+    {
+        self.blocks
+            .as_slice()
+            .iter()
+            .position(|block| place < block.place)
+    }
+
+    /// How many blocks stand before the one at a place.
+    fn index_of(&self, place: u64) -> Option<usize>
+        ensures { result ≡ position (λ (b : Block). b.place == place) self.now.blocks }
+    {
+        self.blocks
+            .as_slice()
+            .iter()
+            .position(|block| block.place == place)
+    }
+}
+
+/// Rounded up to a multiple of 16.
+fn rounded(len: usize) -> u64
+    requires { len < 2 ^ 63 }
+    ensures { result ≡ rounded len }
+{
+    (len as u64 + 15) / 16 * 16
 }

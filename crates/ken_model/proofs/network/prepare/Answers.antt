@@ -1,7 +1,8 @@
-use Rattle.std.proofs.Common.{◌≡◌, ℕ, ◌+◌, ◌<◌, ◌≤◌, max, List, length, map, slice_index_or, Some, None, refl, sym, ap, subst, ◌∙◌, arith}
+use Rattle.std.proofs.Common.{◌≡◌, ℕ, ◌+◌, ◌<◌, ◌≤◌, ◌^◌, max, List, length, map, slice_index_or, Some, None, refl, sym, ap, subst, ◌∙◌, arith}
+use Rattle.std.specs.List.{All}
 use Rattle.std.proofs.lemmas.Bool.{ltb-true}
 use Rattle.std.proofs.lemmas.List.{length-map, get_or_past}
-use Rattle.std.proofs.lemmas.List.Elements.{All-from_recursion}
+use Rattle.std.proofs.lemmas.List.Elements.{All-get_or, All-same, All-from_recursion, recursion_from_All}
 use Rattle.ken_model.specs.declared.messages.Message.{Message}
 use Rattle.ken_model.specs.declared.messages.Send.{Send}
 use Rattle.ken_model.specs.declared.messages.Step.{Step}
@@ -9,14 +10,17 @@ use Rattle.ken_model.specs.declared.facts.Facts.{Facts}
 use Rattle.ken_model.specs.declared.handler.Task.{Task}
 use Rattle.ken_model.specs.declared.node.Node.{Node}
 use Rattle.ken_model.specs.Effects.{Effect}
+use Rattle.ken_model.specs.Heap.{IsHeap}
 use Rattle.ken_model.specs.Tasks.{task_of, effect_of}
+use Rattle.ken_model.specs.Answers.{effect_by}
 use Rattle.ken_model.specs.Network.{front}
 use Rattle.ken_model.specs.Actors.{HasWrongDraws}
 use Rattle.ken_model.specs.Held.{Held, held_at, no_node, network_of, playing_of, IsOfRun}
 use Rattle.ken_model.specs.Nodes.{held_of, game_of}
 use Rattle.ken_model.proofs.Elements.{All-unmap}
+use Rattle.ken_model.proofs.Heaps.{heap_after}
 use Rattle.ken_model.proofs.Moved.{few_made}
-use Rattle.ken_model.proofs.Prepared.{turn_by, turn_of-task, wrong_draws, right_draws, front_past, early_at, early_front, held_node}
+use Rattle.ken_model.proofs.Prepared.{turn_by, after_by_task, turn_of-task, wrong_draws, right_draws, front_past, early_at, early_front, held_node}
 use Rattle.ken_num.specs.Numbers.{num}
 use Rattle.ken_model.proofs.network.prepare.Goals as goal
 use Rattle.ken_model.proofs.network.prepare.Goals.{In-Some, In-Some-front, In-Some-of, In_default-of}
@@ -50,10 +54,26 @@ waits : (c : In-Some-front) → front ((network_of c.args.facts.now (map held_of
 waits c = sym (c.in-Some-front.ensures.front c.args.facts.now)
 
 no_task : (c : In_default-of) → task_of c.args.facts.now.kind (num c.in-Some-front.message.now.bytes) c.args.step.now.draws ≡ None
-no_task c = ap (λ b. task_of c.args.facts.now.kind (num b) c.args.step.now.draws) (sym c.as_slice-payload.ensures) ∙ ap (task_of c.args.facts.now.kind (num c.as_slice-payload.result.now)) (sym c.as_slice.ensures) ∙ sym c.in_default-of.ensures
+no_task c = ap (λ b. task_of c.args.facts.now.kind (num b) c.args.step.now.draws) (sym c.as_slice-payload.ensures) ∙ ap (task_of c.args.facts.now.kind (num c.as_slice-payload.result.now)) (sym c.as_slice.ensures) ∙ sym c.in_default-of.ensures.task
 
 a_task : (c : In-Some-of) → task_of c.args.facts.now.kind (num c.in-Some-front.message.now.bytes) c.args.step.now.draws ≡ Some c.in-Some-of.task
-a_task c = ap (λ b. task_of c.args.facts.now.kind (num b) c.args.step.now.draws) (sym c.as_slice-payload.ensures) ∙ ap (task_of c.args.facts.now.kind (num c.as_slice-payload.result.now)) (sym c.as_slice.ensures) ∙ sym c.in-Some-of.ensures
+a_task c = ap (λ b. task_of c.args.facts.now.kind (num b) c.args.step.now.draws) (sym c.as_slice-payload.ensures) ∙ ap (task_of c.args.facts.now.kind (num c.as_slice-payload.result.now)) (sym c.as_slice.ensures) ∙ sym c.in-Some-of.ensures.task
+
+-- its heap
+heap : (c : In-Some) → IsHeap (held_at c.args.facts.now (map held_of c.args.nodes.now) c.args.step.now.node).place.value
+heap c =
+    let f : Facts = c.args.facts.now in
+    let hs : List Held = map held_of c.args.nodes.now in
+    (All-get_or (IsOfRun f) hs c.args.step.now.node (no_node f) (omega (arith, within c, length-map c.args.nodes.now held_of)) c.requires.each).heap
+
+pub answer-requires-clause-heap : goal.answer-requires-clause-heap
+answer-requires-clause-heap c =
+    let at = goal.at.answer-requires-clause-heap c in
+    subst (λ (h : Held). IsHeap h.place.value) (receiver at.In-Some) (heap at.In-Some)
+
+-- what was drawn
+words : (c : In-Some-of) → All (λ d. d < 2 ^ 64) c.args.step.now.draws
+words c = All-same (λ d. d < 2 ^ 64) c.args.step.now.draws c.as_slice.result.now (sym c.as_slice.ensures) c.of.ensures.words
 
 -- the node has turns left
 more : (f : Facts) (hs : List Held) (k : ℕ) (n : Node) → held_at f hs k ≡ held_of n → n.turns < f.turns → (held_at f hs k).place.turns < f.turns
@@ -107,7 +127,8 @@ returns-clause-planned c =
       defined = turn_of-task f (network_of f hs) s m c.in-Some-of.task turns_left (waits at.In-Some-front) (a_task at.In-Some-of);
       stamp = ap (λ k. k + 1) (c.max.ensures ∙ ap (λ k. max k m.stamp) (sym stamp));
       number = refl;
-      effect = subst (λ (h : Held). ◌≡◌ {A = Effect} (effect_of s.node f.nodes h.place.value m c.in-Some-of.task) (record { value = record h.place.value { root = c.in_ok-answer.answer.root }; sends = c.in_ok-answer.answer.sends.items; outs = c.in_ok-answer.answer.outs.items })) (sym is) c.in_ok-answer.ensures.effect;
+      effect = subst (λ (h : Held). ◌≡◌ {A = Effect} (effect_of s.node f.nodes h.place.value m c.in-Some-of.task) (effect_by h.place.value c.in_ok-answer.answer)) (sym is) c.in_ok-answer.ensures.effect;
+      heap = heap_after f.kind s.node f.nodes (held_at f hs s.node).place.value m s.draws _ (heap at.In-Some) (recursion_from_All (λ d. d < 2 ^ 64) s.draws (words at.In-Some-of)) (after_by_task f (network_of f hs) s m c.in-Some-of.task (a_task at.In-Some-of));
       known = omega (arith, width, within at.In-Some);
       receivers = All-from_recursion (λ (x : Send). x.to < f.nodes) c.in_ok-answer.answer.sends.items c.in_ok-answer.ensures.known;
       sender = λ node. (let known = c.in-Some-front.ensures.sender node in omega arith);

@@ -6,6 +6,10 @@ use Rattle.ken_model.specs.declared.facts.Facts.{Facts}
 use Rattle.ken_model.specs.declared.messages.Done.{Done}
 use Rattle.ken_model.specs.declared.messages.Step.{Step}
 use Rattle.ken_model.specs.declared.node.Node.{Node}
+use Rattle.ken_model.specs.declared.values.Value.{Value}
+use Rattle.ken_model.specs.Effects.{Effect}
+use Rattle.ken_model.specs.Heap.{IsHeap}
+use Rattle.ken_model.specs.Answers.{value_after}
 use Rattle.ken_model.specs.Actors.{IsStep}
 use Rattle.ken_model.specs.Held.{Held, Game, held_at, playing_of, IsGame}
 use Rattle.ken_model.specs.Nodes.{held_of, game_of, IsMade}
@@ -35,11 +39,15 @@ returns-in_err-made-clause-unchanged c =
 planned : (c : After-new-2) → IsPlanned (game_of c.self.inside.facts.now c.self.inside.nodes.items) c.args.step.now c.in_ok-plan.plan
 planned c = subst (λ (ns : List Node). IsPlanned (game_of c.self.inside.facts.now ns) c.args.step.now c.in_ok-plan.plan) c.deref.ensures.value c.in_ok-plan.ensures.planned
 
+-- the node's heap after it
+abbrev after_turn : After-new-2 → Value
+after_turn c = value_after (held_at c.self.inside.facts.now (map held_of c.self.inside.nodes.items) c.args.step.now.node).place.value c.in_ok-plan.plan.answer
+
 -- the node's turn, as contracts name it
 pub record IsMoved (c : After-new-2) : Type 0 where
   pub within : c.args.step.now.node < length (map held_of c.self.inside.nodes.items)
   pub node : c.args.step.now.node < 255
-  pub moved : IsMade c.args.step.now.node c.args.step.now.from c.in_ok-plan.plan.stamp c.in_ok-plan.plan.answer.root c.in_ok-plan.plan.answer.sends.items c.in_ok-plan.plan.answer.outs.items
+  pub moved : IsMade c.args.step.now.node c.args.step.now.from c.in_ok-plan.plan.stamp (after_turn c) c.in_ok-plan.plan.answer.sends.items c.in_ok-plan.plan.answer.outs.items
       (held_at c.self.inside.facts.now (map held_of c.self.inside.nodes.items) c.args.step.now.node) (held_of c.make.new.self) c.in_ok-made.made
   pub whole : map held_of (slice_set c.self.inside.nodes.items c.from.result c.make.new.self) ≡ slice_set (map held_of c.self.inside.nodes.items) c.args.step.now.node (held_of c.make.new.self)
 
@@ -57,7 +65,7 @@ moved c =
     record {
       within = omega (arith, length-map ns held_of);
       node = omega (arith, (planned c).known, c.self.invariant.limits.few_nodes);
-      moved = subst (λ h. IsMade s.node s.from c.in_ok-plan.plan.stamp c.in_ok-plan.plan.answer.root c.in_ok-plan.plan.answer.sends.items c.in_ok-plan.plan.answer.outs.items h (held_of new) c.in_ok-made.made) (sym held) c.in_ok-made.ensures.made;
+      moved = subst (λ (h : Held). IsMade s.node s.from c.in_ok-plan.plan.stamp (value_after h.place.value c.in_ok-plan.plan.answer) c.in_ok-plan.plan.answer.sends.items c.in_ok-plan.plan.answer.outs.items h (held_of new) c.in_ok-made.made) (sym held) c.in_ok-made.ensures.made;
       whole = ap (λ k. map held_of (slice_set ns k new)) c.from.ensures ∙ map-set held_of ns s.node new;
     }
 
@@ -68,7 +76,7 @@ invariant_of-self-2 c =
     let p = planned c in
     let m = moved c in
     subst (λ (gs : List Held). IsGame (record { facts = f; nodes = gs })) (sym m.whole)
-    (game_moved f hs c.args.step.now _ _ _ _ (held_of c.make.new.self) c.in_ok-made.made c.self.invariant m.within p.more p.early m.moved)
+    (game_moved f hs c.args.step.now _ _ _ _ (held_of c.make.new.self) c.in_ok-made.made c.self.invariant m.within p.more p.early (subst (λ (e : Effect). IsHeap e.value) p.effect p.heap) m.moved)
 
 pub returns-clause-done : goal.returns-clause-done
 returns-clause-done c =
@@ -79,7 +87,7 @@ returns-clause-done c =
     let m = moved c in
     let done : Done = record { stamp = c.in_ok-plan.plan.stamp; number = c.in_ok-plan.plan.number; sends = c.new.result; outs = c.new-2.result } in
     let is = step_told f hs s p.turn (held_of c.make.new.self) c.in_ok-made.made done m.within m.node p.defined
-    (record { stamp = c.in_ok-plan.plan.stamp; root = c.in_ok-plan.plan.answer.root; sends = c.in_ok-plan.plan.answer.sends.items; outs = c.in_ok-plan.plan.answer.outs.items; is_stamp = p.stamp; effect = p.effect; moved = m.moved })
+    (record { stamp = c.in_ok-plan.plan.stamp; value = after_turn c; sends = c.in_ok-plan.plan.answer.sends.items; outs = c.in_ok-plan.plan.answer.outs.items; is_stamp = p.stamp; effect = p.effect; moved = m.moved })
     p.stamp p.number c.new.ensures c.new-2.ensures in
     let later = subst (λ (gs : List Held). IsStep (playing_of (record { facts = f; nodes = hs })) (playing_of (record { facts = f; nodes = gs })) s done) (sym m.whole) is in
     subst (λ (g : Game). IsStep (playing_of g) (playing_of (record { facts = f; nodes = map held_of (slice_set c.self.inside.nodes.items c.from.result c.make.new.self) })) s done) c.self.view_is later

@@ -8,6 +8,7 @@ use Rattle.ken_model.specs.declared.node.Letter.{Letter}
 use Rattle.ken_model.specs.declared.values.Value.{Value}
 use Rattle.ken_model.specs.Network.{Place, numbered}
 use Rattle.ken_model.specs.Actors.{posted_after, outs_after}
+use Rattle.ken_model.specs.Answers.{changed}
 use Rattle.ken_model.specs.Letters.{send_of, copy_of, count_at}
 use Rattle.ken_model.proofs.Elements.{All-unmap}
 use Rattle.ken_model.proofs.node.Node.make.Goals as goal
@@ -28,12 +29,14 @@ returns-clause-made c =
     let ready : c.deref_mut-2.result.now ≡ c.reserve.new.sent = c.deref_mut-2.ensures.value ∙ take_at c.reserve.new.sent _ self.sent.len (omega (arith, c.reserve.auto.sent, c.deref_mut.ensures.len)) in
     let same : map items_of c.deref_mut-2.result.now ≡ map items_of self.sent.items = ap (map items_of) ready ∙ c.in_ok-reserve.ensures.same ∙ ap (map items_of) c.deref_mut.ensures.value in
     let sent : new.sent.items ≡ c.post_all.new.sent = ap (λ (x : Node). x.sent.items) c.take.ensures.rest ∙ take_at c.post_all.new.sent _ self.sent.len (omega (arith, c.post_all.auto.sent, c.deref_mut-2.ensures.len)) in
-    let outs : new.outs.items ≡ self.outs.items ++ c.args.answer.outs.items = ap (λ (x : Node). x.outs.items) c.take.ensures.rest ∙ c.in_ok-append.ensures.items in
+    let outs : new.outs.items ≡ self.outs.items ++ c.args.answer.outs.items = ap (λ (x : Node). x.outs.items) c.take.ensures.rest ∙ c.in_ok-append.ensures.items ∙ ap (λ l. l ++ c.args.answer.outs.items) c.in_ok-reserve-2.ensures.items in
+    let value : Value = record self.value { blocks = changed c.args.answer.blocks self.value.blocks } in
+    let changed_to : new.value ≡ value = ap (λ (x : Node). x.value) c.take.ensures.rest ∙ c.in_ok-change.ensures.ok in
     let place : Value → ℕ → List (List ℕ) → Place = λ w k o. record { value = record w { root = c.args.answer.root }; stamp = stamp; turns = k + 1; outs = o } in
     record {
-      place = ap (λ w. place w new.turns new.outs.items) (ap (λ (x : Node). x.value) c.take.ensures.rest)
-          ∙ ap (λ k. place self.value k new.outs.items) (ap (λ (x : Node). x.turns) c.take.ensures.rest)
-          ∙ ap (place self.value self.turns) outs;
+      place = ap (λ w. place w new.turns new.outs.items) changed_to
+          ∙ ap (λ k. place value k new.outs.items) (ap (λ (x : Node). x.turns) c.take.ensures.rest)
+          ∙ ap (place value self.turns) outs;
       sent = λ w. ap (λ ls. slice_index_or (map items_of ls) w []) sent ∙ c.in_ok-post_all.ensures.sent w
           ∙ ap (λ ls. slice_index_or ls w [] ++ numbered v w (count_at ls w) stamp (map send_of letters)) same
           ∙ ap (λ ss. slice_index_or (map items_of self.sent.items) w [] ++ numbered v w (count_at (map items_of self.sent.items) w) stamp ss) c.in_ok-letters.ensures.sends;
