@@ -13,6 +13,7 @@ pub mod Started
 pub mod Tasks
 pub mod Heaps
 pub mod Edits
+pub mod Gaps
 pub mod Moved
 pub mod Prepared
 pub mod Others

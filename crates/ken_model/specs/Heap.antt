@@ -1,5 +1,6 @@
 -- A node's heap as a list of blocks: which lists are one, where a new block goes, and what stands where.
-use Rattle.std.specs.Prelude.{◌≡◌, ℕ, ◌+◌, ◌*◌, ◌/◌, ◌%◌, ◌<◌, ◌≤◌, ◌^◌, List, [], ◌∷◌, length, ◌==◌, nat_lt, if◌then◌else◌, Option, Some, None}
+use Rattle.std.specs.Prelude.{◌≡◌, ℕ, ◌+◌, ◌*◌, ◌/◌, ◌%◌, ◌<◌, ◌≤◌, ◌^◌, List, [], ◌∷◌, length, ◌⊎◌, nat_lt, ◌==◌, if◌then◌else◌, Option, Some, None}
+use Rattle.std.specs.List.{AllByRecursion, Contains}
 use Rattle.ken_model.specs.declared.facts.TheConstants.{PAGE, MAX_PAGES}
 use Rattle.ken_model.specs.declared.values.Block.{Block}
 use Rattle.ken_model.specs.declared.values.Value.{Value}
@@ -51,3 +52,12 @@ block_at place (b ∷ bs) = if b.place == place then Some b.bytes else block_at 
 abbrev pub place_past : ℕ → List Block → Option ℕ
 place_past place [] = None
 place_past place (b ∷ bs) = if nat_lt place b.place then Some b.place else place_past place bs
+
+-- a place for a block of n bytes: it stands right after `from` or after some block's cover, and its own cover is apart from
+-- all others and ends within the size
+pub record IsFit (from size : ℕ) (bs : List Block) (n place : ℕ) : Type 0 where
+  pub start : ℕ
+  pub begins : (start ≡ from) ⊎ ((b : Block) × Contains bs b × (start ≡ end_of b))
+  pub stands : place ≡ start + 16
+  pub apart : AllByRecursion (λ (b : Block). (place + rounded n + 16 ≤ b.place) ⊎ (end_of b ≤ start)) bs
+  pub within : place + rounded n ≤ size

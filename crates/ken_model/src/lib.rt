@@ -24,7 +24,7 @@ pub use commands::{Command, is_pair_of};
 pub use facts::{Facts, Input, MAX_INPUTS, MAX_NODES, MAX_PAGES, MAX_TEXT, MAX_TURNS, PAGE};
 pub use faults::StepFault;
 pub use kinds::Kind;
-pub use laws::{agreement_is_legal, report_spells_its_run};
+pub use laws::{agreement_is_legal, first_gap_is_least, report_spells_its_run};
 pub use lists::{Items, Octets};
 pub use messages::{Done, Message, OUTSIDE, Out, Send, Step};
 pub use reports::{Emission, Ending, Lines, RestartLine, TurnLine};
