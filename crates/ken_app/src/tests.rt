@@ -1,8 +1,10 @@
-ghost use Rattle.std.specs.Prelude.{◌≡◌, None, IfOk};
+ghost use Rattle.std.specs.Prelude.{◌≡◌, None, [], IfOk, IsSome};
 ghost use Rattle.ken_model.specs.declared.kinds.Kind.TheVariants.{Ring};
 
 use super::*;
-use ken_model::{Items, Message, OUTSIDE, Octets, Value};
+use ken_alloc::Objects;
+use ken_model::{Message, OUTSIDE, Octets};
+use ken_pages::PageHeap;
 use std::alloc::{AllocError, Global};
 use std::test::Fail;
 
@@ -37,7 +39,7 @@ impl App for Quitter {
     ghost kind = { λ _. Ring };
 
     fn on_message<O: Oracle>(&self, turn: &mut Turn<'_, O>) -> Result<(), AllocError> {
-        turn.objects().set_root(9);
+        turn.objects().set_root(9)?;
         let _ = turn.clock();
         Err(AllocError)
     }
@@ -55,18 +57,21 @@ fn message(alloc: Global, bytes: &[u8]) -> Result<Message, AllocError>
     })
 }
 
-fn heap(alloc: Global) -> Value {
-    Value {
-        size: 4096,
-        root: 7,
-        blocks: Items::new(Vec::new(alloc)),
-    }
+// A heap of one page, with a turn begun.
+fn heap(alloc: Global) -> Result<Objects, AllocError>
+    ensures begun { IfOk result (λ objects. IsSome objects.begun) }
+    ensures value { IfOk result (λ objects. objects.value.blocks ≡ []) }
+{
+    let mut objects = Objects::format(PageHeap::new(alloc, 1)?)?;
+    objects.begin();
+    objects.set_root(7)?;
+    Ok(objects)
 }
 
 #[test]
 fn a_turn_shows_its_message_and_lends_its_heap(rt: HostRuntime) -> Result<(), Fail> {
     let message = message(rt.alloc(), b"ken")?;
-    let mut objects = heap(rt.alloc());
+    let mut objects = heap(rt.alloc())?;
     let mut oracle = Counter::default();
     let mut made = Made::new(rt.alloc());
     let mut turn = Turn::new(2, 3, &message, &mut objects, &mut oracle, &mut made);
@@ -75,16 +80,16 @@ fn a_turn_shows_its_message_and_lends_its_heap(rt: HostRuntime) -> Result<(), Fa
     assert_eq!(rt; turn.message().from, OUTSIDE);
     assert_eq!(rt; turn.message().bytes.as_slice(), b"ken".as_slice());
     assert_eq!(rt; turn.objects().root(), 7);
-    turn.objects().set_root(u64::MAX);
+    turn.objects().set_root(u64::MAX)?;
     assert_eq!(rt; turn.objects().root(), u64::MAX);
-    assert_eq!(rt; (objects.size, objects.root), (4096, u64::MAX));
+    assert_eq!(rt; objects.root(), u64::MAX);
     Ok(())
 }
 
 #[test]
 fn sends_are_refused_in_the_order_of_the_faults(rt: HostRuntime) -> Result<(), Fail> {
     let message = message(rt.alloc(), b"")?;
-    let mut objects = heap(rt.alloc());
+    let mut objects = heap(rt.alloc())?;
     let mut oracle = Counter::default();
     let mut made = Made::new(rt.alloc());
     let mut turn = Turn::new(2, 3, &message, &mut objects, &mut oracle, &mut made);
@@ -126,7 +131,7 @@ fn sends_are_refused_in_the_order_of_the_faults(rt: HostRuntime) -> Result<(), F
 #[test]
 fn outputs_are_refused_in_the_order_of_the_faults(rt: HostRuntime) -> Result<(), Fail> {
     let message = message(rt.alloc(), b"")?;
-    let mut objects = heap(rt.alloc());
+    let mut objects = heap(rt.alloc())?;
     let mut oracle = Counter::default();
     let mut made = Made::new(rt.alloc());
     let mut turn = Turn::new(2, 3, &message, &mut objects, &mut oracle, &mut made);
@@ -150,7 +155,7 @@ fn outputs_are_refused_in_the_order_of_the_faults(rt: HostRuntime) -> Result<(),
 #[test]
 fn the_oracle_is_asked_while_a_draw_is_left(rt: HostRuntime) -> Result<(), Fail> {
     let message = message(rt.alloc(), b"")?;
-    let mut objects = heap(rt.alloc());
+    let mut objects = heap(rt.alloc())?;
     let mut oracle = Counter::default();
     let mut made = Made::new(rt.alloc());
     let mut turn = Turn::new(2, 3, &message, &mut objects, &mut oracle, &mut made);
@@ -175,7 +180,7 @@ fn the_oracle_is_asked_while_a_draw_is_left(rt: HostRuntime) -> Result<(), Fail>
 #[test]
 fn a_turn_that_is_given_up_hands_nothing_back(rt: HostRuntime) -> Result<(), Fail> {
     let message = message(rt.alloc(), b"ken")?;
-    let mut objects = heap(rt.alloc());
+    let mut objects = heap(rt.alloc())?;
     let mut oracle = Counter::default();
     let made = take_turn(
         rt.alloc(),
@@ -187,7 +192,7 @@ fn a_turn_that_is_given_up_hands_nothing_back(rt: HostRuntime) -> Result<(), Fai
         &mut oracle,
     );
     assert!(rt; made.is_err());
-    assert_eq!(rt; (objects.root, oracle.clocks, oracle.words), (9, 1, 0));
+    assert_eq!(rt; (objects.root(), oracle.clocks, oracle.words), (9, 1, 0));
     Ok(())
 }
 

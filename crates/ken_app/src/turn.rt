@@ -8,7 +8,8 @@ ghost use Rattle.ken_app.specs.Turning.{turning, oracle_of, IsOneTurn};
 use crate::faults::{NoDraw, OutputFault, SendFault};
 use crate::oracle::Oracle;
 use arrayvec::ArrayVec;
-use ken_model::{MAX_TEXT, Message, Octets, Send, Value};
+use ken_alloc::Objects;
+use ken_model::{MAX_TEXT, Message, Octets, Send};
 use std::alloc::Global;
 
 /// The most draws of a turn.
@@ -50,7 +51,7 @@ pub struct Turn<'a, O> {
     node: u8,
     nodes: u8,
     message: &'a Message,
-    objects: &'a mut Value,
+    objects: &'a mut Objects,
     oracle: &'a mut O,
     made: &'a mut Made,
 }
@@ -63,7 +64,7 @@ impl<'a, O: Oracle> Turn<'a, O> {
         node: u8,
         nodes: u8,
         message: &'a Message,
-        objects: &'a mut Value,
+        objects: &'a mut Objects,
         oracle: &'a mut O,
         made: &'a mut Made,
     ) -> Self
@@ -75,7 +76,7 @@ impl<'a, O: Oracle> Turn<'a, O> {
           node = node;
           nodes = nodes;
           message = message.now;
-          value = objects.old;
+          heap = objects.old;
           draws = made.old.draws.items;
           sends = made.old.sends.items;
           outs = made.old.outs.items;
@@ -112,10 +113,10 @@ impl<'a, O: Oracle> Turn<'a, O> {
         self.nodes
     }
 
-    /// The node's heap.
-    pub fn objects(&mut self) -> &mut Value
+    /// The objects in the node's heap.
+    pub fn objects(&mut self) -> &mut Objects
         ensures* writes_back { sem 𝓛 (LendsObjects O.row self.entry result) }
-        ensures value { result.now ≡ (turning self.old).value }
+        ensures heap { result.now ≡ (turning self.old).heap }
     {
         self.objects
     }

@@ -13,6 +13,7 @@ pub(crate) fn output<O: Oracle>(turn: &mut Turn<'_, O>, text: &[u8]) -> Result<(
     requires short { length text.now ≤ MAX_TEXT }
     requires few { length (turning turn.old).outs < MAX_OUTPUTS }
     ensures ok { OnOk result (turning turn.new ≡ record (turning turn.old) { outs = (turning turn.old).outs ++ text.now ∷ [] }) }
+    ensures heap { (turning turn.new).heap ≡ (turning turn.old).heap }
     ensures oracle { oracle_of turn.new ≡ oracle_of turn.old }
     ensures same { IsOneTurn turn.old turn.new }
 {
@@ -27,6 +28,7 @@ pub(crate) fn output<O: Oracle>(turn: &mut Turn<'_, O>, text: &[u8]) -> Result<(
 pub(crate) fn output_number<O: Oracle>(turn: &mut Turn<'_, O>, n: u64) -> Result<(), AllocError>
     requires few { length (turning turn.old).outs < MAX_OUTPUTS }
     ensures ok { OnOk result (turning turn.new ≡ record (turning turn.old) { outs = (turning turn.old).outs ++ decimal n ∷ [] }) }
+    ensures heap { (turning turn.new).heap ≡ (turning turn.old).heap }
     ensures oracle { oracle_of turn.new ≡ oracle_of turn.old }
     ensures same { IsOneTurn turn.old turn.new }
 {
@@ -42,6 +44,7 @@ pub(crate) fn send_number<O: Oracle>(
     requires known { to < (turning turn.old).nodes }
     requires few { length (turning turn.old).sends < MAX_SENDS }
     ensures ok { OnOk result (turning turn.new ≡ record (turning turn.old) { sends = (turning turn.old).sends ++ record { to = to; bytes = decimal n } ∷ [] }) }
+    ensures heap { (turning turn.new).heap ≡ (turning turn.old).heap }
     ensures oracle { oracle_of turn.new ≡ oracle_of turn.old }
     ensures same { IsOneTurn turn.old turn.new }
 {
@@ -54,6 +57,7 @@ pub(crate) fn send<O: Oracle>(turn: &mut Turn<'_, O>, to: u8, text: &[u8]) -> Re
     requires short { length text.now ≤ MAX_TEXT }
     requires few { length (turning turn.old).sends < MAX_SENDS }
     ensures ok { OnOk result (turning turn.new ≡ record (turning turn.old) { sends = (turning turn.old).sends ++ record { to = to; bytes = text.now } ∷ [] }) }
+    ensures heap { (turning turn.new).heap ≡ (turning turn.old).heap }
     ensures oracle { oracle_of turn.new ≡ oracle_of turn.old }
     ensures same { IsOneTurn turn.old turn.new }
 {
@@ -68,6 +72,7 @@ pub(crate) fn send<O: Oracle>(turn: &mut Turn<'_, O>, to: u8, text: &[u8]) -> Re
 pub(crate) fn refuse<O: Oracle>(turn: &mut Turn<'_, O>) -> Result<(), AllocError>
     requires few { length (turning turn.old).outs < MAX_OUTPUTS }
     ensures ok { OnOk result (turning turn.new ≡ record (turning turn.old) { outs = (turning turn.old).outs ++ codes "bad" ∷ [] }) }
+    ensures heap { (turning turn.new).heap ≡ (turning turn.old).heap }
     ensures oracle { oracle_of turn.new ≡ oracle_of turn.old }
     ensures same { IsOneTurn turn.old turn.new }
 {

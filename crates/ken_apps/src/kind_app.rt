@@ -1,7 +1,7 @@
 // The handler of each kind.
 ghost use Rattle.std.specs.Prelude.{◌≡◌};
 
-use crate::{mix, ring, share, tally};
+use crate::{kv, mix, ring, share, tally};
 use ken_app::{App, Oracle, Turn};
 use ken_model::Kind;
 use std::alloc::AllocError;
@@ -19,6 +19,7 @@ impl App for KindApp {
             Kind::Tally => tally::on_message(turn),
             Kind::Share => share::on_message(turn),
             Kind::Mix => mix::on_message(turn),
+            Kind::Kv => kv::on_message(turn),
         }
     }
 }

@@ -3,7 +3,9 @@
 
 mod answers;
 mod kind_app;
+mod kv;
 mod mix;
+mod pairs;
 mod ring;
 mod share;
 mod tally;

@@ -20,6 +20,7 @@ pub(crate) fn on_message<O: Oracle>(turn: &mut Turn<'_, O>) -> Result<(), AllocE
     ensures words { OnOk result (Answers (O.words (oracle_of turn.old)) (O.words (oracle_of turn.new)) (words_in Mix (turning turn.new).draws)) }
     ensures clocks_go_on { HasAnswered (O.clocks (oracle_of turn.old)) (O.clocks (oracle_of turn.new)) }
     ensures words_go_on { HasAnswered (O.words (oracle_of turn.old)) (O.words (oracle_of turn.new)) }
+    ensures begun { (turning turn.new).heap.begun ≡ (turning turn.old).heap.begun }
     ensures same { IsOneTurn turn.old turn.new }
 {
     let Some(count) = num(turn.message().bytes.as_slice()) else {
@@ -28,7 +29,7 @@ pub(crate) fn on_message<O: Oracle>(turn: &mut Turn<'_, O>) -> Result<(), AllocE
     let (Ok(reading), Ok(word)) = (turn.clock(), turn.word()) else {
         unreachable!()
     };
-    turn.objects().set_root(reading);
+    turn.objects().set_root(reading)?;
     output_number(turn, word % 1000)?;
     if count > 0 {
         let to = (word % u64::from(turn.nodes())) as u8;

@@ -14,13 +14,14 @@ pub(crate) fn on_message<O: Oracle>(turn: &mut Turn<'_, O>) -> Result<(), AllocE
     requires { IsFresh (turning turn.old) }
     ensures handled { OnOk result (IsHandled Ring (turning turn.old) (turning turn.new)) }
     ensures oracle { oracle_of turn.new ≡ oracle_of turn.old }
+    ensures begun { (turning turn.new).heap.begun ≡ (turning turn.old).heap.begun }
     ensures same { IsOneTurn turn.old turn.new }
 {
     let Some(count) = num(turn.message().bytes.as_slice()) else {
         return refuse(turn);
     };
     let root = turn.objects().root();
-    turn.objects().set_root(root.wrapping_add(1));
+    turn.objects().set_root(root.wrapping_add(1))?;
     output_number(turn, count)?;
     if count > 0 {
         let next = (turn.node() + 1) % turn.nodes();

@@ -14,6 +14,7 @@ pub(crate) fn on_message<O: Oracle>(turn: &mut Turn<'_, O>) -> Result<(), AllocE
     requires { IsFresh (turning turn.old) }
     ensures handled { OnOk result (IsHandled Share (turning turn.old) (turning turn.new)) }
     ensures oracle { oracle_of turn.new ≡ oracle_of turn.old }
+    ensures begun { (turning turn.new).heap.begun ≡ (turning turn.old).heap.begun }
     ensures same { IsOneTurn turn.old turn.new }
 {
     let Some(amount) = num(turn.message().bytes.as_slice()) else {
@@ -21,7 +22,7 @@ pub(crate) fn on_message<O: Oracle>(turn: &mut Turn<'_, O>) -> Result<(), AllocE
     };
     let half = amount / 2;
     let root = turn.objects().root();
-    turn.objects().set_root(root.wrapping_add(amount - half));
+    turn.objects().set_root(root.wrapping_add(amount - half))?;
     output_number(turn, amount)?;
     if half > 0 {
         let next = (turn.node() + 1) % turn.nodes();

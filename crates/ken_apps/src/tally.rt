@@ -17,6 +17,7 @@ pub(crate) fn on_message<O: Oracle>(turn: &mut Turn<'_, O>) -> Result<(), AllocE
     requires { IsFresh (turning turn.old) }
     ensures handled { OnOk result (IsHandled Tally (turning turn.old) (turning turn.new)) }
     ensures oracle { oracle_of turn.new ≡ oracle_of turn.old }
+    ensures begun { (turning turn.new).heap.begun ≡ (turning turn.old).heap.begun }
     ensures same { IsOneTurn turn.old turn.new }
 {
     let message = turn.message();
@@ -24,7 +25,7 @@ pub(crate) fn on_message<O: Oracle>(turn: &mut Turn<'_, O>) -> Result<(), AllocE
         return refuse(turn);
     };
     let sum = turn.objects().root().wrapping_add(amount);
-    turn.objects().set_root(sum);
+    turn.objects().set_root(sum)?;
     output_number(turn, sum)?;
     if message.from == OUTSIDE {
         send_to_others(turn, message.bytes.as_slice())?;
@@ -39,6 +40,7 @@ fn send_to_others<O: Oracle>(turn: &mut Turn<'_, O>, text: &[u8]) -> Result<(), 
     requires none { (turning turn.old).sends ≡ [] }
     ensures ok { OnOk result (turning turn.new ≡ record (turning turn.old) { sends = to_others (turning turn.old).node (turning turn.old).nodes text.now }) }
     ensures oracle { oracle_of turn.new ≡ oracle_of turn.old }
+    ensures heap { (turning turn.new).heap ≡ (turning turn.old).heap }
     ensures same { IsOneTurn turn.old turn.new }
 {
     for to in 0..turn.nodes() {
