@@ -49,15 +49,15 @@ pair_here : (key : List ℕ) (q from size : ℕ) (bs : List Block) (x : List ℕ
 pair_here key q from size [] x blocks is key_is = absurd cc
 pair_here key q from size (b ∷ bs) x blocks is key_is = ⊎_elim
     (λ (e : b.place ≡ q). (
-        let here : (b.place == q) ≡ true = eq-eqb b.place q e in
-        let same : Some b.bytes ≡ Some x = rw here at is in
-        grind (arith, e, same, key_is)))
+    let here : (b.place == q) ≡ true = eq-eqb b.place q e in
+    let same : Some b.bytes ≡ Some x = rw here at is in
+    grind (arith, e, same, key_is)))
     (λ ne. (
-        let there : (b.place == q) ≡ false = ne_eqb b.place q ne in
-        let left : block_at q bs ≡ Some x = rw there at is in
-        let far = at_least q (end_of b) size bs blocks.3 (rw left refl) in
-        let rest = pair_here key q (end_of b) size bs x blocks.3 left key_is in
-        grind (arith, far, rest)))
+    let there : (b.place == q) ≡ false = ne_eqb b.place q ne in
+    let left : block_at q bs ≡ Some x = rw there at is in
+    let far = at_least q (end_of b) size bs blocks.3 (rw left refl) in
+    let rest = pair_here key q (end_of b) size bs x blocks.3 left key_is in
+    grind (arith, far, rest)))
     (cases_eq b.place q)
 
 pub found_here : (key : List ℕ) (q from size : ℕ) (bs : List Block) (o : Option (List ℕ)) → AreBlocks from size bs → block_at q bs ≡ o → IsSome o → IfSome o (λ x. is_key key (at_space x) ≡ true) → pair_of key bs ≡ pair_from key q bs → IsPairAt key bs q
@@ -95,12 +95,12 @@ pub walks : (key : List ℕ) (q from size : ℕ) (bs : List Block) → AreBlocks
 walks key q from size [] blocks is other = absurd cc
 walks key q from size (b ∷ bs) blocks is other = ⊎_elim
     (λ (e : b.place ≡ q). (
-        let here : (b.place == q) ≡ true = eq-eqb b.place q e in
-        subst (λ p. Seeks key (b ∷ bs) (pair_from key p (b ∷ bs)) (place_past p (b ∷ bs))) e (walks_here key b size bs blocks.3 (rw here at other))))
+    let here : (b.place == q) ≡ true = eq-eqb b.place q e in
+    subst (λ p. Seeks key (b ∷ bs) (pair_from key p (b ∷ bs)) (place_past p (b ∷ bs))) e (walks_here key b size bs blocks.3 (rw here at other))))
     (λ ne. (
-        let there : (b.place == q) ≡ false = ne_eqb b.place q ne in
-        let left = rw there at is in
-        walks_on key q b size bs blocks.3 (at_least q (end_of b) size bs blocks.3 left) (walks key q (end_of b) size bs blocks.3 left (rw there at other))))
+    let there : (b.place == q) ≡ false = ne_eqb b.place q ne in
+    let left = rw there at is in
+    walks_on key q b size bs blocks.3 (at_least q (end_of b) size bs blocks.3 left) (walks key q (end_of b) size bs blocks.3 left (rw there at other))))
     (cases_eq b.place q)
 
 -- what a test of a block's bytes says

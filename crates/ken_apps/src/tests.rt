@@ -1,8 +1,11 @@
-ghost use Rattle.std.specs.Prelude.{None};
+ghost use Rattle.std.specs.Prelude.{◌≡◌, None, [], IfOk, IsSome};
 
 use crate::KindApp;
+use ken_alloc::Objects;
 use ken_app::{Oracle, take_turn};
-use ken_model::{Items, Kind, MAX_TEXT, Message, OUTSIDE, Octets, Value};
+use ken_model::{Kind, MAX_TEXT, Message, OUTSIDE, Octets};
+use ken_pages::PageHeap;
+use std::alloc::{AllocError, Global};
 use std::process::Abort;
 use std::test::Fail;
 
@@ -45,6 +48,19 @@ struct Case<'a> {
     sent: &'a [(u8, &'a [u8])],
     out: &'a [u8],
     draws: &'a [u64],
+    // The blocks of the heap after it, by their places.
+    blocks: &'a [(u64, &'a [u8])],
+}
+
+// A heap of one page with that root, and with a turn begun.
+fn heap(alloc: Global, root: u64) -> Result<Objects, AllocError>
+    ensures begun { IfOk result (λ objects. IsSome objects.begun) }
+    ensures blocks { IfOk result (λ objects. objects.value.blocks ≡ []) }
+{
+    let mut objects = Objects::format(PageHeap::new(alloc, 1)?)?;
+    objects.begin();
+    objects.set_root(root)?;
+    Ok(objects)
 }
 
 // Makes the turn, and compares.
@@ -56,11 +72,7 @@ fn try_case(rt: &(impl Abort + AllocGlobal), case: &Case<'_>) -> Result<(), Fail
         stamp: 0,
         bytes: Octets::new(Vec::from_slice(rt.alloc(), case.payload)?),
     };
-    let mut objects = Value {
-        size: 4096,
-        root: case.root,
-        blocks: Items::new(Vec::new(rt.alloc())),
-    };
+    let mut objects = heap(rt.alloc(), case.root)?;
     let mut oracle = Fixed {
         reading: case.reading,
         word: case.word,
@@ -77,8 +89,12 @@ fn try_case(rt: &(impl Abort + AllocGlobal), case: &Case<'_>) -> Result<(), Fail
         &mut objects,
         &mut oracle,
     )?;
-    assert_eq!(rt; objects.root, case.root_then);
-    assert_eq!(rt; (objects.size, objects.blocks.len()), (4096, 0));
+    let value = objects.value(rt.alloc())?;
+    assert_eq!(rt; (value.size, value.root), (256, case.root_then));
+    assert_eq!(rt; value.blocks.len(), case.blocks.len());
+    for (block, want) in value.blocks.as_slice().iter().zip(case.blocks) {
+        assert_eq!(rt; (block.place, block.bytes.as_slice()), *want);
+    }
     assert_eq!(rt; made.draws.as_slice(), case.draws);
     assert_eq!(rt; oracle.asked, case.draws.len() as u64);
     assert_eq!(rt; made.sends.len(), case.sent.len());
@@ -113,6 +129,7 @@ fn make_case<'a>(
         sent,
         out,
         draws,
+        blocks: &[],
     }
 }
 
@@ -229,6 +246,55 @@ fn mix_sends_a_count_where_the_word_says(rt: HostRuntime) -> Result<(), Fail> {
     ];
     for case in &cases {
         try_case(&rt, case)?;
+    }
+    Ok(())
+}
+
+// A turn of kv in an empty heap: what it outputs, and the pair that it keeps at 32, if any.
+fn kv<'a>(payload: &'a [u8], out: &'a [u8], blocks: &'a [(u64, &'a [u8])]) -> Case<'a> {
+    Case {
+        blocks,
+        ..make_case(Kind::Kv, payload, 5, &[], out, &[])
+    }
+}
+
+#[test]
+fn kv_keeps_pairs_in_blocks(rt: HostRuntime) -> Result<(), Fail> {
+    let mut longest = [b'x'; 228];
+    longest[..6].copy_from_slice(b"put k ");
+    let mut longer = [b'x'; 229];
+    longer[..6].copy_from_slice(b"put k ");
+    let short = [(32, b"a 1".as_slice())];
+    let spaces = [(32, b"key a b".as_slice())];
+    let empty = [(32, b"a ".as_slice())];
+    let whole = [(32, &longest[4..])];
+    let cases = [
+        kv(b"put a 1", b"ok", &short),
+        kv(b"put key a b", b"ok", &spaces),
+        kv(b"put a ", b"ok", &empty),
+        kv(&longest, b"ok", &whole),
+        kv(&longer, b"full", &[]),
+        kv(b"get a", b"none", &[]),
+        kv(b"del a", b"none", &[]),
+    ];
+    for case in &cases {
+        try_case(&rt, case)?;
+    }
+    let refused = [
+        b"".as_slice(),
+        b"put a",
+        b"put  1",
+        b"put ",
+        b"put",
+        b"get ",
+        b"get a b",
+        b"del ",
+        b"Put a 1",
+        b" put a 1",
+        b"7",
+    ];
+    for payload in refused {
+        try_case(&rt, &bad(Kind::Kv, payload))?;
     }
     Ok(())
 }

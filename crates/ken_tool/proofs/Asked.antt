@@ -1,7 +1,7 @@
 -- What oracles told, as turns draw more.
-use Rattle.std.proofs.Common.{◌≡◌, ℕ, ◌<◌, List, [], ◌∷◌, ◌++◌, length, slice_index_or, true, false, ◌==◌, flat_map, Option, Some, None, IfSome, append-nil, refl, sym, ap, subst, ◌∙◌, ⊎_elim, arith, append_assoc, eq-eqb, ne_eqb}
+use Rattle.std.proofs.Common.{◌≡◌, ℕ, ◌<◌, List, [], ◌∷◌, ◌++◌, length, slice_index_or, slice_set, true, false, ◌==◌, flat_map, Option, Some, None, IfSome, append-nil, refl, sym, ap, subst, ◌∙◌, ⊎_elim, arith, append_assoc, eq-eqb, ne_eqb}
 use Rattle.std.proofs.lemmas.Bool.{cases_eq}
-use Rattle.std.proofs.lemmas.List.{map_push}
+use Rattle.std.proofs.lemmas.List.{map_push, length-set, get_or-set_same, get_or-set_other}
 use Rattle.ken_model.specs.declared.kinds.Kind.{Kind}
 use Rattle.ken_model.specs.declared.messages.Step.{Step}
 use Rattle.ken_model.specs.declared.reports.TurnLine.{TurnLine}
@@ -67,3 +67,29 @@ kept_gathered telling kept f (n ∷ ns) (o ∷ os) l width asked g were_kept = �
   were_kept v o (omega (arith, asked.long)),
   subst (IsAskedFor telling (slice_index_or (o ∷ os) v o) f.kind) (sym (steps_at-lines v l.turns ∙ ap steps_of (g.parts v n (omega arith)))) (asked.each v n o (omega arith)),
 )
+
+-- one node made its turns, and the others' are as before
+pub asked_visited : {O : Type 0} (telling : Telling O) (kind : Kind) (before mid : List Node) (v : ℕ) (node new : Node) (first : Node) (oracles : List O) (oracle : O)
+    → v < length before → length mid ≡ length before
+    → ((w : ℕ) (d : Node) → w < length before → (slice_index_or mid w d).turns.items ≡ (slice_index_or (slice_set before v node) w d).turns.items)
+    → new.turns.items ≡ (slice_index_or mid v first).turns.items
+    → AreAsked telling kind before oracles → IsAskedFor telling oracle kind (steps_of node.turns.items)
+    → AreAsked telling kind (slice_set mid v new) (slice_set oracles v oracle)
+asked_visited telling kind before mid v node new first oracles oracle known long same last asked its = record {
+  long = length-set oracles v oracle ∙ asked.long ∙ sym long ∙ sym (length-set mid v new);
+  each = λ w d e lt. (
+      let in_mid : w < length mid = omega (arith, length-set mid v new, lt) in
+      let in_before : w < length before = omega (arith, long, in_mid) in
+      ⊎_elim
+      (λ (is : w ≡ v). (
+          let here : slice_index_or (slice_set oracles v oracle) v e ≡ oracle = get_or-set_same oracles v oracle e (omega (arith, asked.long, known)) in
+          let its_node : slice_index_or (slice_set mid v new) v d ≡ new = get_or-set_same mid v new d (omega (arith, long, known)) in
+          let turns : (slice_index_or (slice_set mid v new) v d).turns.items ≡ node.turns.items = ap (λ (n : Node). n.turns.items) its_node ∙ last ∙ same v first known ∙ ap (λ (n : Node). n.turns.items) (get_or-set_same before v node first known) in
+          subst (λ x. IsAskedFor telling (slice_index_or (slice_set oracles v oracle) x e) kind (steps_of (slice_index_or (slice_set mid v new) x d).turns.items)) (sym is)
+          (subst (λ o. IsAskedFor telling o kind (steps_of (slice_index_or (slice_set mid v new) v d).turns.items)) (sym here) (subst (λ ls. IsAskedFor telling oracle kind (steps_of ls)) (sym turns) its))))
+      (λ ne. (
+          let other : slice_index_or (slice_set oracles v oracle) w e ≡ slice_index_or oracles w e = get_or-set_other oracles v w oracle e ne in
+          let turns : (slice_index_or (slice_set mid v new) w d).turns.items ≡ (slice_index_or before w d).turns.items = ap (λ (n : Node). n.turns.items) (get_or-set_other mid v w new d ne) ∙ same w d in_before ∙ ap (λ (n : Node). n.turns.items) (get_or-set_other before v w node d ne) in
+          subst (λ o. IsAskedFor telling o kind (steps_of (slice_index_or (slice_set mid v new) w d).turns.items)) (sym other) (subst (λ ls. IsAskedFor telling (slice_index_or oracles w e) kind (steps_of ls)) (sym turns) (asked.each w d e in_before))))
+      (cases_eq w v));
+}

@@ -65,10 +65,10 @@ module _ (f : Facts) (nodes : List Node) (l : Lines) (limits : IsWithinLimits f)
         one_line = s.one_line;
       }
 
-  heap_at : (i : ℕ) (e : Node) → i < f.nodes → IsPrintableHeap (slice_index_or nodes i e).value
+  heap_at : (i : ℕ) (e : Node) → i < f.nodes → IsPrintableHeap (slice_index_or nodes i e).objects.value
   heap_at i e lt =
       let s = r.each i e lt in
-      subst IsPrintableHeap (sym s.value) (printable_places f i (first_place f) (r.history i) (subst (AllByRecursion IsPrintableTurn) s.lines s.printable) s.turns (record { root = omega arith; blocks = tt }))
+      subst IsPrintableHeap (sym s.value) (printable_places f i (first_place f) (r.history i) (subst (AllByRecursion IsPrintableTurn) s.lines s.printable) s.turns (record { pages = limits.pages; root = omega arith; blocks = omega (arith, limits.pages.1, limits.pages.3) }))
 
   -- a node shows what it holds
   place_is : (v : ℕ) → w.place v ≡ place_of f (r.history v)
@@ -97,7 +97,7 @@ module _ (f : Facts) (nodes : List Node) (l : Lines) (limits : IsWithinLimits f)
   heaps_are : l.heaps ≡ map (λ v. (w.place v).value) (nodes_of f)
   heaps_are =
       let value_at : ℕ → Value = λ v. (w.place v).value in
-      let value_of : Node → Value = λ n. n.value in
+      let value_of : Node → Value = λ n. n.objects.value in
       let long : length (map value_of nodes) ≡ length (map value_at (nodes_of f)) = length-map nodes value_of ∙ r.width ∙ sym (length-map-range_with_len value_at 0 f.nodes) in
       let at : (k : ℕ) (e : Value) → k < length (map value_of nodes) → slice_index_or (map value_of nodes) k e ≡ slice_index_or (map value_at (nodes_of f)) k e =
       λ k e lt. (let in_nodes : k < length nodes = omega (arith, length-map nodes value_of) in
@@ -120,8 +120,8 @@ module _ (f : Facts) (nodes : List Node) (l : Lines) (limits : IsWithinLimits f)
         (cases_lt v (length nodes)));
     emissions = subst (AllByRecursion IsPrintableEmission) (sym g.emissions) (printable_emissions 0 nodes (omega (arith, r.width, limits.few_nodes)) (λ i e lt. emits_all i e (omega (arith, r.width))));
     restarts = subst (AllByRecursion (λ (x : RestartLine). IsWord x.node × IsWord x.turns)) (sym g.restarts) tt;
-    heaps = subst (AllByRecursion IsPrintableHeap) (sym g.heaps) (all_map IsPrintableHeap (λ (n : Node). n.value) nodes (λ i e lt. heap_at i e (omega (arith, r.width))));
-    few_heaps = omega (arith, ap length g.heaps, length-map nodes (λ (n : Node). n.value), r.width, limits.few_nodes);
+    heaps = subst (AllByRecursion IsPrintableHeap) (sym g.heaps) (all_map IsPrintableHeap (λ (n : Node). n.objects.value) nodes (λ i e lt. heap_at i e (omega (arith, r.width))));
+    few_heaps = omega (arith, ap length g.heaps, length-map nodes (λ (n : Node). n.objects.value), r.width, limits.few_nodes);
     few_turns = omega (arith, g.count, few_turns_made f nodes d r, mul-le-mul few_nodes few_turns);
     waiting = g.word;
   }

@@ -6,18 +6,20 @@ use Rattle.std.specs.Str.{all_ascii_digits}
 use Rattle.std.proofs.lemmas.Str.Parse.{tells_all_ascii_digits}
 use Rattle.std.proofs.lemmas.List.Elements.{recursion_from_All}
 use Rattle.ken_model.specs.declared.kinds.Kind.{Kind}
-use Rattle.ken_model.specs.declared.kinds.Kind.TheVariants.{Ring, Tally, Share, Mix}
+use Rattle.ken_model.specs.declared.kinds.Kind.TheVariants.{Ring, Tally, Share, Mix, Kv}
 use Rattle.ken_model.specs.declared.values.Value.{Value}
 use Rattle.ken_model.specs.declared.messages.Message.{Message}
 use Rattle.ken_model.specs.declared.messages.Send.{Send}
-use Rattle.ken_model.specs.Handler.{after, ring, tally, share, mix, without_draws, to_others}
+use Rattle.ken_model.specs.Handler.{after, ring, tally, share, mix, mix_counts, without_draws, to_others}
 use Rattle.ken_model.specs.Effects.{Effect, refused}
 use Rattle.ken_num.specs.Numbers.{num}
 use Rattle.ken_num.proofs.Decimals.{All-decimal}
 use Rattle.ken_num.proofs.Small.{num-lt, num-digits}
 use Rattle.ken_model.proofs.Others.{to_others-each, to_others-few}
 use Rattle.ken_model.specs.Report.{IsOneLine}
-use Rattle.ken_tool.specs.Turns.{IsModest, IsPayload}
+use Rattle.ken_model.specs.KeyValue.{kv, command_of}
+use Rattle.ken_tool.specs.Turns.{IsModest, IsPayload, HoldsTexts}
+use Rattle.ken_tool.proofs.Texts.{IsText, text_kv}
 
 one_line_decimal : (n : ℕ) → n < 2 ^ 64 → IsOneLine (decimal n)
 one_line_decimal n word = recursion_from_All (λ b. (b ≡ 10) → ⊥) (decimal n) (All-decimal (λ b. (b ≡ 10) → ⊥) (λ b digit e. omega arith) n word)
@@ -71,6 +73,10 @@ modest_share node nodes value (Some n) some small =
     let sends = modest_sends (nat_lt 0 (n / 2)) nodes ((node + 1) % nodes) (decimal (n / 2)) (omega arith) (payload_decimal (n / 2) (omega arith)) in
     record { few_sends = sends.0; few_outs = omega arith; known = sends.1; one_line = (one_line_decimal n (omega arith), tt) }
 
+text_without_draws : (nodes : ℕ) (draws : List ℕ) (made e : Effect) → IsText nodes made → without_draws draws made ≡ Some e → IsText nodes e
+text_without_draws nodes [] made e text is = let same : made ≡ e = cc in subst (IsText nodes) same text
+text_without_draws nodes (d ∷ ds) made e text is = absurd cc
+
 modest_without_draws : (nodes : ℕ) (draws : List ℕ) (made e : Effect) → IsModestEffect nodes made → without_draws draws made ≡ Some e → IsModestEffect nodes e
 modest_without_draws nodes [] made e modest is = let same : made ≡ e = cc in subst (IsModestEffect nodes) same modest
 modest_without_draws nodes (d ∷ ds) made e modest is = absurd cc
@@ -88,10 +94,33 @@ modest_mix nodes value (Some n) (clock ∷ word ∷ []) e some small is =
     let same : made ≡ e = cc in
     subst (IsModestEffect nodes) same modest
 
--- whatever a handler makes is little
-pub modest_after : (kind : Kind) (node nodes : ℕ) (value : Value) (m : Message) (draws : List ℕ) (e : Effect) → 0 < nodes → nodes ≤ 8 → after kind node nodes value m draws ≡ Some e → IsModest nodes e.sends e.outs
+-- the kinds that keep no text leave the blocks
+texts_ring : (node nodes : ℕ) (value : Value) (o : Option ℕ) → HoldsTexts value → HoldsTexts (ring node nodes value o).value
+texts_ring node nodes value None texts = texts
+texts_ring node nodes value (Some n) texts = texts
+
+texts_tally : (node nodes : ℕ) (value : Value) (m : Message) (o : Option ℕ) → HoldsTexts value → HoldsTexts (tally node nodes value m o).value
+texts_tally node nodes value m None texts = texts
+texts_tally node nodes value m (Some n) texts = texts
+
+texts_share : (node nodes : ℕ) (value : Value) (o : Option ℕ) → HoldsTexts value → HoldsTexts (share node nodes value o).value
+texts_share node nodes value None texts = texts
+texts_share node nodes value (Some n) texts = texts
+
+texts_mix : (nodes : ℕ) (value : Value) (o : Option ℕ) (draws : List ℕ) (e : Effect) → HoldsTexts value → mix nodes value o draws ≡ Some e → HoldsTexts e.value
+texts_mix nodes value None draws e texts is = (text_without_draws nodes draws (refused value) e (record { modest = modest_refused nodes value; texts = texts }) is).texts
+texts_mix nodes value (Some n) [] e texts is = absurd cc
+texts_mix nodes value (Some n) (clock ∷ []) e texts is = absurd cc
+texts_mix nodes value (Some n) (clock ∷ word ∷ d ∷ ds) e texts is = absurd cc
+texts_mix nodes value (Some n) (clock ∷ word ∷ []) e texts is =
+    let same : mix_counts nodes value n clock word ≡ e = cc in
+    subst (λ (x : Effect). HoldsTexts x.value) same texts
+
+-- whatever a handler makes is little, and it keeps texts
+pub text_after : (kind : Kind) (node nodes : ℕ) (value : Value) (m : Message) (draws : List ℕ) (e : Effect) → 0 < nodes → nodes ≤ 8 → HoldsTexts value → IsPayload m.bytes → after kind node nodes value m draws ≡ Some e → IsText nodes e
 unfolding after
-modest_after Ring node nodes value m draws e some few is = modest_without_draws nodes draws (ring node nodes value (num m.bytes)) e (modest_ring node nodes value (num m.bytes) some (num-lt m.bytes)) is
-modest_after Tally node nodes value m draws e some few is = modest_without_draws nodes draws (tally node nodes value m (num m.bytes)) e (modest_tally node nodes value m (num m.bytes) few (payload_num m.bytes)) is
-modest_after Share node nodes value m draws e some few is = modest_without_draws nodes draws (share node nodes value (num m.bytes)) e (modest_share node nodes value (num m.bytes) some (num-lt m.bytes)) is
-modest_after Mix node nodes value m draws e some few is = modest_mix nodes value (num m.bytes) draws e some (num-lt m.bytes) is
+text_after Ring node nodes value m draws e some few texts payload is = text_without_draws nodes draws (ring node nodes value (num m.bytes)) e (record { modest = modest_ring node nodes value (num m.bytes) some (num-lt m.bytes); texts = texts_ring node nodes value (num m.bytes) texts }) is
+text_after Tally node nodes value m draws e some few texts payload is = text_without_draws nodes draws (tally node nodes value m (num m.bytes)) e (record { modest = modest_tally node nodes value m (num m.bytes) few (payload_num m.bytes); texts = texts_tally node nodes value m (num m.bytes) texts }) is
+text_after Share node nodes value m draws e some few texts payload is = text_without_draws nodes draws (share node nodes value (num m.bytes)) e (record { modest = modest_share node nodes value (num m.bytes) some (num-lt m.bytes); texts = texts_share node nodes value (num m.bytes) texts }) is
+text_after Mix node nodes value m draws e some few texts payload is = record { modest = modest_mix nodes value (num m.bytes) draws e some (num-lt m.bytes) is; texts = texts_mix nodes value (num m.bytes) draws e texts is }
+text_after Kv node nodes value m draws e some few texts payload is = text_without_draws nodes draws (kv value (command_of m.bytes)) e (text_kv nodes value m.bytes texts payload) is

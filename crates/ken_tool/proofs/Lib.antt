@@ -1,4 +1,5 @@
 mod Counts
+mod Texts
 mod Handlers
 mod Sound
 mod Posted

@@ -65,6 +65,8 @@ sound_after f v n mid new m p q sound more takes turned =
       counts = (let c : AreAtMost (16 * length n.turns.items) mid.sent = subst (AreAtMost (16 * length n.turns.items)) (sym same_sent) sound.counts in
           let d = AreAtMost-counted _ mid.sent turned.effect.sends c in
           subst (AreAtMost (16 * length new.turns.items)) (sym turned.sent) (AreAtMost-weaker _ (16 * length new.turns.items) _ (omega (arith, turned.modest.few_sends)) d));
+      idle = turned.idle;
+      texts = turned.texts;
       outs = omega (arith, sound.outs, turned.modest.few_outs);
     }
 

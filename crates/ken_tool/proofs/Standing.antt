@@ -14,7 +14,7 @@ use Rattle.ken_model.specs.Spelling.{IsPrintableTurn}
 use Rattle.ken_tool.specs.declared.node.Node.{Node}
 use Rattle.ken_tool.specs.declared.node.Pending.{Pending}
 use Rattle.ken_model.specs.Report.{IsOneLine}
-use Rattle.ken_tool.specs.Turns.{posted, outputs_from}
+use Rattle.ken_tool.specs.Turns.{posted, outputs_from, HoldsTexts}
 use Rattle.ken_tool.specs.Turned.{IsTurned, Takes, FindsNone, Runs}
 use Rattle.ken_tool.specs.Running.{IsStanding, IsLetter, IsPosted, from, sent_to}
 use Rattle.ken_tool.proofs.Counts.{AreAtMost, AreAtMost-weaker, AreAtMost-counted}
@@ -53,7 +53,7 @@ abbrev pub turn_made : (f : Facts) (v : ℕ) (m : Message) (old new : Node) (p q
 turn_made f v m old new p q turned = record { message = m; draws = turned.draws; stamp = max old.stamp m.stamp + 1; effect = turned.effect }
 
 -- it is the handler's
-is_handlers : (f : Facts) (v : ℕ) (m : Message) (old new : Node) (p q : Pending) (turned : IsTurned f v m old new p q) (place : Place) → old.value ≡ place.value → old.stamp ≡ place.stamp → turn_at f v place turned.draws m ≡ Some (turn_made f v m old new p q turned)
+is_handlers : (f : Facts) (v : ℕ) (m : Message) (old new : Node) (p q : Pending) (turned : IsTurned f v m old new p q) (place : Place) → old.objects.value ≡ place.value → old.stamp ≡ place.stamp → turn_at f v place turned.draws m ≡ Some (turn_made f v m old new p q turned)
 unfolding turn_at
 is_handlers f v m old new p q turned place value stamp = rw (← value, ← stamp, turned.defined) refl
 
@@ -97,7 +97,9 @@ standing_looked f v base arrived left n new ts mail outs s found =
       turns = s.turns;
       lines = ap (λ (x : Node). x.turns.items) found.rest ∙ s.lines;
       printable = subst (AllByRecursion IsPrintableTurn) (ap (λ (x : Node). x.turns.items) (sym found.rest)) s.printable;
-      value = ap (λ (x : Node). x.value) found.rest ∙ s.value;
+      value = ap (λ (x : Node). x.objects.value) found.rest ∙ s.value;
+      idle = ap (λ (x : Node). x.objects.begun) found.rest ∙ s.idle;
+      texts = subst HoldsTexts (ap (λ (x : Node). x.objects.value) (sym found.rest)) s.texts;
       stamp = stamp_same ∙ s.stamp;
       outputs = ap (λ (x : Node). x.emitted.items ++ outs) found.rest ∙ s.outputs;
       few_outputs = s.few_outputs;
@@ -156,7 +158,7 @@ pub standing_turned : (f : Facts) (v base : ℕ) (arrived left : ℕ → List Me
 standing_turned f v base arrived left n mid new m ts p q s more takes turned few =
     let t : Turn = turn_made f v m mid new p q turned in
     let effect = turned.effect in
-    let value : mid.value ≡ (place_of f ts).value = ap (λ (x : Node). x.value) takes.rest ∙ s.value in
+    let value : mid.objects.value ≡ (place_of f ts).value = ap (λ (x : Node). x.objects.value) takes.rest ∙ s.value in
     let stamp : mid.stamp ≡ (place_of f ts).stamp = ap (λ (x : Node). x.stamp) takes.rest ∙ s.stamp in
     let lines : mid.turns.items ≡ map (line_at v) ts = ap (λ (x : Node). x.turns.items) takes.rest ∙ s.lines in
     let sent_same : mid.sent ≡ n.sent = ap (λ (x : Node). x.sent) takes.rest in
@@ -187,6 +189,8 @@ standing_turned f v base arrived left n mid new m ts p q s more takes turned few
           (record { stamp = turned.words.0; node = turned.words.1; from = turned.words.2; number = turned.words.3; draws = turned.drawn }, tt));
       lines = turned.turns ∙ ap (λ l. l ++ line_at v t ∷ []) lines ∙ sym (map_push (line_at v) ts t);
       value = turned.value ∙ ap (λ (x : Place). x.value) (sym place);
+      idle = turned.idle;
+      texts = turned.texts;
       stamp = turned.stamp ∙ ap (λ (x : Place). x.stamp) (sym place);
       outputs = ap (λ l. l ++ q.outs.items) new_emitted ∙ ap (λ l. n.emitted.items ++ l) turned.outs ∙ sym (append_assoc n.emitted.items p.outs.items _)
           ∙ ap (λ l. l ++ outputs_from (vec_len mid.emitted + vec_len p.outs) effect.outs) s.outputs ∙ ap (λ k. outputs_from 0 (place_of f ts).outs ++ outputs_from k effect.outs) numbers

@@ -13,7 +13,7 @@ use Rattle.ken_model.specs.History.{AreTurns, sent_by}
 use Rattle.ken_model.specs.Spelling.{IsPrintableTurn}
 use Rattle.ken_tool.specs.declared.node.Node.{Node}
 use Rattle.ken_model.specs.Report.{IsOneLine}
-use Rattle.ken_tool.specs.Turns.{outputs_from}
+use Rattle.ken_tool.specs.Turns.{outputs_from, HoldsTexts}
 use Rattle.ken_tool.specs.Running.{IsStanding, IsRunning, IsLetter, from}
 use Rattle.ken_tool.specs.Drive.{IsGiven}
 use Rattle.ken_tool.proofs.Standing.{AllByRecursion-weaker}
@@ -70,6 +70,8 @@ standing_first f v base n limits plain known given =
       lines = fresh.turns;
       printable = subst (AllByRecursion IsPrintableTurn) (sym fresh.turns) tt;
       value = fresh.value;
+      idle = fresh.idle;
+      texts = subst HoldsTexts (sym fresh.value) tt;
       stamp = fresh.stamp;
       outputs = append-nil n.emitted.items ∙ fresh.emitted;
       few_outputs = omega arith;

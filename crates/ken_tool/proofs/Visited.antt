@@ -14,6 +14,7 @@ use Rattle.ken_model.specs.History.{AreTurns, place_of, consumed, line_at}
 use Rattle.ken_model.specs.Spelling.{IsPrintableTurn}
 use Rattle.ken_tool.specs.declared.node.Node.{Node}
 use Rattle.ken_tool.specs.declared.node.Pending.{Pending}
+use Rattle.ken_tool.specs.Turns.{HoldsTexts}
 use Rattle.ken_tool.specs.Turned.{Runs, IsSound, IsEarly, IsShort, IsIdle}
 use Rattle.ken_tool.specs.Running.{IsStanding, IsRunning, IsLetter, IsPosted, from, sent_to, turns_made}
 use Rattle.ken_tool.specs.Drive.{IsDelivered, IsVisited}
@@ -106,7 +107,9 @@ standing_delivered f x v base later arrived left n new ts mail outs more known i
       turns = s.turns;
       lines = ap (λ (y : Node). y.turns.items) got.rest ∙ s.lines;
       printable = subst (AllByRecursion IsPrintableTurn) (ap (λ (y : Node). y.turns.items) (sym got.rest)) s.printable;
-      value = ap (λ (y : Node). y.value) got.rest ∙ s.value;
+      value = ap (λ (y : Node). y.objects.value) got.rest ∙ s.value;
+      idle = ap (λ (y : Node). y.objects.begun) got.rest ∙ s.idle;
+      texts = subst HoldsTexts (ap (λ (y : Node). y.objects.value) (sym got.rest)) s.texts;
       stamp = stamp_same ∙ s.stamp;
       outputs = ap (λ (y : Node). y.emitted.items ++ outs) got.rest ∙ s.outputs;
       few_outputs = s.few_outputs;
@@ -139,7 +142,9 @@ standing_emitted f v base arrived reached left gone n new ts mail outs same_reac
       turns = s.turns;
       lines = ap (λ (y : Node). y.turns.items) rest ∙ s.lines;
       printable = subst (AllByRecursion IsPrintableTurn) (ap (λ (y : Node). y.turns.items) (sym rest)) s.printable;
-      value = ap (λ (y : Node). y.value) rest ∙ s.value;
+      value = ap (λ (y : Node). y.objects.value) rest ∙ s.value;
+      idle = ap (λ (y : Node). y.objects.begun) rest ∙ s.idle;
+      texts = subst HoldsTexts (ap (λ (y : Node). y.objects.value) (sym rest)) s.texts;
       stamp = stamp_same ∙ s.stamp;
       outputs = append-nil new.emitted.items ∙ emitted ∙ s.outputs;
       few_outputs = s.few_outputs;
@@ -315,8 +320,10 @@ sound_running f nodes v d limits r lt =
       clock = omega (arith, s.clock);
       mail = early_letters f n latest n.mail.items room s.queue;
       inputs = early_letters f n latest n.inputs.items room s.inputs;
-      short_mail = AllByRecursion-weaker (IsLetter latest) IsShort n.mail.items (λ m h. h.1.1) s.queue;
-      short_inputs = AllByRecursion-weaker (IsLetter latest) IsShort n.inputs.items (λ m h. h.1.1) s.inputs;
+      short_mail = AllByRecursion-weaker (IsLetter latest) IsShort n.mail.items (λ m h. h.1) s.queue;
+      short_inputs = AllByRecursion-weaker (IsLetter latest) IsShort n.inputs.items (λ m h. h.1) s.inputs;
+      idle = s.idle;
+      texts = s.texts;
       counts = subst (λ k. AllByRecursion (λ c. c ≤ 16 * k) n.sent) (sym count) s.few_sent;
       outs = outs;
     }

@@ -1,5 +1,5 @@
 -- What a visit of a node changes.
-use Rattle.std.specs.Prelude.{◌≡◌, ℕ, ◌<◌, List, [], ◌++◌, length, replicate, Bool, ◌&&◌, ◌||◌, nat_lt, slice_index_or}
+use Rattle.std.specs.Prelude.{◌≡◌, ℕ, ◌<◌, List, [], ◌++◌, length, replicate, Bool, ◌&&◌, ◌||◌, nat_lt, slice_index_or, None}
 use Rattle.ken_model.specs.declared.messages.Message.{Message}
 use Rattle.ken_model.specs.declared.facts.Facts.{Facts}
 use Rattle.ken_model.specs.declared.facts.Input.{Input}
@@ -38,7 +38,8 @@ pub record IsVisited (f : Facts) (v : ℕ) (old new : List Node) : Type 0 where
 
 -- a node that has made no turn
 pub record IsFresh (size : ℕ) (n : Node) : Type 0 where
-  pub value : n.value ≡ empty_heap size
+  pub value : n.objects.value ≡ empty_heap size
+  pub idle : n.objects.begun ≡ None
   pub stamp : n.stamp ≡ 0
   pub turns : n.turns.items ≡ []
   pub sent : n.sent ≡ replicate 8 0

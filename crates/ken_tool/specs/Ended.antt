@@ -44,7 +44,7 @@ pub record IsGathered (nodes : List Node) (l : Lines) : Type 0 where
   pub count : length l.turns ≡ turns_made nodes
   pub emissions : l.emissions ≡ emissions_from 0 nodes
   pub restarts : l.restarts ≡ []
-  pub heaps : l.heaps ≡ map (λ (n : Node). n.value) nodes
+  pub heaps : l.heaps ≡ map (λ (n : Node). n.objects.value) nodes
   pub waiting : l.waiting ≡ sum_by waits nodes
   pub word : IsWord l.waiting
   pub ending : l.ending ≡ (if l.waiting == 0 then Settled else Cut)

@@ -1,5 +1,5 @@
 -- What the nodes of a run stand for: each node's own turns, and what has come to it and left it.
-use Rattle.std.specs.Prelude.{◌≡◌, ℕ, ◌+◌, ◌-◌, ◌*◌, ◌<◌, ◌≤◌, List, [], ◌++◌, map, length, filter, ◌==◌, slice_index, slice_index_or, sum_by}
+use Rattle.std.specs.Prelude.{◌≡◌, ℕ, ◌+◌, ◌-◌, ◌*◌, ◌<◌, ◌≤◌, List, [], ◌++◌, map, length, filter, ◌==◌, slice_index, slice_index_or, sum_by, None}
 use Rattle.std.specs.List.{AllByRecursion}
 use Rattle.ken_model.specs.declared.messages.Message.{Message}
 use Rattle.ken_model.specs.declared.messages.Out.{Out}
@@ -9,7 +9,7 @@ use Rattle.ken_model.specs.History.{AreTurns, place_of, consumed, sent_by, line_
 use Rattle.ken_model.specs.Spelling.{IsPrintableTurn}
 use Rattle.ken_tool.specs.declared.node.Node.{Node}
 use Rattle.ken_model.specs.Report.{IsOneLine}
-use Rattle.ken_tool.specs.Turns.{outputs_from, IsPayload}
+use Rattle.ken_tool.specs.Turns.{outputs_from, IsPayload, HoldsTexts}
 
 -- the messages of a sender
 abbrev pub from : ℕ → List Message → List Message
@@ -33,7 +33,9 @@ pub record IsStanding (f : Facts) (v base : ℕ) (arrived left : ℕ → List Me
   pub turns : AreTurns f v (first_place f) ts
   pub lines : n.turns.items ≡ map (line_at v) ts
   pub printable : AllByRecursion IsPrintableTurn n.turns.items
-  pub value : n.value ≡ (place_of f ts).value
+  pub value : n.objects.value ≡ (place_of f ts).value
+  pub idle : n.objects.begun ≡ None
+  pub texts : HoldsTexts n.objects.value
   pub stamp : n.stamp ≡ (place_of f ts).stamp
   pub outputs : n.emitted.items ++ outs ≡ outputs_from 0 (place_of f ts).outs
   pub few_outputs : length (place_of f ts).outs ≤ 16 * length ts

@@ -1,23 +1,24 @@
 -- What the code of one turn leaves.
-use Rattle.std.specs.Prelude.{◌≡◌, ℕ, ◌+◌, ◌-◌, ◌*◌, ◌<◌, ◌≤◌, ◌^◌, max, ◌⊎◌, List, length, [], ◌∷◌, ◌++◌, Some, vec_len}
+use Rattle.std.specs.Prelude.{◌≡◌, ℕ, ◌+◌, ◌-◌, ◌*◌, ◌<◌, ◌≤◌, ◌^◌, max, ◌⊎◌, List, length, [], ◌∷◌, ◌++◌, Some, None, vec_len}
 use Rattle.std.specs.List.{AllByRecursion}
 use Rattle.ken_model.specs.declared.messages.Message.{Message}
 use Rattle.ken_model.specs.Handler.{after}
 use Rattle.ken_model.specs.Effects.{Effect}
 use Rattle.ken_model.specs.declared.facts.Facts.{Facts}
-use Rattle.ken_model.specs.declared.facts.TheConstants.{MAX_TEXT}
 use Rattle.ken_model.specs.Spelling.{IsWord}
 use Rattle.ken_tool.specs.declared.node.Node.{Node}
 use Rattle.ken_tool.specs.declared.node.Pending.{Pending}
-use Rattle.ken_tool.specs.Turns.{IsModest, posted, counted, outputs_from}
+use Rattle.ken_tool.specs.Turns.{IsPayload, IsModest, HoldsTexts, posted, counted, outputs_from}
 
 -- node v took a message and drew: its heap, stamp, turns and counts are new, and what it sent and output is pending
 pub record IsTurned (f : Facts) (v : ℕ) (m : Message) (old new : Node) (before later : Pending) : Type 0 where
   pub draws : List ℕ
   pub effect : Effect
-  pub defined : after f.kind v f.nodes old.value m draws ≡ Some effect
+  pub defined : after f.kind v f.nodes old.objects.value m draws ≡ Some effect
   pub modest : IsModest f.nodes effect.sends effect.outs
-  pub value : new.value ≡ effect.value
+  pub value : new.objects.value ≡ effect.value
+  pub idle : new.objects.begun ≡ None
+  pub texts : HoldsTexts new.objects.value
   pub stamp : new.stamp ≡ max old.stamp m.stamp + 1
   pub turns : new.turns.items ≡ old.turns.items ++ record { stamp = max old.stamp m.stamp + 1; step = record { node = v; from = m.from; draws = draws }; number = m.number } ∷ []
   pub words : IsWord (max old.stamp m.stamp + 1) × IsWord v × IsWord m.from × IsWord m.number
@@ -58,11 +59,12 @@ turns_left f n = f.turns - length n.turns.items
 abbrev pub IsEarly : Facts → Node → ℕ → Type 0
 IsEarly f n stamp = stamp + turns_left f n ≤ 2 ^ 40
 
--- a message of no more bytes than it may have
+-- a message with a payload that it may have
 abbrev pub IsShort : Message → Type 0
-IsShort m = length m.bytes ≤ MAX_TEXT
+IsShort m = IsPayload m.bytes
 
--- no number of the node passes its type, however many turns it makes, and what waits for it is short
+-- no number of the node passes its type, however many turns it makes; what waits for it is short, and no turn of its heap
+-- is begun
 pub record IsSound (f : Facts) (n : Node) (pending : ℕ) : Type 0 where
   pub clock : IsEarly f n n.stamp
   pub mail : AllByRecursion (λ (m : Message). IsEarly f n m.stamp) n.mail.items
@@ -70,6 +72,8 @@ pub record IsSound (f : Facts) (n : Node) (pending : ℕ) : Type 0 where
   pub short_mail : AllByRecursion IsShort n.mail.items
   pub short_inputs : AllByRecursion IsShort n.inputs.items
   pub counts : AllByRecursion (λ k. k ≤ 16 * length n.turns.items) n.sent
+  pub idle : n.objects.begun ≡ None
+  pub texts : HoldsTexts n.objects.value
   pub outs : length n.emitted.items + pending ≤ 16 * length n.turns.items
 
 -- it can make no turn now

@@ -3,6 +3,8 @@ use Rattle.std.specs.Prelude.{ℕ, ◌+◌, ◌<◌, ◌≤◌, ◌^◌, List, [
 use Rattle.std.specs.List.{AllByRecursion}
 use Rattle.ken_model.specs.declared.facts.TheConstants.{MAX_TEXT}
 use Rattle.ken_model.specs.Report.{IsOneLine}
+use Rattle.ken_model.specs.declared.values.Block.{Block}
+use Rattle.ken_model.specs.declared.values.Value.{Value}
 use Rattle.ken_model.specs.declared.messages.Message.{Message}
 use Rattle.ken_model.specs.declared.messages.Send.{Send}
 use Rattle.ken_model.specs.declared.messages.Out.{Out}
@@ -10,6 +12,10 @@ use Rattle.ken_model.specs.declared.messages.Out.{Out}
 -- a payload that a message may have: no line feed, and no more than a message may hold
 abbrev pub IsPayload : List ℕ → Type 0
 IsPayload bytes = IsOneLine bytes × (length bytes ≤ MAX_TEXT)
+
+-- a heap whose blocks can be output, whole or in part
+abbrev pub HoldsTexts : Value → Type 0
+HoldsTexts value = AllByRecursion (λ (b : Block). IsPayload b.bytes) value.blocks
 
 -- few sends and outputs, the sends for nodes of the run, and no line feed
 pub record IsModest (nodes : ℕ) (sends : List Send) (outs : List (List ℕ)) : Type 0 where

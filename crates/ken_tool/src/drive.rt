@@ -21,12 +21,13 @@ use std::alloc::{AllocError, Global};
 
 /// Nodes that have made no turn, without their inputs.
 fn fresh(alloc: Global, facts: &Facts) -> Result<Vec<Node>, AllocError>
+    requires { IsWithinLimits facts.now }
     ensures long { IfOk result (λ nodes. length nodes.items ≡ facts.now.nodes) }
     ensures fresh { IfOk result (λ nodes. AllByRecursion (λ n. IsFresh facts.now.size n × (n.inputs.items ≡ [])) nodes.items) }
 {
     let mut nodes = Vec::new(alloc);
     for _node in 0..facts.nodes {
-        nodes.push(Node::new(alloc, facts.size))?;
+        nodes.push(Node::new(alloc, facts.size)?)?;
     }
     Ok(nodes)
 }

@@ -39,7 +39,7 @@ impl Summary {
     }
 
     /// Adds all that a node says which has no turns here yet. After an error some of it may be missing.
-    fn add(&mut self, node: u8, state: Node) -> Result<(), AllocError>
+    fn add(&mut self, alloc: Global, node: u8, state: Node) -> Result<(), AllocError>
         requires own { AllByRecursion (λ (l : TurnLine). l.step.node ≡ node) state.turns.items }
         requires rise { StampsRise 0 state.turns.items }
         requires fresh { lines_at node self.old.timeline ≡ [] }
@@ -48,13 +48,13 @@ impl Summary {
         ensures others { OnOk result ((v : ℕ) → v ≢ node → lines_at v self.new.timeline ≡ lines_at v self.old.timeline) }
         ensures count { OnOk result (length self.new.timeline ≡ length self.old.timeline + length state.turns.items) }
         ensures emissions { OnOk result (self.new.emissions.items ≡ self.old.emissions.items ++ emissions_at node state.emitted.items) }
-        ensures heaps { OnOk result (self.new.heaps.items ≡ self.old.heaps.items ++ state.value ∷ []) }
+        ensures heaps { OnOk result (self.new.heaps.items ≡ self.old.heaps.items ++ state.objects.value ∷ []) }
         ensures waiting { OnOk result (self.new.waiting ≡ self.old.waiting + waits state) }
     {
         self.timeline.add(node, state.turns)?;
         let emitted = state.emitted.into_iter().map(|out| Emission { node, out });
         self.emissions.extend(emitted)?;
-        self.heaps.push(state.value)?;
+        self.heaps.push(state.objects.value(alloc)?)?;
         self.waiting += (state.mail.len() + state.inputs.len()) as u64;
         Ok(())
     }
@@ -96,7 +96,7 @@ pub(crate) fn gather(alloc: Global, nodes: Vec<Node>) -> Result<Lines, AllocErro
     let mut summary = Summary::new(alloc);
     let mut node = 0;
     for state in nodes {
-        summary.add(node, state)?;
+        summary.add(alloc, node, state)?;
         node += 1;
     }
     summary.into_lines(alloc)

@@ -1,6 +1,7 @@
 // A node of a run: its heap, its turns, and what waits for it.
-ghost use Rattle.std.specs.Prelude.{◌≡◌, ◌+◌, ◌<◌, ◌≤◌, ◌^◌, max, [], ◌∷◌, ◌++◌, length, slice_index, Some, IfOk, OnOk, MatchOption, vec_len};
+ghost use Rattle.std.specs.Prelude.{◌≡◌, ℕ, ◌+◌, ◌*◌, ◌<◌, ◌≤◌, ◌^◌, max, [], ◌∷◌, ◌++◌, length, slice_index, Some, None, IfOk, OnOk, MatchOption, vec_len};
 ghost use Rattle.std.specs.List.{AllByRecursion};
+ghost use Rattle.ken_model.specs.declared.facts.TheConstants.{PAGE, MAX_PAGES};
 ghost use Rattle.ken_model.specs.Facts.{IsWithinLimits};
 ghost use Rattle.ken_model.specs.Laws.{steps_of};
 ghost use Rattle.ken_model.specs.Handler.{after, clocks_in, words_in};
@@ -8,15 +9,17 @@ ghost use Rattle.ken_model.specs.Spelling.{IsWord};
 ghost use Rattle.ken_app.specs.Oracles.{Answers};
 ghost use Rattle.ken_app.specs.Turning.{IsPlaced};
 ghost use Rattle.ken_tool.specs.Draws.{IsAskedFor};
-ghost use Rattle.ken_tool.specs.Turns.{posted, counted, outputs_from, HasRoom, IsModest};
+ghost use Rattle.ken_tool.specs.Turns.{posted, counted, outputs_from, HasRoom, IsPayload, IsModest, HoldsTexts};
 ghost use Rattle.ken_tool.specs.Turned.{IsTurned, FindsNone, Takes, Runs, IsSound, IsIdle};
 ghost use Rattle.ken_tool.specs.Drive.{is_ready, input_at, IsFresh};
 
+use ken_alloc::Objects;
 use ken_app::{Made, Oracle, take_turn};
 use ken_apps::KindApp;
 use ken_model::{
-    Facts, Input, Items, MAX_NODES, Message, OUTSIDE, Octets, Out, Send, Step, TurnLine, Value,
+    Facts, Input, Items, MAX_NODES, Message, OUTSIDE, Octets, Out, PAGE, Send, Step, TurnLine,
 };
+use ken_pages::PageHeap;
 use std::alloc::{AllocError, Global};
 use std::collections::VecDeque;
 
@@ -32,7 +35,7 @@ pub(crate) struct Pending {
 
 #[derive(Debug, Drop)]
 pub(crate) struct Node {
-    pub value: Value,
+    pub objects: Objects,
     pub stamp: u64,
     /// Its turns so far.
     pub turns: Vec<TurnLine>,
@@ -51,19 +54,27 @@ fn handle<O: Oracle>(
     alloc: Global,
     facts: &Facts,
     node: u8,
-    value: &mut Value,
+    objects: &mut Objects,
     message: &Message,
     oracle: &mut O,
 ) -> Result<Made, AllocError>
-    requires { IsPlaced node facts.now.nodes message.now }
-    ensures handled { IfOk result (λ made. after facts.now.kind node facts.now.nodes value.old message.now made.draws.items
-        ≡ Some (record { value = value.new; sends = made.sends.items; outs = made.outs.items })) }
+    requires placed { IsPlaced node facts.now.nodes message.now }
+    requires payload { IsPayload message.now.bytes }
+    requires idle { objects.old.begun ≡ None }
+    requires texts { HoldsTexts objects.old.value }
+    ensures handled { IfOk result (λ made. after facts.now.kind node facts.now.nodes objects.old.value message.now made.draws.items
+        ≡ Some (record { value = objects.new.value; sends = made.sends.items; outs = made.outs.items })) }
+    ensures idle { OnOk result (objects.new.begun ≡ None) }
+    ensures texts { OnOk result (HoldsTexts objects.new.value) }
     ensures modest { IfOk result (λ made. IsModest facts.now.nodes made.sends.items made.outs.items) }
     ensures clocks { IfOk result (λ made. Answers (O.clocks oracle.old) (O.clocks oracle.new) (clocks_in facts.now.kind made.draws.items)) }
     ensures words { IfOk result (λ made. Answers (O.words oracle.old) (O.words oracle.new) (words_in facts.now.kind made.draws.items)) }
 {
     let app = KindApp(facts.kind);
-    take_turn(alloc, &app, node, facts.nodes, message, value, oracle)
+    objects.begin();
+    let made = take_turn(alloc, &app, node, facts.nodes, message, objects, oracle)?;
+    objects.commit();
+    Ok(made)
 }
 
 /// The draws of a turn, as its line records them.
@@ -87,23 +98,21 @@ impl Pending {
 
 impl Node {
     /// A node with an empty heap, which has made no turn.
-    pub(crate) fn new(alloc: Global, size: u64) -> Self
-        ensures fresh { IsFresh size result }
-        ensures inputs { result.inputs.items ≡ [] }
+    pub(crate) fn new(alloc: Global, size: u64) -> Result<Self, AllocError>
+        requires { (n : ℕ) × (0 < n) × (n ≤ MAX_PAGES) × (size ≡ PAGE * n) }
+        ensures fresh { IfOk result (IsFresh size) }
+        ensures inputs { IfOk result (λ n. n.inputs.items ≡ []) }
     {
-        Node {
-            value: Value {
-                size,
-                root: 0,
-                blocks: Items::new(Vec::new(alloc)),
-            },
+        let pages = PageHeap::new(alloc, (size / PAGE) as u32)?;
+        Ok(Node {
+            objects: Objects::format(pages)?,
             stamp: 0,
             turns: Vec::new(alloc),
             sent: [0; NODES],
             mail: VecDeque::new(alloc),
             inputs: VecDeque::new(alloc),
             emitted: Vec::new(alloc),
-        }
+        })
     }
 
     /// Puts an input with those that wait for the node. After an error the run can't go on.
@@ -215,6 +224,9 @@ impl Node {
         pending: &mut Pending,
     ) -> Result<(), AllocError>
         requires placed { IsPlaced node facts.now.nodes message }
+        requires payload { IsPayload message.bytes }
+        requires idle { self.old.objects.begun ≡ None }
+        requires texts { HoldsTexts self.old.objects.value }
         requires clock { max self.old.stamp message.stamp + 1 < 2 ^ 64 }
         requires counts { HasRoom 16 self.old.sent }
         requires outs { vec_len self.old.emitted + vec_len pending.old.outs + 16 < 2 ^ 64 }
@@ -222,7 +234,7 @@ impl Node {
         ensures turned { OnOk result (IsTurned facts.now node message self.old self.new pending.old pending.new) }
         ensures asked { OnOk result (IsAskedFor (record { clocks = O.clocks; words = O.words }) oracle.new facts.now.kind (steps_of self.new.turns.items)) }
     {
-        let made = handle(alloc, facts, node, &mut self.value, &message, oracle)?;
+        let made = handle(alloc, facts, node, &mut self.objects, &message, oracle)?;
         let draws = recorded(alloc, made.draws.as_slice())?;
         let stamp = self.stamp.max(message.stamp) + 1;
         self.stamp = stamp;

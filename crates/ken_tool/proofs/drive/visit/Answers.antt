@@ -1,9 +1,11 @@
-use Rattle.std.proofs.Common.{◌≡◌, ◌<◌, ◌++◌, length, slice_index_or, slice_set, subst, arith}
+use Rattle.std.proofs.Common.{◌≡◌, ◌<◌, ◌++◌, length, slice_index_or, slice_set, subst, ap, arith}
 use Rattle.std.specs.List.{AllByRecursion}
 use Rattle.std.proofs.lemmas.List.{length-set}
 use Rattle.std.proofs.lemmas.Result.{on_ok_weaker}
 use Rattle.ken_model.specs.declared.messages.Message.{Message}
+use Rattle.ken_tool.specs.declared.node.Node.{Node}
 use Rattle.ken_tool.specs.Drive.{IsVisited}
+use Rattle.ken_tool.proofs.Asked.{asked_visited}
 use Rattle.ken_tool.proofs.Visited.{sound_running, known_pending, visited_by, running_visited}
 use Rattle.ken_tool.proofs.drive.visit.Goals as goal
 use Rattle.ken_tool.proofs.drive.visit.Goals.{After-emit}
@@ -28,3 +30,13 @@ returns-clause-running g c = on_ok_weaker c.emit.result (λ e. running_visited c
 
 pub returns-clause-visited : goal.returns-clause-visited
 returns-clause-visited g c = on_ok_weaker c.emit.result (λ e. visited g c e) c.emit.ensures.emitted
+
+pub returns-clause-asked : goal.returns-clause-asked
+returns-clause-asked g c = on_ok_weaker c.emit.result
+    (λ e. asked_visited _ c.args.facts.now.kind c.args.nodes.now c.deliver.new.nodes c.args.node c.run.new.self c.emit.new.node c.index-nodes-at-2.result c.args.oracles.now c.run.new.oracle
+    (omega (arith, c.requires.known, c.requires.running.width))
+    (omega (arith, c.deliver.auto.nodes, length-set c.args.nodes.now c.args.node c.run.new.self))
+    (λ w d lt. ap (λ (n : Node). n.turns.items) (c.in_ok-deliver.ensures w d (omega (arith, lt, length-set c.args.nodes.now c.args.node c.run.new.self))).rest)
+    (ap (λ (n : Node). n.turns.items) c.emit.ensures.rest)
+    c.requires.asked c.in_ok-pending.ensures.asked)
+    c.emit.ensures.emitted

@@ -16,6 +16,6 @@ invariant-loop-state l = record {
   left : (v : ℕ) (d : Node) → slice_index_or (into_iter_items l.state-iterator) v d ≡ slice_index_or l.fn.nodes.items (l.node + v) d;
   count : length l.summary.timeline + turns_made (into_iter_items l.state-iterator) ≡ turns_made l.fn.nodes.items;
   emissions : l.summary.emissions.items ++ emissions_from l.node (into_iter_items l.state-iterator) ≡ emissions_from 0 l.fn.nodes.items;
-  heaps : l.summary.heaps.items ++ map (λ (n : Node). n.value) (into_iter_items l.state-iterator) ≡ map (λ (n : Node). n.value) l.fn.nodes.items;
+  heaps : l.summary.heaps.items ++ map (λ (n : Node). n.objects.value) (into_iter_items l.state-iterator) ≡ map (λ (n : Node). n.objects.value) l.fn.nodes.items;
   waiting : l.summary.waiting + sum_by waits (into_iter_items l.state-iterator) ≡ sum_by waits l.fn.nodes.items;
 }

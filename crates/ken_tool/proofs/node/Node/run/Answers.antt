@@ -7,7 +7,7 @@ use Rattle.ken_tool.proofs.node.Node.run.Goals.{else-turns-test, then-turns-test
 
 pub turns-init : goal.turns-init
 turns-init g c = record {
-  sound = (let e = ap length c.new-pending.ensures.1 in record { clock = c.requires.sound.clock; mail = c.requires.sound.mail; inputs = c.requires.sound.inputs; short_mail = c.requires.sound.short_mail; short_inputs = c.requires.sound.short_inputs; counts = c.requires.sound.counts; outs = omega (arith, c.requires.sound.outs, e) });
+  sound = (let e = ap length c.new-pending.ensures.1 in record { clock = c.requires.sound.clock; mail = c.requires.sound.mail; inputs = c.requires.sound.inputs; short_mail = c.requires.sound.short_mail; short_inputs = c.requires.sound.short_inputs; idle = c.requires.sound.idle; texts = c.requires.sound.texts; counts = c.requires.sound.counts; outs = omega (arith, c.requires.sound.outs, e) });
   asked = c.requires.asked;
   runs = Runs.none _ c.new-pending.ensures.0 c.new-pending.ensures.1;
 }

@@ -9,10 +9,12 @@ returns-clause-turned g c = on_ok_weaker c.output_all.result
     (λ outs. (let drawn = c.in_ok-draws.ensures.same ∙ c.as_slice.ensures.value in
     record {
       draws = c.in_ok-draws.draws;
-      effect = record { value = c.handle.new.value; sends = c.in_ok-made.made.sends.items; outs = c.in_ok-made.made.outs.items };
+      effect = record { value = c.handle.new.objects.value; sends = c.in_ok-made.made.sends.items; outs = c.in_ok-made.made.outs.items };
       defined = rw drawn c.in_ok-made.ensures.handled;
       modest = c.in_ok-made.ensures.modest;
       value = search rules;
+      idle = search rules;
+      texts = search rules;
       stamp = search rules;
       turns = search rules;
       words = search rules;
