@@ -1,5 +1,5 @@
 -- Objects in a heap, as their callers see them.
-use Rattle.std.specs.Prelude.{◌≡◌, ℕ, List, [], ◌∷◌, replicate, ◌==◌, if◌then◌else◌, Option, Some, None, IfSome, IsSome, Bool, true, false, ◌≤◌, ◌<◌, ◌^◌}
+use Rattle.std.specs.Prelude.{◌≡◌, ℕ, List, [], ◌∷◌, replicate, ◌==◌, if◌then◌else◌, Option, Some, None, IfSome, IsSome}
 use Rattle.ken_frame.specs.Written.{written}
 use Rattle.ken_pages.specs.Paged.{Paged}
 use Rattle.ken_model.specs.declared.values.Block.{Block}
@@ -35,10 +35,3 @@ with_zeros (Some place) n v = record v { blocks = with_block (record { place = p
 abbrev pub rewritten : ℕ → ℕ → List ℕ → List Block → List Block
 rewritten place at bytes [] = []
 rewritten place at bytes (b ∷ bs) = if b.place == place then record b { bytes = written b.bytes at bytes } ∷ bs else b ∷ rewritten place at bytes bs
-
-abbrev pub begun_of : Bool → Option (List ℕ)
-begun_of true = Some []
-begun_of false = None
-
-abbrev pub IsStub : ℕ → ℕ → Type 0
-IsStub size root = (1 ≤ size) × (size ≤ 4096) × (root < 2 ^ 64)

@@ -1,8 +1,13 @@
 //! Objects inside a heap of pages: blocks that are allocated and freed, with a layout that is a format.
 #![tactic(auto)]
 
+mod adopt;
+mod carve;
 mod faults;
+mod head;
+mod header;
 mod objects;
+mod walk;
 
 pub use faults::Broken;
 pub use objects::Objects;

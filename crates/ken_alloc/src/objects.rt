@@ -1,48 +1,130 @@
 // Objects in a heap.
-ghost use Rattle.std.specs.Prelude.{◌≡◌, ◌*◌, ◌+◌, ◌-◌, ◌<◌, ◌≤◌, [], ◌∷◌, length, take, drop, Some, None, IfOk, OnOk, OnErr, IfErr, IfSome, IsSome, IsSomeAnd, is_some};
+ghost use Rattle.std.specs.Prelude.{◌≡◌, ◌+◌, ◌-◌, ◌<◌, ◌≤◌, [], ◌∷◌, length, take, drop, Some, None, IfOk, OnOk, OnErr, IfErr, IfSome, IsSome, IsSomeAnd, is_some, option_map, ◌*◌, ◌^◌};
 ghost use Rattle.ken_model.specs.declared.values.Value.{Value};
 ghost use Rattle.ken_model.specs.Network.{empty_heap};
-ghost use Rattle.ken_model.specs.Heap.{IsHeap, first_gap, without_block, block_at, place_past};
+ghost use Rattle.ken_model.specs.Heap.{first_gap, without_block, block_at, place_past};
 ghost use Rattle.ken_pages.specs.Paged.{dirty_pages, frozen_pages, shared_pages};
-ghost use Rattle.ken_alloc.specs.Layout.{StandsFor, BreaksAt};
+ghost use Rattle.ken_alloc.specs.Layout.{StandsFor, BreaksAt, part};
 ghost use Rattle.ken_alloc.specs.Blocks.{value_of};
 ghost use Rattle.ken_alloc.specs.Objects.{IsBlock, with_zeros, rewritten};
 
-use crate::Broken;
-use ken_model::{Items, Value};
-use ken_pages::PageHeap;
+#[cfg(test)]
+mod tests;
+
+use crate::head::{self, CELLS, HEAD, Head};
+use crate::walk::{self, Found};
+use crate::{Broken, adopt, carve, header};
+use byteorder::{BigEndian, ByteOrder};
+use ken_frame::Frame;
+use ken_model::{Block, Items, Octets, Value};
+use ken_pages::{MAX_PAGES, PageHeap};
 use std::alloc::{AllocError, Global};
 use std::marker::Model;
+use std::sync::Arc;
 
 /// Blocks of bytes in a heap of pages. They are changed within a turn, which is kept or taken back as a whole.
 #[derive(Debug, Drop)]
 pub struct Objects {
-    pages: u32,
-    root: u64,
-    begun: bool,
+    pages: PageHeap,
 }
 
 impl Model for Objects {
-    ghost use Rattle.ken_alloc.specs.Objects.{Heap, begun_of, IsStub};
-    ghost use Rattle.ken_model.specs.Network.{empty_heap};
-    ghost use Rattle.std.specs.Prelude.{[], ◌*◌};
+    ghost use Rattle.ken_alloc.specs.Objects.{Heap, heap_of, IsHeld};
 
     ghost Value = { Heap };
 
-    ghost view = { λ o. record { value = record (empty_heap (256 * o.pages)) { root = o.root }; bytes = []; begun = begun_of o.begun } };
+    ghost view = { λ o. heap_of o.pages };
 
-    ghost invariant = { λ o. IsStub o.pages o.root };
+    ghost invariant = { λ o. IsHeld o.pages };
+}
+
+// The place of a block that may have been found.
+fn place_of(found: Option<Found>) -> Option<u64>
+    ensures { result ≡ option_map (λ f. f.place) found }
+{
+    match found {
+        Some(found) => Some(found.place),
+        None => None,
+    }
+}
+
+// A copy of a block.
+fn copy_of(pages: &PageHeap, found: Found, alloc: Global) -> Result<Block, AllocError>
+    requires { found.place + found.len ≤ length pages.now.bytes }
+    ensures { IfOk result (λ b. b ≡ record { place = found.place; bytes = part found.place found.len pages.now.bytes }) }
+{
+    let mut bytes = vec![in alloc; 0; found.len as usize]?;
+    pages.read(found.place, &mut bytes);
+    Ok(Block {
+        place: found.place,
+        bytes: Octets::new(bytes),
+    })
+}
+
+// Writes root 0, the name, the number of pages, and one gap.
+fn lay_out(pages: &mut PageHeap, count: u32) -> Result<(), AllocError>
+    requires begun { IsSome pages.old.begun }
+    requires some { 1 ≤ count }
+    requires most { count ≤ MAX_PAGES }
+    requires size { length pages.old.bytes ≡ 256 * count }
+    ensures stands { OnOk result (StandsFor pages.new.bytes (empty_heap (length pages.old.bytes))) }
+    ensures begun { pages.new.begun ≡ pages.old.begun }
+{
+    pages.write(0, &header::empty(count))?;
+    let head = Head {
+        span: (head::size(pages) - CELLS) as u32,
+        len: 0,
+    };
+    head.write(pages, CELLS)
 }
 
 impl Objects {
+    // The block at a place.
+    fn block(&self, place: u64) -> Found
+        requires { IsBlock self.now.value place }
+        ensures block { IfSome (block_at place self.now.value.blocks) (λ bytes. result ≡ record { place = place; len = length bytes }) }
+        ensures small { result.place < 2 ^ 32 }
+    {
+        Found {
+            place,
+            len: Head::read(&self.pages, place - HEAD).len,
+        }
+    }
+
     /// A heap with no block and the root 0, over pages of any bytes. No turn is begun, before and after.
-    pub fn format(pages: PageHeap) -> Result<Objects, AllocError>
+    pub fn format(mut pages: PageHeap) -> Result<Objects, AllocError>
         requires { pages.begun ≡ None }
-        ensures value { IfOk result (λ o. (o.value.root ≡ 0) × (o.value.blocks ≡ [])) }
+        ensures value { IfOk result (λ o. o.value ≡ empty_heap (length pages.bytes)) }
         ensures idle { IfOk result (λ o. o.begun ≡ None) }
     {
-        let count = pages.pages().clamp(1, 4096);
-        Ok(Objects { pages: count, root: 0, begun: false })
+        let count = pages.pages();
+        if count == 0 || count > MAX_PAGES {
+            return Err(AllocError);
+        }
+        pages.begin();
+        lay_out(&mut pages, count)?;
+        pages.commit();
+        Ok(Objects { pages })
+    }
+
+    /// The objects that stand in the pages. `Broken` exactly where the bytes stand for no value. No turn is begun.
+    pub fn adopt(pages: PageHeap) -> Result<Objects, Broken>
+        requires { pages.begun ≡ None }
+        ensures same { IfOk result (λ o. (o.bytes ≡ pages.bytes) × (o.begun ≡ None)) }
+        ensures stands { IfOk result (λ o. StandsFor pages.bytes o.value) }
+        ensures none { OnErr result ((v : Value) → StandsFor pages.bytes v → ⊥) }
+        ensures place { IfErr result (λ broken. BreaksAt pages.bytes broken.place) }
+    {
+        adopt::check(&pages)?;
+        Ok(Objects { pages })
+    }
+
+    /// The pages again.
+    pub fn into_pages(self) -> PageHeap
+        ensures same { result ≡ record { bytes = self.bytes; begun = self.begun } }
+        ensures stands { StandsFor self.bytes self.value }
+    {
+        self.pages
     }
 
     /// A block of `size` zeros, in the first gap that it fits into: its place, a multiple of 16. `None` exactly where it
@@ -55,7 +137,11 @@ impl Objects {
         ensures begun { self.new.begun ≡ self.old.begun }
         ensures unchanged { OnErr result (self.new.value ≡ self.old.value) }
     {
-        Err(AllocError)
+        let Some(gap) = walk::first_fit(&self.pages, size) else {
+            return Ok(None);
+        };
+        carve::carve(&mut self.pages, gap, size)?;
+        Ok(Some(gap.from + HEAD))
     }
 
     /// Gives the block at a place back. After an error nothing has changed.
@@ -66,24 +152,28 @@ impl Objects {
         ensures begun { self.new.begun ≡ self.old.begun }
         ensures unchanged { OnErr result (self.new ≡ self.old) }
     {
-        Err(AllocError)
+        let Some(hole) = walk::hole(&self.pages, place) else {
+            return Ok(());
+        };
+        let head = Head {
+            span: (hole.to - hole.from) as u32,
+            len: 0,
+        };
+        head.write(&mut self.pages, hole.from)
     }
 
     /// Whether a block stands at the place.
     pub fn is_block(&self, place: u64) -> bool
         ensures { result ≡ is_some (block_at place self.now.value.blocks) }
     {
-        let _size = (self.pages, self.root);
-        false
+        walk::hole(&self.pages, place).is_some()
     }
 
     /// The place of the first block.
     pub fn first(&self) -> Option<u64>
-        ensures place { result ≡ place_past 0 self.now.value.blocks }
-        ensures heap { IsHeap self.now.value }
+        ensures { result ≡ place_past 0 self.now.value.blocks }
     {
-        let _size = (self.pages, self.root);
-        None
+        place_of(walk::block_from(&self.pages, CELLS))
     }
 
     /// The place of the next block.
@@ -91,8 +181,8 @@ impl Objects {
         requires { IsBlock self.now.value place }
         ensures { result ≡ place_past place self.now.value.blocks }
     {
-        let _size = (self.pages, self.root);
-        None
+        let end = self.block(place).end();
+        place_of(walk::block_from(&self.pages, end))
     }
 
     /// The length of a block in bytes, at least 1.
@@ -100,8 +190,7 @@ impl Objects {
         requires { IsBlock self.now.value place }
         ensures { IfSome (block_at place self.now.value.blocks) (λ bytes. result ≡ length bytes) }
     {
-        let _size = (self.pages, self.root);
-        1
+        u64::from(self.block(place).len)
     }
 
     /// Reads as many bytes of a block as `buf` takes, from its byte `at` on.
@@ -109,8 +198,7 @@ impl Objects {
         requires { IsSomeAnd (block_at place self.now.value.blocks) (λ bytes. at + length buf.old ≤ length bytes) }
         ensures { IfSome (block_at place self.now.value.blocks) (λ bytes. buf.new ≡ take (length buf.old) (drop at bytes)) }
     {
-        let _size = (self.pages, self.root);
-        
+        self.pages.read(place + at, buf);
     }
 
     /// Writes bytes over those of a block, from its byte `at` on. After an error nothing has changed.
@@ -121,14 +209,16 @@ impl Objects {
         ensures begun { self.new.begun ≡ self.old.begun }
         ensures unchanged { OnErr result (self.new ≡ self.old) }
     {
-        Err(AllocError)
+        self.pages.write(place + at, bytes)
     }
 
     /// The root: a number that the handler keeps.
     pub fn root(&self) -> u64
         ensures { result ≡ self.now.value.root }
     {
-        self.root
+        let mut bytes = [0; 8];
+        self.pages.read(0, &mut bytes);
+        BigEndian::read_u64(&bytes)
     }
 
     /// Sets the root. After an error nothing has changed.
@@ -138,15 +228,26 @@ impl Objects {
         ensures begun { self.new.begun ≡ self.old.begun }
         ensures unchanged { OnErr result (self.new ≡ self.old) }
     {
-        self.root = root;
-        Ok(())
+        let mut bytes = [0; 8];
+        BigEndian::write_u64(&mut bytes, root);
+        self.pages.write(0, &bytes)
     }
 
     /// A copy of the value that the heap's bytes stand for.
     pub fn value(&self, alloc: Global) -> Result<Value, AllocError>
         ensures { IfOk result (λ v. v ≡ self.now.value) }
     {
-        Ok(Value { size: u64::from(self.pages) * 256, root: self.root, blocks: Items::new(Vec::new(alloc)) })
+        let mut blocks = Vec::new(alloc);
+        let mut from = CELLS;
+        while let Some(found) = walk::block_from(&self.pages, from) {
+            blocks.push(copy_of(&self.pages, found, alloc)?)?;
+            from = found.end();
+        }
+        Ok(Value {
+            size: head::size(&self.pages),
+            root: self.root(),
+            blocks: Items::new(blocks),
+        })
     }
 
     /// Begins a turn.
@@ -154,7 +255,23 @@ impl Objects {
         requires { self.old.begun ≡ None }
         ensures { self.new ≡ record self.old { begun = Some self.old.bytes } }
     {
-        self.begun = true;
+        self.pages.begin();
+    }
+
+    /// The pages that the turn changed, in rising order.
+    pub fn dirty(&self) -> Result<Vec<u32>, AllocError>
+        requires { IsSome self.now.begun }
+        ensures { IfOk result (λ pages. IfSome self.now.begun (λ before. pages.items ≡ dirty_pages before self.now.bytes)) }
+    {
+        self.pages.dirty()
+    }
+
+    /// Those pages with their bytes as they are now.
+    pub fn freeze(&self) -> Result<Vec<(u32, Arc<Frame>)>, AllocError>
+        requires { IsSome self.now.begun }
+        ensures { IfOk result (λ frozen. IfSome self.now.begun (λ before. shared_pages frozen.items ≡ frozen_pages before self.now.bytes)) }
+    {
+        self.pages.freeze()
     }
 
     /// Ends the turn, and keeps what it changed.
@@ -162,15 +279,14 @@ impl Objects {
         requires { IsSome self.old.begun }
         ensures { self.new ≡ record self.old { begun = None } }
     {
-        self.begun = false;
+        self.pages.commit();
     }
 
     /// Ends the turn, where one is begun, with all bytes as they were when it began.
     pub fn abort(&mut self)
-        ensures begun { IfSome self.old.begun (λ before. (self.new.bytes ≡ before) × (self.new.begun ≡ None)) }
+        ensures begun { IfSome self.old.begun (λ before. self.new ≡ record { value = value_of before; bytes = before; begun = None }) }
         ensures none { self.old.begun ≡ None → self.new ≡ self.old }
     {
-        self.begun = false;
-        
+        self.pages.abort();
     }
 }

@@ -82,14 +82,14 @@ asked_visited telling kind before mid v node new first oracles oracle known long
       let in_before : w < length before = omega (arith, long, in_mid) in
       ⊎_elim
       (λ (is : w ≡ v). (
-          let here : slice_index_or (slice_set oracles v oracle) v e ≡ oracle = get_or-set_same oracles v oracle e (omega (arith, asked.long, known)) in
-          let its_node : slice_index_or (slice_set mid v new) v d ≡ new = get_or-set_same mid v new d (omega (arith, long, known)) in
-          let turns : (slice_index_or (slice_set mid v new) v d).turns.items ≡ node.turns.items = ap (λ (n : Node). n.turns.items) its_node ∙ last ∙ same v first known ∙ ap (λ (n : Node). n.turns.items) (get_or-set_same before v node first known) in
-          subst (λ x. IsAskedFor telling (slice_index_or (slice_set oracles v oracle) x e) kind (steps_of (slice_index_or (slice_set mid v new) x d).turns.items)) (sym is)
-          (subst (λ o. IsAskedFor telling o kind (steps_of (slice_index_or (slice_set mid v new) v d).turns.items)) (sym here) (subst (λ ls. IsAskedFor telling oracle kind (steps_of ls)) (sym turns) its))))
+      let here : slice_index_or (slice_set oracles v oracle) v e ≡ oracle = get_or-set_same oracles v oracle e (omega (arith, asked.long, known)) in
+      let its_node : slice_index_or (slice_set mid v new) v d ≡ new = get_or-set_same mid v new d (omega (arith, long, known)) in
+      let turns : (slice_index_or (slice_set mid v new) v d).turns.items ≡ node.turns.items = ap (λ (n : Node). n.turns.items) its_node ∙ last ∙ same v first known ∙ ap (λ (n : Node). n.turns.items) (get_or-set_same before v node first known) in
+      subst (λ x. IsAskedFor telling (slice_index_or (slice_set oracles v oracle) x e) kind (steps_of (slice_index_or (slice_set mid v new) x d).turns.items)) (sym is)
+      (subst (λ o. IsAskedFor telling o kind (steps_of (slice_index_or (slice_set mid v new) v d).turns.items)) (sym here) (subst (λ ls. IsAskedFor telling oracle kind (steps_of ls)) (sym turns) its))))
       (λ ne. (
-          let other : slice_index_or (slice_set oracles v oracle) w e ≡ slice_index_or oracles w e = get_or-set_other oracles v w oracle e ne in
-          let turns : (slice_index_or (slice_set mid v new) w d).turns.items ≡ (slice_index_or before w d).turns.items = ap (λ (n : Node). n.turns.items) (get_or-set_other mid v w new d ne) ∙ same w d in_before ∙ ap (λ (n : Node). n.turns.items) (get_or-set_other before v w node d ne) in
-          subst (λ o. IsAskedFor telling o kind (steps_of (slice_index_or (slice_set mid v new) w d).turns.items)) (sym other) (subst (λ ls. IsAskedFor telling (slice_index_or oracles w e) kind (steps_of ls)) (sym turns) (asked.each w d e in_before))))
+      let other : slice_index_or (slice_set oracles v oracle) w e ≡ slice_index_or oracles w e = get_or-set_other oracles v w oracle e ne in
+      let turns : (slice_index_or (slice_set mid v new) w d).turns.items ≡ (slice_index_or before w d).turns.items = ap (λ (n : Node). n.turns.items) (get_or-set_other mid v w new d ne) ∙ same w d in_before ∙ ap (λ (n : Node). n.turns.items) (get_or-set_other before v w node d ne) in
+      subst (λ o. IsAskedFor telling o kind (steps_of (slice_index_or (slice_set mid v new) w d).turns.items)) (sym other) (subst (λ ls. IsAskedFor telling (slice_index_or oracles w e) kind (steps_of ls)) (sym turns) (asked.each w d e in_before))))
       (cases_eq w v));
 }

@@ -214,6 +214,45 @@ fn numbers_are_added_up_and_shared_out(rt: HostRuntime) -> Result<(), Fail> {
 }
 
 #[test]
+fn texts_are_kept_by_keys(rt: HostRuntime) -> Result<(), Fail> {
+    let script = "{\"nodes\":1,\"kind\":\"kv\",\"pages\":1,\"inputs\":[\
+        [0,\"put a 1\"],[0,\"put b 1\"],[0,\"put c 1\"],[0,\"put d 1\"],[0,\"put e 1\"],[0,\"put f 1\"],\
+        [0,\"put g 1\"],[0,\"put h 1\"],[0,\"del c\"],[0,\"put i 1\"],[0,\"get i\"],[0,\"get c\"]]}";
+    let report = "turn 1 0 out 1 -\n\
+        turn 2 0 out 2 -\n\
+        turn 3 0 out 3 -\n\
+        turn 4 0 out 4 -\n\
+        turn 5 0 out 5 -\n\
+        turn 6 0 out 6 -\n\
+        turn 7 0 out 7 -\n\
+        turn 8 0 out 8 -\n\
+        turn 9 0 out 9 -\n\
+        turn 10 0 out 10 -\n\
+        turn 11 0 out 11 -\n\
+        turn 12 0 out 12 -\n\
+        emit 0 1 ok\n\
+        emit 0 2 ok\n\
+        emit 0 3 ok\n\
+        emit 0 4 ok\n\
+        emit 0 5 ok\n\
+        emit 0 6 ok\n\
+        emit 0 7 ok\n\
+        emit 0 8 full\n\
+        emit 0 9 ok\n\
+        emit 0 10 ok\n\
+        emit 0 11 1\n\
+        emit 0 12 none\n\
+        heap 0 0 32:3 64:3 96:3 128:3 160:3 192:3 224:3\n\
+        end settled 12\n";
+    let (status, sink) = run_of(&rt, script)?;
+    assert_eq!(rt;
+        (status, from_utf8(sink.bytes())?),
+        (Status::Settled, report)
+    );
+    Ok(())
+}
+
+#[test]
 fn a_run_that_is_cut_is_reported(rt: HostRuntime) -> Result<(), Fail> {
     let (status, sink) = run_of(&rt, &ring(rt.alloc(), 1, "[0,\"1000\"]")?)?;
     assert_eq!(rt; status, Status::Cut);

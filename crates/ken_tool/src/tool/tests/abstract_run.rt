@@ -9,28 +9,56 @@ use ken_num::Lcg;
 /// How many scripts.
 const SCRIPTS: u64 = 60;
 
+// A command of kind kv: a put of up to 60 bytes, so that a page is soon full, a get, a delete, or none.
+fn random_command(alloc: Global, dice: &mut Lcg) -> Result<String, AllocError> {
+    let key = match dice.next() % 4 {
+        0 => "a",
+        1 => "b",
+        2 => "cc",
+        _ => "d",
+    };
+    match dice.next() % 9 {
+        0 => format!(in alloc; "get {key}"),
+        1 => format!(in alloc; "del {key}"),
+        2 => format!(in alloc; "put{key}"),
+        _ => {
+            let text = "x".repeat(alloc, (dice.next() % 60) as usize)?;
+            format!(in alloc; "put {key} {text}")
+        }
+    }
+}
+
+// A count, or a text that is none.
+fn random_count(alloc: Global, dice: &mut Lcg) -> Result<String, AllocError> {
+    match dice.next() % 7 {
+        6 => String::from_str(alloc, "six"),
+        count => format!(in alloc; "{count}"),
+    }
+}
+
 // A script of a few inputs, where a count goes on for a few turns.
 fn random_script(alloc: Global, dice: &mut Lcg) -> Result<String, AllocError> {
     let nodes = dice.next() % 5 + 1;
-    let kind = match dice.next() % 5 {
+    let kind = match dice.next() % 6 {
         0 => "ring",
         1 => "tally",
         2 => "share",
+        3 => "kv",
         _ => "mix",
     };
     let (seed, turns) = (dice.next(), dice.next() % 9 + 1);
     let mut items = String::new(alloc);
-    for place in 0..dice.next() % 6 {
+    for place in 0..dice.next() % 9 {
         let comma = if place == 0 { "" } else { "," };
-        let (node, count) = (dice.next() % nodes, dice.next() % 7);
-        let item = match count {
-            6 => format!(in alloc; "{comma}[{node},\"six\"]")?,
-            count => format!(in alloc; "{comma}[{node},\"{count}\"]")?,
+        let node = dice.next() % nodes;
+        let text = match kind {
+            "kv" => random_command(alloc, dice)?,
+            _ => random_count(alloc, dice)?,
         };
-        items.push_str(&item)?;
+        items.push_str(&format!(in alloc; "{comma}[{node},\"{text}\"]")?)?;
     }
     format!(in alloc;
-        "{{\"nodes\":{nodes},\"kind\":\"{kind}\",\"seed\":{seed},\"turns\":{turns},\"inputs\":[{items}]}}"
+        "{{\"nodes\":{nodes},\"kind\":\"{kind}\",\"pages\":1,\"seed\":{seed},\"turns\":{turns},\"inputs\":[{items}]}}"
     )
 }
 
@@ -149,8 +177,14 @@ fn heaps(alloc: Global, actors: &Actors<'_>, nodes: u8) -> Result<String, AllocE
 {
     let mut text = String::new(alloc);
     for node in 0..nodes {
-        let root = actors.value(node).root();
-        text.push_str(&format!(in alloc; "heap {node} {root}\n")?)?;
+        let value = actors.value(node);
+        let root = value.root();
+        text.push_str(&format!(in alloc; "heap {node} {root}")?)?;
+        for block in value.blocks.as_slice() {
+            let (place, len) = (block.place, block.bytes.len());
+            text.push_str(&format!(in alloc; " {place}:{len}")?)?;
+        }
+        text.push_str("\n")?;
     }
     Ok(text)
 }

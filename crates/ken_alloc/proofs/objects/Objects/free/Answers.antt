@@ -1,0 +1,54 @@
+use Rattle.std.proofs.Common.{◌≡◌, ℕ, ◌+◌, ◌-◌, Option, Some, None, is_some, List, length, sym, ap, ◌∙◌, subst, arith}
+use Rattle.std.proofs.lemmas.Result.{on_ok_weaker, on_err_weaker}
+use Rattle.ken_pages.specs.Paged.{Paged}
+use Rattle.ken_model.specs.declared.values.Value.{Value}
+use Rattle.ken_model.specs.Heap.{without_block, block_at}
+use Rattle.ken_alloc.specs.declared.walk.Gap.{Gap}
+use Rattle.ken_alloc.proofs.Unique.{value_of-unique}
+use Rattle.ken_alloc.proofs.Held.{stands_seen, value_seen, hole_found, hole_seen, is_some_seen, stands_without, held_after, err_same, freed}
+use Rattle.ken_alloc.proofs.objects.Objects.free.Goals as goal
+
+pub returns-in_default-clause-value : goal.returns-in_default-clause-value
+returns-in_default-clause-value c =
+    let seen : is_some c.hole.result ≡ is_some (block_at c.args.place c.args.self.now.value.blocks) = is_some_seen c.self.inside.pages.bytes c.args.self.now.value c.args.place c.hole.result (value_seen c.self.inside.pages c.args.self.now c.self.view_is) c.hole.ensures in
+    let none = ap (λ (o : Option Gap). is_some o) c.in_default.is in
+    let some = c.requires.block in
+    absurd cc
+
+pub overflow_sub-head : goal.overflow_sub-head
+overflow_sub-head c =
+    let stands = stands_seen c.self.inside.pages c.args.self.now c.self.invariant c.self.view_is in
+    let r = hole_seen c.self.inside.pages.bytes c.args.self.now.value stands c.args.place c.in-Some.hole (hole_found c.self.inside.pages.bytes c.args.self.now.value c.args.place c.hole.result c.in-Some.hole (value_seen c.self.inside.pages c.args.self.now c.self.view_is) c.in-Some.is c.hole.ensures) in
+    omega (arith, r.1)
+
+pub overflow_cast-head : goal.overflow_cast-head
+overflow_cast-head c =
+    let stands = stands_seen c.self.inside.pages c.args.self.now c.self.invariant c.self.view_is in
+    let r = hole_seen c.self.inside.pages.bytes c.args.self.now.value stands c.args.place c.in-Some.hole (hole_found c.self.inside.pages.bytes c.args.self.now.value c.args.place c.hole.result c.in-Some.hole (value_seen c.self.inside.pages c.args.self.now c.self.view_is) c.in-Some.is c.hole.ensures) in
+    omega (arith, r.2, r.3)
+
+pub write-requires-clause-within : goal.write-requires-clause-within
+write-requires-clause-within c =
+    let stands = stands_seen c.self.inside.pages c.args.self.now c.self.invariant c.self.view_is in
+    let r = hole_seen c.self.inside.pages.bytes c.args.self.now.value stands c.args.place c.in-Some.hole (hole_found c.self.inside.pages.bytes c.args.self.now.value c.args.place c.hole.result c.in-Some.hole (value_seen c.self.inside.pages c.args.self.now c.self.view_is) c.in-Some.is c.hole.ensures) in
+    omega (arith, r.1, r.2)
+
+pub invariant_of-self : goal.invariant_of-self
+invariant_of-self c =
+    let xs = c.self.inside.pages.bytes in
+    let v = c.args.self.now.value in
+    let stands = stands_seen c.self.inside.pages c.args.self.now c.self.invariant c.self.view_is in
+    let hole = hole_found xs v c.args.place c.hole.result c.in-Some.hole (value_seen c.self.inside.pages c.args.self.now c.self.view_is) c.in-Some.is c.hole.ensures in
+    held_after c.write.result c.self.inside.pages c.write.new.pages (record v { blocks = without_block c.args.place v.blocks }) c.self.invariant
+    (freed xs v stands c.write.new.pages.bytes c.args.place c.in-Some.hole hole c.write.result c.write.ensures.others c.write.ensures.head)
+    (err_same c.write.result c.self.inside.pages c.write.new.pages c.self.invariant c.write.ensures.unchanged)
+    c.write.ensures.begun
+
+pub returns-clause-value : goal.returns-clause-value
+returns-clause-value c =
+    let xs = c.self.inside.pages.bytes in
+    let v = c.args.self.now.value in
+    let stands = stands_seen c.self.inside.pages c.args.self.now c.self.invariant c.self.view_is in
+    let hole = hole_found xs v c.args.place c.hole.result c.in-Some.hole (value_seen c.self.inside.pages c.args.self.now c.self.view_is) c.in-Some.is c.hole.ensures in
+    on_ok_weaker c.write.result (λ s. value_of-unique c.write.new.pages.bytes (record v { blocks = without_block c.args.place v.blocks }) s)
+    (freed xs v stands c.write.new.pages.bytes c.args.place c.in-Some.hole hole c.write.result c.write.ensures.others c.write.ensures.head)

@@ -1,0 +1,7 @@
+use Rattle.std.proofs.Common.{sym, ◌∙◌}
+use Rattle.ken_alloc.proofs.Walks.{first_found}
+use Rattle.ken_alloc.proofs.walk.block_from.Goals as goal
+
+pub returns : goal.returns
+returns c = λ rest walk.
+    first_found c.args.pages.now.bytes c.args.from c.gap_end-at.result c.read.result.len rest walk (c.gap_end-at.ensures rest walk) (λ e. c.if-at-size.false (e ∙ sym c.size.ensures)) c.read.ensures.len

@@ -1,0 +1,114 @@
+// Walks over the cells.
+ghost use Rattle.std.specs.Prelude.{◌≡◌, ◌+◌, ◌-◌, ◌<◌, ◌≤◌, ◌^◌, List, length};
+ghost use Rattle.ken_model.specs.Heap.{rounded};
+ghost use Rattle.ken_alloc.specs.Layout.{StandsFor};
+ghost use Rattle.ken_alloc.specs.Blocks.{value_of};
+ghost use Rattle.ken_alloc.specs.Walk.{CanWalk, IsWalk, start_of, first_of, fit_from, hole_from};
+
+use crate::head::{self, CELLS, HEAD, Head};
+use ken_pages::PageHeap;
+
+// A block: the place of its first byte, and how many it has.
+#[derive(Clone, Copy)]
+pub(crate) struct Found {
+    pub(crate) place: u64,
+    pub(crate) len: u32,
+}
+
+// Where cells end, and where the next begin.
+#[derive(Clone, Copy)]
+pub(crate) struct Gap {
+    pub(crate) from: u64,
+    pub(crate) to: u64,
+}
+
+// A length, rounded up to a multiple of 16.
+pub(crate) fn round(len: u64) -> u64
+    requires { len < 2 ^ 63 }
+    ensures { result ≡ rounded len }
+{
+    (len + 15) / 16 * 16
+}
+
+impl Found {
+    // Where its cell ends.
+    pub(crate) fn end(self) -> u64
+        requires { self.place < 2 ^ 62 }
+        ensures { result ≡ self.place + rounded self.len }
+    {
+        self.place + round(u64::from(self.len))
+    }
+}
+
+// Where the gap ends that may begin where a block's cell ends.
+pub(crate) fn gap_end(pages: &PageHeap, from: u64) -> u64
+    requires { CanWalk pages.now.bytes from }
+    ensures { (rest : List _) → IsWalk pages.now.bytes from rest → result ≡ start_of (length pages.now.bytes) rest }
+{
+    if from == head::size(pages) {
+        return from;
+    }
+    let head = Head::read(pages, from);
+    if head.len == 0 {
+        from + u64::from(head.span)
+    } else {
+        from
+    }
+}
+
+// The first block from the end of another on.
+pub(crate) fn block_from(pages: &PageHeap, from: u64) -> Option<Found>
+    requires { CanWalk pages.now.bytes from }
+    ensures { (rest : List _) → IsWalk pages.now.bytes from rest → result ≡ first_of rest }
+{
+    let at = gap_end(pages, from);
+    if at == head::size(pages) {
+        return None;
+    }
+    Some(Found {
+        place: at + HEAD,
+        len: Head::read(pages, at).len,
+    })
+}
+
+// The first gap that a block of so many bytes fits into.
+pub(crate) fn first_fit(pages: &PageHeap, len: u64) -> Option<Gap>
+    requires { StandsFor pages.now.bytes (value_of pages.now.bytes) }
+    ensures { result ≡ fit_from 16 (length pages.now.bytes) (value_of pages.now.bytes).blocks len }
+{
+    let size = head::size(pages);
+    if len > size {
+        return None;
+    }
+    let room = HEAD + round(len);
+    let mut from = CELLS;
+    while let Some(block) = block_from(pages, from) {
+        let to = block.place - HEAD;
+        if to - from >= room {
+            return Some(Gap { from, to });
+        }
+        from = block.end();
+    }
+    if size - from >= room {
+        Some(Gap { from, to: size })
+    } else {
+        None
+    }
+}
+
+// The gap that is left where a block goes, with those on both sides of it.
+pub(crate) fn hole(pages: &PageHeap, place: u64) -> Option<Gap>
+    requires { StandsFor pages.now.bytes (value_of pages.now.bytes) }
+    ensures { result ≡ hole_from 16 (length pages.now.bytes) place (value_of pages.now.bytes).blocks }
+{
+    let mut from = CELLS;
+    while let Some(block) = block_from(pages, from) {
+        let end = block.end();
+        if block.place == place {
+            let to = gap_end(pages, end);
+            return Some(Gap { from, to });
+        }
+        from = end;
+    }
+    None
+}
