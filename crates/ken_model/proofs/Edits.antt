@@ -1,5 +1,5 @@
 -- Blocks put in and taken away by their index.
-use Rattle.std.proofs.Common.{◌≡◌, ℕ, zero, suc, ◌+◌, ◌<◌, ◌≤◌, List, [], ◌∷◌, length, Bool, true, false, ◌==◌, not, if◌then◌else◌, nat_lt, Option, Some, None, option_map, unwrap_or, refl, sym, ap, ◌∙◌, arith, drop, slice_index_or, add-one}
+use Rattle.std.proofs.Common.{◌≡◌, ℕ, suc, ◌+◌, ◌<◌, ◌≤◌, List, [], ◌∷◌, length, Bool, true, false, ◌==◌, not, if◌then◌else◌, nat_lt, Some, None, unwrap_or, refl, sym, ap, ◌∙◌, arith, drop, slice_index_or, add-one}
 use Rattle.std.specs.List.{position, position_or_len, insert, remove, find}
 use Rattle.std.proofs.Math.Seq.{drop-cons}
 use Rattle.std.proofs.lemmas.Bool.{ltb-false}
