@@ -57,7 +57,8 @@ pub(crate) struct Answer {
 }
 
 impl Task {
-    /// The task of a payload: none where the kind takes another number of draws for it.
+    /// The task of a payload: none where the kind takes another number of draws for it. The draws' type says that they are
+    /// words, and callers learn it here.
     pub(crate) fn of(kind: Kind, payload: &[u8], draws: &[u64]) -> Option<Task>
         ensures task { result ≡ task_of kind (num payload.now) draws.now }
         ensures words { All (λ d. d < 2 ^ 64) draws.now }
