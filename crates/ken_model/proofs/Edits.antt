@@ -1,12 +1,14 @@
 -- Blocks put in and taken away by their index.
-use Rattle.std.proofs.Common.{◌≡◌, ℕ, zero, suc, ◌+◌, ◌<◌, ◌≤◌, List, [], ◌∷◌, length, Bool, true, false, ◌==◌, not, if◌then◌else◌, nat_lt, Option, Some, None, option_map, unwrap_or, refl, sym, ap, ◌∙◌, arith, drop, slice_index_or, add-one}
+use Rattle.std.proofs.Common.{◌≡◌, ℕ, suc, ◌+◌, ◌<◌, ◌≤◌, List, [], ◌∷◌, length, Bool, true, false, ◌==◌, not, if◌then◌else◌, nat_lt, Some, None, unwrap_or, refl, sym, ap, ◌∙◌, arith, drop, slice_index_or, add-one}
 use Rattle.std.specs.List.{position, position_or_len, insert, remove, find}
 use Rattle.std.proofs.Math.Seq.{drop-cons}
 use Rattle.std.proofs.lemmas.Bool.{ltb-false}
 use Rattle.std.proofs.lemmas.List.Sums.{prefix_len-le-length}
 use Rattle.ken_model.specs.declared.values.Block.{Block}
+use Rattle.ken_model.specs.declared.values.Value.{Value}
 use Rattle.ken_model.specs.Heap.{with_block, without_block}
 use Rattle.ken_model.specs.KeyValue.{pair_of, is_key, at_space}
+use Rattle.ken_model.proofs.Heaps.{pair-long}
 
 within-length : {A : Type 0} (p : A → Bool) (xs : List A) → position_or_len p xs ≤ length xs
 within-length p xs = prefix_len-le-length (λ x. not (p x)) xs
@@ -69,3 +71,7 @@ pair_found key (b ∷ bs) = ap (λ o. if is_key key (at_space b.bytes) then Some
 -- the block at an index, and those after it
 pub block_next : (k : ℕ) (bs : List Block) (b : Block) → k < length bs → b ≡ slice_index_or bs k b → drop k bs ≡ b ∷ drop (k + 1) bs
 block_next k bs b within is = rw add-one (drop-cons bs k b within) ∙ ap (λ x. x ∷ drop (k + 1) bs) (sym is)
+
+-- the pair that was found is longer than its key
+pub found_long : (key : List ℕ) (value : Value) (pair : Block) → Some pair ≡ find (λ (b : Block). is_key key (at_space b.bytes)) value.blocks → length key + 1 ≤ length pair.bytes
+found_long key value pair found = pair-long key value.blocks pair (pair_found key value.blocks ∙ sym found)

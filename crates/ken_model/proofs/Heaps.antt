@@ -110,7 +110,8 @@ pair-at from size key (x ∷ xs) b h found =
     rw q (pair-at (end_of x) size key xs b h.3 later.1))
     (if_some (is_key key (at_space x.bytes)) (Some x) (pair_of key xs) b found)
 
-pair-holds : (key : List ℕ) (bs : List Block) (b : Block) → pair_of key bs ≡ Some b → is_key key (at_space b.bytes) ≡ true
+-- and its key is that key
+pub pair-holds : (key : List ℕ) (bs : List Block) (b : Block) → pair_of key bs ≡ Some b → is_key key (at_space b.bytes) ≡ true
 pair-holds key [] b found = absurd cc
 pair-holds key (x ∷ xs) b found =
     ⊎_elim

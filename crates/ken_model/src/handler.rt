@@ -1,5 +1,6 @@
 // What a handler makes of a message.
-ghost use Rattle.std.specs.Prelude.{◌≡◌, ◌+◌, ◌-◌, ◌<◌, ◌^◌, [], ◌∷◌, nat_lt, if◌then◌else◌, decimal, IfOk};
+ghost use Rattle.std.specs.Prelude.{◌≡◌, ◌+◌, ◌-◌, ◌<◌, ◌^◌, [], ◌∷◌, decimal, IfOk};
+ghost use Rattle.std.specs.Option.{option_map_or};
 ghost use Rattle.std.specs.List.{All, AllByRecursion};
 ghost use Rattle.ken_model.specs.Handler.{to_others, tally_counts};
 ghost use Rattle.ken_model.specs.Heap.{IsHeap};
@@ -56,7 +57,8 @@ pub(crate) struct Answer {
 }
 
 impl Task {
-    /// The task of a payload: none where the kind takes another number of draws for it.
+    /// The task of a payload: none where the kind takes another number of draws for it. The draws' type says that they are
+    /// words, and callers learn it here.
     pub(crate) fn of(kind: Kind, payload: &[u8], draws: &[u64]) -> Option<Task>
         ensures task { result ≡ task_of kind (num payload.now) draws.now }
         ensures words { All (λ d. d < 2 ^ 64) draws.now }
@@ -96,20 +98,24 @@ impl Task {
             Task::Ring { count } => Ok(Answer {
                 root: value.root.wrapping_add(1),
                 blocks: BlockChange::Keep,
-                sends: rest_of(alloc, count, (node + 1) % nodes)?,
+                sends: number_to(alloc, count.checked_sub(1), (node + 1) % nodes)?,
                 outs: alone(alloc, decimal_text(alloc, count)?)?,
             }),
             Task::Tally { amount } => tally(alloc, node, nodes, value, message, amount),
             Task::Share { amount } => Ok(Answer {
                 root: value.root.wrapping_add(amount - amount / 2),
                 blocks: BlockChange::Keep,
-                sends: number_to(alloc, amount / 2, (node + 1) % nodes)?,
+                sends: number_to(
+                    alloc,
+                    (amount > 1).then_some(amount / 2),
+                    (node + 1) % nodes,
+                )?,
                 outs: alone(alloc, decimal_text(alloc, amount)?)?,
             }),
             Task::Mix { count, clock, word } => Ok(Answer {
                 root: clock,
                 blocks: BlockChange::Keep,
-                sends: rest_of(alloc, count, (word % u64::from(nodes)) as u8)?,
+                sends: number_to(alloc, count.checked_sub(1), (word % u64::from(nodes)) as u8)?,
                 outs: alone(alloc, decimal_text(alloc, word % MIX_OUTPUTS)?)?,
             }),
         }
@@ -158,29 +164,15 @@ fn to_others(alloc: Global, node: u8, nodes: u8, text: &[u8]) -> Result<Vec<Send
     Ok(sends)
 }
 
-/// A number above 0, for a node.
-fn number_to(alloc: Global, n: u64, to: u8) -> Result<Vec<Send>, AllocError>
-    ensures { IfOk result (λ v. v.items ≡ (if nat_lt 0 n then record { to = to; bytes = decimal n } ∷ [] else [])) }
+/// A number for a node, where there is one.
+fn number_to(alloc: Global, number: Option<u64>, to: u8) -> Result<Vec<Send>, AllocError>
+    ensures { IfOk result (λ v. v.items ≡ option_map_or (λ n. record { to = to; bytes = decimal n } ∷ []) number []) }
 {
     let mut sends = Vec::new(alloc);
-    if n > 0 {
+    if let Some(number) = number {
         sends.push(Send {
             to,
-            bytes: decimal_text(alloc, n)?,
-        })?;
-    }
-    Ok(sends)
-}
-
-/// What is left of a count, for a node: nothing where the count is 0.
-fn rest_of(alloc: Global, count: u64, to: u8) -> Result<Vec<Send>, AllocError>
-    ensures { IfOk result (λ v. v.items ≡ (if nat_lt 0 count then record { to = to; bytes = decimal (count - 1) } ∷ [] else [])) }
-{
-    let mut sends = Vec::new(alloc);
-    if count > 0 {
-        sends.push(Send {
-            to,
-            bytes: decimal_text(alloc, count - 1)?,
+            bytes: decimal_text(alloc, number)?,
         })?;
     }
     Ok(sends)

@@ -90,7 +90,7 @@ impl Value {
             .find(|block| is_pair_of(block.bytes.as_slice(), key))
     }
 
-    /// Its place.
+    /// The place of a key's pair.
     #[tactic(auto, using(crate::proofs::Edits::pair_found))]
     pub(crate) fn place_of_pair(&self, key: &[u8]) -> Option<u64>
         ensures { result ≡ option_map (λ (b : Block). b.place) (pair_of key.now self.now.blocks) }
@@ -101,7 +101,7 @@ impl Value {
         }
     }
 
-    /// How many blocks stand before the first past a place.
+    /// How many blocks stand before the first past a place, where there is one.
     fn index_past(&self, place: u64) -> Option<usize>
         ensures { result ≡ position (λ (b : Block). nat_lt place b.place) self.now.blocks }
     {
@@ -111,7 +111,7 @@ impl Value {
             .position(|block| place < block.place)
     }
 
-    /// How many blocks stand before the one at a place.
+    /// How many blocks stand before the one at a place, where there is one.
     fn index_of(&self, place: u64) -> Option<usize>
         ensures { result ≡ position (λ (b : Block). b.place == place) self.now.blocks }
     {

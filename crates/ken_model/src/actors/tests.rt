@@ -2,7 +2,7 @@ ghost use Rattle.std.specs.Prelude.{◌≡◌, ◌<◌, ◌≤◌, length, IfOk}
 ghost use Rattle.ken_model.specs.Facts.{IsWithinLimits};
 
 use super::Actors;
-use crate::{Done, Facts, Input, Items, Kind, OUTSIDE, Octets, Step, StepFault};
+use crate::{Done, Facts, Input, Items, Kind, MAX_TEXT, OUTSIDE, Octets, Step, StepFault, Value};
 use std::alloc::{AllocError, Global};
 use std::test::Fail;
 
@@ -26,6 +26,54 @@ fn facts(alloc: Global, kind: Kind, nodes: u8, turns: u64, text: &[u8]) -> Resul
         turns,
         inputs: Items::new(inputs),
     })
+}
+
+/// A run of one node of kind kv with a heap of one page, whose inputs are the commands. One of more than 512 bytes is left
+/// out.
+fn commands(alloc: Global, cases: &[(&str, &str)]) -> Result<Facts, AllocError>
+    requires { length cases.now ≤ 100 }
+    ensures limits { IfOk result IsWithinLimits }
+    ensures nodes { IfOk result (λ f. f.nodes ≡ 1) }
+{
+    let mut inputs = Vec::new(alloc);
+    for (command, _) in cases {
+        if command.len() <= MAX_TEXT {
+            let text = Octets::new(command.as_bytes().to_vec(alloc)?);
+            inputs.push(Input { node: 0, text })?;
+        }
+    }
+    Ok(Facts {
+        nodes: 1,
+        kind: Kind::Kv,
+        size: 256,
+        turns: 100,
+        inputs: Items::new(inputs),
+    })
+}
+
+/// Makes a step of each input. It answers with the first that had another output than it should.
+fn first_wrong<'a>(
+    alloc: Global,
+    actors: &mut Actors,
+    cases: &[(&'a str, &str)],
+) -> Result<Option<&'a str>, StepFault>
+    ensures { actors.new.facts ≡ actors.old.facts }
+{
+    for (command, want) in cases {
+        let done = step(alloc, actors, 0, OUTSIDE, &[])?;
+        if !outputs(&done, want) {
+            return Ok(Some(command));
+        }
+    }
+    Ok(None)
+}
+
+/// Whether its blocks are those, by place.
+fn has_blocks(value: &Value, want: &[(u64, &str)]) -> bool {
+    let blocks = value.blocks.as_slice();
+    blocks.len() == want.len()
+        && blocks.iter().zip(want).all(|(block, (place, bytes))| block.place == *place
+            && block.bytes.as_slice() == bytes.as_bytes())
 }
 
 /// Makes a step of `actors`.
@@ -124,5 +172,62 @@ fn mix_takes_a_reading_and_a_word(rt: HostRuntime) -> Result<(), Fail> {
     assert!(rt; outputs(&done, "807"));
     assert_eq!(rt; receiver(&done), None);
     assert_eq!(rt; actors.value(0).root, 1);
+    Ok(())
+}
+
+#[test]
+fn a_pair_goes_into_the_first_gap(rt: HostRuntime) -> Result<(), Fail> {
+    let alloc = rt.alloc();
+    let cases = [
+        ("put a 1", "ok"),
+        ("put b 1", "ok"),
+        ("put c 1", "ok"),
+        ("put d 1", "ok"),
+        ("put e 1", "ok"),
+        ("put f 1", "ok"),
+        ("put g 1", "ok"),
+        ("put h 1", "full"),
+        ("del c", "ok"),
+        ("put i 1", "ok"),
+        ("get i", "1"),
+        ("get c", "none"),
+    ];
+    let facts = commands(alloc, &cases)?;
+    let mut actors = Actors::start(alloc, &facts)?;
+    assert_eq!(rt; first_wrong(alloc, &mut actors, &cases)?, None);
+    let blocks = [
+        (32, "a 1"),
+        (64, "b 1"),
+        (96, "i 1"),
+        (128, "d 1"),
+        (160, "e 1"),
+        (192, "f 1"),
+        (224, "g 1"),
+    ];
+    assert!(rt; has_blocks(actors.value(0), &blocks));
+    Ok(())
+}
+
+#[test]
+fn a_new_pair_comes_before_the_old_one_goes(rt: HostRuntime) -> Result<(), Fail> {
+    let alloc = rt.alloc();
+    let cases = [
+        ("put k a b c", "ok"),
+        ("get k", "a b c"),
+        ("put k ", "ok"),
+        ("get k", ""),
+        ("put a", "bad"),
+        ("put  x", "bad"),
+        ("get a b", "bad"),
+        ("get ", "bad"),
+        ("del", "bad"),
+        ("del a", "none"),
+        ("", "bad"),
+        ("Put a 1", "bad"),
+    ];
+    let facts = commands(alloc, &cases)?;
+    let mut actors = Actors::start(alloc, &facts)?;
+    assert_eq!(rt; first_wrong(alloc, &mut actors, &cases)?, None);
+    assert!(rt; has_blocks(actors.value(0), &[(64, "k ")]));
     Ok(())
 }
