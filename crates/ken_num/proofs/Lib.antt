@@ -1,3 +1,4 @@
 pub mod Decimals
 pub mod Small
 pub mod Answers
+pub mod Again

@@ -57,6 +57,8 @@ impl PageHeap {
 
     /// How many pages there are.
     pub fn pages(&self) -> u32
+        ensures some { 1 ≤ result }
+        ensures most { result ≤ MAX_PAGES }
         ensures bytes { length self.now.bytes ≡ 256 * result }
         ensures begun { IfSome self.now.begun (λ before. length before ≡ 256 * result) }
     {
