@@ -1,5 +1,5 @@
 -- The block at a place: where its bytes are, and what writing over them does.
-use Rattle.std.proofs.Common.{◌≡◌, ◌≢◌, ℕ, ◌+◌, ◌-◌, ◌*◌, ◌/◌, ◌%◌, ◌^◌, ◌<◌, ◌≤◌, Bool, true, false, cond, ltb, eqb, List, [], ◌∷◌, ◌++◌, length, Option, Some, None, IsSome, is_some, ◌⊎◌, inl, inr, refl, sym, ap, ◌∙◌, subst, arith}
+use Rattle.std.proofs.Common.{◌≡◌, ℕ, ◌+◌, ◌-◌, ◌≤◌, Bool, true, false, cond, ltb, eqb, List, [], ◌∷◌, length, Option, Some, None, IsSome, is_some, ◌⊎◌, inl, inr, refl, sym, ap, ◌∙◌, subst, arith}
 use Rattle.std.specs.Prelude.{option_map}
 use Rattle.std.proofs.lemmas.Bool.Decides.{eqb_tells}
 use Rattle.ken_frame.specs.Written.{written}
@@ -8,7 +8,7 @@ use Rattle.ken_model.specs.declared.values.Block.{Block}
 use Rattle.ken_model.specs.Heap.{rounded, end_of, block_at, place_past, first_gap_from}
 use Rattle.ken_alloc.specs.declared.walk.Gap.{Gap}
 use Rattle.ken_alloc.specs.declared.walk.Found.{Found}
-use Rattle.ken_alloc.specs.Layout.{part, HasHead, IsGap, IsLaid, AreCells}
+use Rattle.ken_alloc.specs.Layout.{part, HasHead, IsLaid, AreCells}
 use Rattle.ken_alloc.specs.Objects.{rewritten}
 use Rattle.ken_alloc.specs.Kept.{KeepsOutside}
 use Rattle.ken_alloc.specs.Walk.{start_of, first_of, fit_from, hole_from}

@@ -1,16 +1,12 @@
 -- Cells one after the other, where some bytes change.
-use Rattle.std.proofs.Common.{◌≡◌, ◌≢◌, ℕ, suc, ◌+◌, ◌-◌, ◌*◌, ◌/◌, ◌%◌, ◌^◌, ◌<◌, ◌≤◌, Bool, true, false, cond, ltb, eqb, List, [], ◌∷◌, ◌++◌, length, replicate, Option, Some, None, IsSome, is_some, ◌⊎◌, inl, inr, refl, sym, ap, ◌∙◌, subst, arith}
+use Rattle.std.proofs.Common.{◌≡◌, ℕ, suc, ◌+◌, ◌-◌, ◌%◌, ◌<◌, ◌≤◌, Bool, true, false, cond, ltb, eqb, List, [], ◌∷◌, length, Some, None, ◌⊎◌, inl, inr, sym, ap, ◌∙◌, subst, arith}
 use Rattle.std.proofs.lemmas.Bool.Decides.{leb_tells, eqb_tells}
-use Rattle.ken_frame.specs.Written.{written}
-use Rattle.ken_frame.proofs.Written.{length-written}
 use Rattle.ken_model.specs.declared.values.Block.{Block}
-use Rattle.ken_model.specs.Heap.{rounded, end_of, with_block, without_block, block_at, first_gap_from}
+use Rattle.ken_model.specs.Heap.{rounded, end_of, with_block, without_block}
 use Rattle.ken_alloc.specs.declared.walk.Gap.{Gap}
-use Rattle.ken_alloc.specs.Layout.{part, HasHead, IsGap, IsLaid, AreCells}
-use Rattle.ken_alloc.specs.Objects.{rewritten}
+use Rattle.ken_alloc.specs.Layout.{HasHead, IsGap, IsLaid, AreCells}
 use Rattle.ken_alloc.specs.Kept.{KeepsOutside}
 use Rattle.ken_alloc.specs.Walk.{start_of, fit_from, hole_from}
-use Rattle.ken_alloc.proofs.Kept.{KeepsOutside-written, part-written_within}
 use Rattle.ken_alloc.proofs.Heads.{HasHead-below, HasHead-above}
 
 pub lt_cases : (a b : ℕ) → ((ltb a b ≡ true) × (a < b)) ⊎ ((ltb a b ≡ false) × (b ≤ a))

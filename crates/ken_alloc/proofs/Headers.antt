@@ -1,9 +1,8 @@
 -- The bytes before the cells, compared.
-use Rattle.std.proofs.Common.{◌≡◌, ℕ, ◌-◌, Bool, true, false, not, List, length, take, drop, codes, refl, sym, ap, ◌∙◌, subst, arith}
+use Rattle.std.proofs.Common.{◌≡◌, ℕ, ◌-◌, Bool, true, false, not, List, length, take, drop, codes, refl, sym, ap, ◌∙◌, arith}
 use Rattle.std.specs.Str.{bytes_eq}
 use Rattle.std.proofs.lemmas.Slice.Eq.{bytes_eq-Decides}
 use Rattle.byteorder.specs.Endian.{big_bytes}
-use Rattle.ken_alloc.specs.Layout.{part}
 use Rattle.ken_alloc.specs.Walk.{IsWrongHeader}
 use Rattle.ken_alloc.specs.Walk.IsWrongHeader.{name as wrong_at_name, pages as wrong_at_pages}
 

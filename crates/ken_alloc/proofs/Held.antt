@@ -1,5 +1,5 @@
 -- What stands in the pages of a heap, and what stands there after a change.
-use Rattle.std.proofs.Common.{◌≡◌, ◌≢◌, ℕ, ◌+◌, ◌-◌, ◌*◌, ◌/◌, ◌%◌, ◌^◌, ◌<◌, ◌≤◌, Bool, true, false, List, [], ◌∷◌, ◌++◌, length, take, drop, replicate, Option, Some, None, Result, Ok, Err, IsSome, IsSomeAnd, IfSome, is_some, IfOk, OnOk, OnErr, refl, sym, ap, ◌∙◌, subst, arith}
+use Rattle.std.proofs.Common.{◌≡◌, ℕ, ◌+◌, ◌-◌, ◌*◌, ◌/◌, ◌%◌, ◌^◌, ◌<◌, ◌≤◌, List, length, take, drop, replicate, Option, Some, None, Result, Ok, Err, IsSome, IsSomeAnd, IfSome, is_some, IfOk, OnOk, OnErr, refl, sym, ap, ◌∙◌, subst, arith}
 use Rattle.std.specs.Prelude.{option_map}
 use Rattle.std.specs.declared.alloc.AllocError.{AllocError}
 use Rattle.std.proofs.lemmas.List.{take-take, drop-take, drop-drop, length-replicate}
@@ -16,12 +16,12 @@ use Rattle.ken_alloc.specs.Layout.{part, HasHead, IsGap, IsLaid, AreCells, Stand
 use Rattle.ken_alloc.specs.Blocks.{value_of}
 use Rattle.ken_alloc.specs.Objects.{Heap, heap_of, IsHeld, IsBlock, rewritten}
 use Rattle.ken_alloc.specs.Kept.{KeepsOutside}
-use Rattle.ken_alloc.specs.Walk.{IsWalk, CanWalk, first_of, fit_from, hole_from}
-use Rattle.ken_alloc.proofs.Kept.{KeepsOutside-written, KeepsOutside-after, part_after}
+use Rattle.ken_alloc.specs.Walk.{IsWalk, IsSize, first_of, fit_from, hole_from}
+use Rattle.ken_alloc.proofs.Kept.{KeepsOutside-after, part_after}
 use Rattle.ken_alloc.proofs.Heads.{IsRead, IsRead-from_head}
 use Rattle.ken_alloc.proofs.Cells.{AreCells-le, AreCells-above, AreCells-with_block, AreCells-inside, AreCells-without_block, IsRoom, IsRoom-fit, IsRoom-hole}
 use Rattle.ken_alloc.proofs.Blocks.{StandsAt, stands_at, next_place, AreCells-rewritten, place_of_fit, is_some-hole}
-use Rattle.ken_alloc.proofs.Unique.{IsSized, IsSized-from_stands, value_of-unique, StandsFor-value}
+use Rattle.ken_alloc.proofs.Unique.{IsSized, IsSized-from_stands, StandsFor-value}
 use Rattle.ken_alloc.proofs.Walks.{walk_all}
 
 pub stands_seen : (p : Paged) (h : Heap) → IsHeld p → heap_of p ≡ h → StandsFor p.bytes h.value
@@ -231,3 +231,7 @@ is_some_seen xs v place r same is =
 pub freed : {X : Type 0} (xs : List ℕ) (v : Value) (stands : StandsFor xs v) (ys : List ℕ) (place : ℕ) (gap : Gap) → Some gap ≡ hole_from 16 (length xs) place v.blocks → (r : Result X AllocError) → OnOk r (KeepsOutside gap.from (gap.from + 16) xs ys) → OnOk r (HasHead ys gap.from (gap.to - gap.from) 0) → OnOk r (StandsFor ys (record v { blocks = without_block place v.blocks }))
 freed xs v stands ys place gap hole (Ok x) kept head = stands_without xs v stands ys place gap hole kept head
 freed xs v stands ys place gap hole (Err e) kept head = tt
+
+-- so many whole pages are the size of a heap
+pub size_seen : (size count : ℕ) → 1 ≤ count → count ≤ 4096 → size ≡ 256 * count → IsSize size
+size_seen size count some most is = record { pages = (count, omega arith, omega arith, is) }

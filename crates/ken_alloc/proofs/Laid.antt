@@ -1,9 +1,8 @@
 -- A heap with no block, as it is written.
-use Rattle.std.proofs.Common.{◌≡◌, ℕ, ◌+◌, ◌-◌, ◌*◌, ◌/◌, ◌%◌, ◌^◌, ◌<◌, ◌≤◌, List, [], ◌∷◌, ◌++◌, length, take, drop, replicate, codes, Result, Ok, Err, OnOk, refl, sym, ap, ◌∙◌, subst, arith}
+use Rattle.std.proofs.Common.{◌≡◌, ℕ, ◌+◌, ◌-◌, ◌*◌, ◌/◌, ◌<◌, ◌≤◌, List, ◌++◌, length, take, drop, replicate, codes, Result, Ok, Err, OnOk, ap, ◌∙◌, subst, arith}
 use Rattle.std.specs.declared.alloc.AllocError.{AllocError}
 use Rattle.byteorder.specs.Endian.{big_bytes}
 use Rattle.ken_frame.specs.Written.{written}
-use Rattle.ken_model.specs.declared.values.Value.{Value}
 use Rattle.ken_model.specs.Network.{empty_heap}
 use Rattle.ken_alloc.specs.Layout.{part, HasHead, StandsFor}
 use Rattle.ken_alloc.specs.Kept.{KeepsOutside}

@@ -7,3 +7,7 @@ pub mod Headers
 pub mod Walks
 pub mod Held
 pub mod Laid
+pub mod Adopted
+pub mod Stuck
+
+pub mod Valid

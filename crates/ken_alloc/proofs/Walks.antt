@@ -1,5 +1,5 @@
 -- Walks over cells, a block at a time.
-use Rattle.std.proofs.Common.{◌≡◌, ◌≢◌, ℕ, ◌+◌, ◌-◌, ◌*◌, ◌/◌, ◌%◌, ◌^◌, ◌<◌, ◌≤◌, Bool, true, false, cond, ltb, eqb, List, [], ◌∷◌, ◌++◌, length, drop, Option, Some, None, ◌⊎◌, inl, inr, refl, sym, ap, ◌∙◌, subst, arith}
+use Rattle.std.proofs.Common.{◌≡◌, ◌≢◌, ℕ, ◌+◌, ◌-◌, ◌%◌, ◌^◌, ◌<◌, ◌≤◌, true, false, ltb, eqb, List, [], ◌∷◌, ◌++◌, length, drop, Option, Some, None, ◌⊎◌, inl, inr, refl, sym, ap, ◌∙◌, subst, arith}
 use Rattle.std.proofs.lemmas.Bool.{cases_lt}
 use Rattle.std.proofs.lemmas.List.{append-nil, append_assoc}
 use Rattle.byteorder.specs.Endian.{big_number}
@@ -8,8 +8,7 @@ use Rattle.ken_model.specs.declared.values.Value.{Value}
 use Rattle.ken_model.specs.Heap.{rounded, end_of}
 use Rattle.ken_alloc.specs.declared.walk.Found.{Found}
 use Rattle.ken_alloc.specs.declared.walk.Gap.{Gap}
-use Rattle.ken_alloc.specs.Layout.{part, HasHead, IsGap, IsLaid, AreCells, StandsFor}
-use Rattle.ken_alloc.specs.Blocks.{value_of}
+use Rattle.ken_alloc.specs.Layout.{part, IsGap, AreCells, StandsFor}
 use Rattle.ken_alloc.specs.Walk.{IsWalk, CanWalk, start_of, first_of, fit_from, hole_from}
 use Rattle.ken_alloc.proofs.Heads.{IsRead, IsRead-from_head}
 use Rattle.ken_alloc.proofs.Cells.{lt_cases, is_true, is_false, AreCells-le}

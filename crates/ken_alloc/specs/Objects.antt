@@ -1,5 +1,5 @@
 -- Objects in a heap, as their callers see them.
-use Rattle.std.specs.Prelude.{◌≡◌, ℕ, List, [], ◌∷◌, replicate, ◌==◌, if◌then◌else◌, Option, Some, None, IfSome, IsSome}
+use Rattle.std.specs.Prelude.{ℕ, List, [], ◌∷◌, replicate, ◌==◌, if◌then◌else◌, Option, Some, None, IfSome, IsSome}
 use Rattle.ken_frame.specs.Written.{written}
 use Rattle.ken_pages.specs.Paged.{Paged}
 use Rattle.ken_model.specs.declared.values.Block.{Block}

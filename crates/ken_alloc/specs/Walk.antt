@@ -1,5 +1,5 @@
 -- Walks over the cells, from the end of one block to the end of the next.
-use Rattle.std.specs.Prelude.{◌≡◌, ℕ, ◌+◌, ◌-◌, ◌*◌, ◌/◌, ◌%◌, ◌<◌, ◌≤◌, ◌^◌, List, [], ◌∷◌, length, ◌==◌, nat_lt, if◌then◌else◌, Bool, false, Option, Some, None, take, codes}
+use Rattle.std.specs.Prelude.{◌≡◌, ℕ, ◌+◌, ◌-◌, ◌*◌, ◌%◌, ◌<◌, ◌≤◌, ◌^◌, List, [], ◌∷◌, length, ◌==◌, nat_lt, if◌then◌else◌, Bool, false, Option, Some, None, take, codes}
 use Rattle.byteorder.specs.Endian.{big_bytes, big_number}
 use Rattle.ken_model.specs.declared.facts.TheConstants.{PAGE, MAX_PAGES}
 use Rattle.ken_model.specs.declared.values.Block.{Block}
@@ -50,9 +50,14 @@ pub data IsWrongHeader (bytes : List ℕ) (pages : ℕ) : ℕ → Type 0 where
   name : (part 8 4 bytes ≡ codes "KENH" → ⊥) → IsWrongHeader bytes pages 8
   pages : part 8 4 bytes ≡ codes "KENH" → (part 12 4 bytes ≡ big_bytes 4 pages → ⊥) → IsWrongHeader bytes pages 12
 
--- what stands before the cells is right
+-- what stands before the cells is right, and there are whole pages
 pub record HasHeader (bytes : List ℕ) : Type 0 where
-  pub pages : (n : ℕ) × (0 < n) × (n ≤ MAX_PAGES) × (length bytes ≡ PAGE * n)
+  pub some : 256 ≤ length bytes
+  pub whole : length bytes % 256 ≡ 0
   pub root : take 8 bytes ≡ big_bytes 8 (big_number 8 bytes)
   pub name : HasName bytes
   pub count : HasPages bytes
+
+-- a heap has so many bytes
+pub record IsSize (size : ℕ) : Type 0 where
+  pub pages : (n : ℕ) × (0 < n) × (n ≤ MAX_PAGES) × (size ≡ PAGE * n)

@@ -1,17 +1,15 @@
 // Whether the bytes of a heap stand for a value.
-ghost use Rattle.std.specs.Prelude.{◌≡◌, ◌+◌, ◌*◌, ◌<◌, ◌≤◌, ◌↔◌, length, IsTrue, OnOk, OnErr, IfErr};
-ghost use Rattle.byteorder.specs.Endian.{big_bytes, big_number};
+ghost use Rattle.std.specs.Prelude.{◌≡◌, ◌+◌, ◌%◌, ◌≤◌, ◌↔◌, length, IsTrue, OnOk, OnErr, IfErr};
 ghost use Rattle.ken_model.specs.declared.values.Value.{Value};
-ghost use Rattle.ken_alloc.specs.Layout.{HasName, HasPages, StandsFor, BreaksAt};
+ghost use Rattle.ken_alloc.specs.Layout.{StandsFor, BreaksAt};
 ghost use Rattle.ken_alloc.specs.Blocks.{value_of};
-ghost use Rattle.ken_alloc.specs.Walk.{IsCell, HasHeader};
-ghost use Rattle.std.specs.Prelude.{drop, take};
+ghost use Rattle.ken_alloc.specs.Walk.{IsCell, IsSize, HasHeader};
 
 use crate::Broken;
 use crate::head::{self, CELLS, HEAD, Head};
-use crate::header::{self, NAME_AT, PAGES_AT};
+use crate::header::{self, NAME_AT};
 use crate::walk::round;
-use ken_pages::{MAX_PAGES, PageHeap};
+use ken_pages::PageHeap;
 
 // Whether a head with these numbers is that of a cell. Two gaps are never side by side.
 fn is_cell(pages: &PageHeap, at: u64, head: Head, after_gap: bool) -> bool
@@ -39,19 +37,15 @@ fn check_header(pages: &PageHeap) -> Result<(), Broken>
     }
     let mut bytes = [0; 16];
     pages.read(0, &mut bytes);
-    header::check(&bytes, count)?;
-    if count > MAX_PAGES {
-        return Err(Broken { place: PAGES_AT });
-    }
-    Ok(())
+    header::check(&bytes, count)
 }
 
 // Walks the cells.
 fn check_cells(pages: &PageHeap) -> Result<(), Broken>
     requires { HasHeader pages.now.bytes }
-    ensures stands { OnOk result (StandsFor pages.now.bytes (value_of pages.now.bytes)) }
+    ensures stands { OnOk result (IsSize (length pages.now.bytes) → StandsFor pages.now.bytes (value_of pages.now.bytes)) }
     ensures none { OnErr result ((v : Value) → StandsFor pages.now.bytes v → ⊥) }
-    ensures place { IfErr result (λ broken. BreaksAt pages.now.bytes broken.place) }
+    ensures place { IfErr result (λ broken. IsSize (length pages.now.bytes) → BreaksAt pages.now.bytes broken.place) }
 {
     let size = head::size(pages);
     let mut at = CELLS;
@@ -69,9 +63,9 @@ fn check_cells(pages: &PageHeap) -> Result<(), Broken>
 
 // Tests the name, the number of pages and then each cell.
 pub(crate) fn check(pages: &PageHeap) -> Result<(), Broken>
-    ensures stands { OnOk result (StandsFor pages.now.bytes (value_of pages.now.bytes)) }
+    ensures stands { OnOk result (IsSize (length pages.now.bytes) → StandsFor pages.now.bytes (value_of pages.now.bytes)) }
     ensures none { OnErr result ((v : Value) → StandsFor pages.now.bytes v → ⊥) }
-    ensures place { IfErr result (λ broken. BreaksAt pages.now.bytes broken.place) }
+    ensures place { IfErr result (λ broken. IsSize (length pages.now.bytes) → BreaksAt pages.now.bytes broken.place) }
 {
     check_header(pages)?;
     check_cells(pages)

@@ -9,7 +9,7 @@ use byteorder::{BigEndian, ByteOrder};
 
 const NAME: [u8; 4] = *b"KENH";
 pub(crate) const NAME_AT: u64 = 8;
-pub(crate) const PAGES_AT: u64 = 12;
+const PAGES_AT: u64 = 12;
 
 // Those of a heap with the root 0.
 pub(crate) fn empty(pages: u32) -> [u8; 16]

@@ -2,7 +2,7 @@
 ghost use Rattle.std.specs.Prelude.{◌≡◌, ◌+◌, ◌-◌, ◌<◌, ◌≤◌, [], ◌∷◌, length, take, drop, Some, None, IfOk, OnOk, OnErr, IfErr, IfSome, IsSome, IsSomeAnd, is_some, option_map, ◌*◌, ◌^◌};
 ghost use Rattle.ken_model.specs.declared.values.Value.{Value};
 ghost use Rattle.ken_model.specs.Network.{empty_heap};
-ghost use Rattle.ken_model.specs.Heap.{first_gap, without_block, block_at, place_past};
+ghost use Rattle.ken_model.specs.Heap.{IsHeap, first_gap, without_block, block_at, place_past};
 ghost use Rattle.ken_pages.specs.Paged.{dirty_pages, frozen_pages, shared_pages};
 ghost use Rattle.ken_alloc.specs.Layout.{StandsFor, BreaksAt, part};
 ghost use Rattle.ken_alloc.specs.Blocks.{value_of};
@@ -98,9 +98,6 @@ impl Objects {
         ensures idle { IfOk result (λ o. o.begun ≡ None) }
     {
         let count = pages.pages();
-        if count == 0 || count > MAX_PAGES {
-            return Err(AllocError);
-        }
         pages.begin();
         lay_out(&mut pages, count)?;
         pages.commit();
@@ -153,7 +150,7 @@ impl Objects {
         ensures unchanged { OnErr result (self.new ≡ self.old) }
     {
         let Some(hole) = walk::hole(&self.pages, place) else {
-            return Ok(());
+            unreachable!()
         };
         let head = Head {
             span: (hole.to - hole.from) as u32,
@@ -171,7 +168,8 @@ impl Objects {
 
     /// The place of the first block.
     pub fn first(&self) -> Option<u64>
-        ensures { result ≡ place_past 0 self.now.value.blocks }
+        ensures place { result ≡ place_past 0 self.now.value.blocks }
+        ensures heap { IsHeap self.now.value }
     {
         place_of(walk::block_from(&self.pages, CELLS))
     }

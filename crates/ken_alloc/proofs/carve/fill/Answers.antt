@@ -1,7 +1,5 @@
-use Rattle.std.proofs.Common.{◌≡◌, ◌+◌, ◌≤◌, ◌∙◌, ℕ, length, replicate, arith}
+use Rattle.std.proofs.Common.{◌+◌, ◌≤◌, ◌∙◌, length, arith}
 use Rattle.std.proofs.lemmas.List.{take-replicate}
-use Rattle.ken_alloc.specs.Layout.{part}
-use Rattle.ken_alloc.specs.Kept.{KeepsOutside}
 use Rattle.ken_alloc.proofs.Kept.{zeros_more}
 use Rattle.ken_alloc.proofs.carve.fill.Goals as goal
 

@@ -1,4 +1,4 @@
-use Rattle.std.proofs.Common.{◌≡◌, ℕ, ◌-◌, length, sym, ap, ◌∙◌, arith}
+use Rattle.std.proofs.Common.{◌≡◌, ℕ, ◌-◌, length, ap, ◌∙◌}
 use Rattle.ken_alloc.proofs.Laid.{laid_out}
 use Rattle.ken_alloc.proofs.objects.lay_out.Goals as goal
 

@@ -1,4 +1,4 @@
-use Rattle.ken_alloc.proofs.Walks.{head_within, over_gap, at_block, at_end}
+use Rattle.ken_alloc.proofs.Walks.{head_within, over_gap}
 use Rattle.std.proofs.Common.{ℕ, ◌+◌, ap, sym, ◌∙◌}
 use Rattle.ken_alloc.proofs.walk.gap_end.Goals as goal
 

@@ -1,10 +1,7 @@
-use Rattle.std.proofs.Common.{◌≡◌, ℕ, ◌+◌, Option, Some, None, List, length, replicate, sym, ap, ◌∙◌, subst, arith}
+use Rattle.std.proofs.Common.{◌+◌, Option, length, sym, ap, ◌∙◌, arith}
 use Rattle.std.specs.Prelude.{option_map}
-use Rattle.ken_model.specs.declared.values.Value.{Value}
-use Rattle.ken_model.specs.Heap.{rounded, with_block}
+use Rattle.ken_model.specs.Heap.{rounded}
 use Rattle.ken_alloc.specs.declared.walk.Gap.{Gap}
-use Rattle.ken_alloc.specs.Layout.{StandsFor}
-use Rattle.ken_alloc.specs.Walk.{fit_from}
 use Rattle.ken_alloc.proofs.Unique.{value_of-unique}
 use Rattle.ken_alloc.proofs.Cells.{IsRoom}
 use Rattle.ken_alloc.proofs.Held.{stands_seen, value_seen, fit_seen, place_of_first, room_seen, stands_with, stands_inside, held_by, on_err_any}

@@ -1,9 +1,7 @@
-use Rattle.std.proofs.Common.{◌≡◌, ℕ, length, None, sym, ap, ◌∙◌, subst, arith}
+use Rattle.std.proofs.Common.{length, ap, ◌∙◌}
 use Rattle.ken_pages.specs.Paged.{Paged}
 use Rattle.ken_model.specs.Network.{empty_heap}
-use Rattle.ken_alloc.specs.Layout.{StandsFor}
 use Rattle.ken_alloc.specs.Blocks.{value_of}
-use Rattle.ken_alloc.specs.Objects.{IsHeld}
 use Rattle.ken_alloc.proofs.Unique.{value_of-unique, StandsFor-value}
 use Rattle.ken_alloc.proofs.objects.Objects.format.Goals as goal
 

@@ -1,15 +1,13 @@
-use Rattle.std.proofs.Common.{◌≡◌, ℕ, ◌+◌, ◌-◌, Option, Some, None, is_some, List, length, sym, ap, ◌∙◌, subst, arith}
-use Rattle.std.proofs.lemmas.Result.{on_ok_weaker, on_err_weaker}
-use Rattle.ken_pages.specs.Paged.{Paged}
-use Rattle.ken_model.specs.declared.values.Value.{Value}
+use Rattle.std.proofs.Common.{◌≡◌, Option, is_some, ap, arith}
+use Rattle.std.proofs.lemmas.Result.{on_ok_weaker}
 use Rattle.ken_model.specs.Heap.{without_block, block_at}
 use Rattle.ken_alloc.specs.declared.walk.Gap.{Gap}
 use Rattle.ken_alloc.proofs.Unique.{value_of-unique}
-use Rattle.ken_alloc.proofs.Held.{stands_seen, value_seen, hole_found, hole_seen, is_some_seen, stands_without, held_after, err_same, freed}
+use Rattle.ken_alloc.proofs.Held.{stands_seen, value_seen, hole_found, hole_seen, is_some_seen, held_after, err_same, freed}
 use Rattle.ken_alloc.proofs.objects.Objects.free.Goals as goal
 
-pub returns-in_default-clause-value : goal.returns-in_default-clause-value
-returns-in_default-clause-value c =
+pub unreachable-requires : goal.unreachable-requires
+unreachable-requires c =
     let seen : is_some c.hole.result ≡ is_some (block_at c.args.place c.args.self.now.value.blocks) = is_some_seen c.self.inside.pages.bytes c.args.self.now.value c.args.place c.hole.result (value_seen c.self.inside.pages c.args.self.now c.self.view_is) c.hole.ensures in
     let none = ap (λ (o : Option Gap). is_some o) c.in_default.is in
     let some = c.requires.block in

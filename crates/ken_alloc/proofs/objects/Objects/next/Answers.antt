@@ -1,9 +1,9 @@
-use Rattle.std.proofs.Common.{◌≡◌, ℕ, ◌+◌, List, length, Option, IfSome, sym, ap, ◌∙◌, subst, arith}
+use Rattle.std.proofs.Common.{◌≡◌, ℕ, ◌+◌, length, Option, sym, ap, ◌∙◌, subst}
 use Rattle.std.specs.Prelude.{option_map}
 use Rattle.ken_model.specs.Heap.{rounded}
 use Rattle.ken_alloc.specs.declared.walk.Found.{Found}
 use Rattle.ken_alloc.specs.Walk.{IsWalk}
-use Rattle.ken_alloc.proofs.Held.{IsSeen, stands_seen, block_seen, end_seen, place_seen}
+use Rattle.ken_alloc.proofs.Held.{IsSeen, stands_seen, block_seen, end_seen}
 use Rattle.ken_alloc.proofs.Walks.{can_walk}
 use Rattle.ken_alloc.proofs.objects.Objects.next.Goals as goal
 

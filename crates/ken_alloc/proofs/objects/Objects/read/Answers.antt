@@ -1,4 +1,4 @@
-use Rattle.std.proofs.Common.{◌≡◌, ℕ, ◌+◌, List, length, take, drop, Option, IfSome, sym, ap, ◌∙◌, subst, arith}
+use Rattle.std.proofs.Common.{◌≡◌, ℕ, List, length, take, drop, Option, IfSome, sym, ap, ◌∙◌, subst, arith}
 use Rattle.ken_alloc.proofs.Held.{IsWithin, stands_seen, part_seen, part_of_part}
 use Rattle.ken_alloc.proofs.objects.Objects.read.Goals as goal
 
