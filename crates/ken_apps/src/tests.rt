@@ -48,8 +48,8 @@ struct Case<'a> {
     sent: &'a [(u8, &'a [u8])],
     out: &'a [u8],
     draws: &'a [u64],
-    // The blocks of the heap after it, by their places.
-    blocks: &'a [(u64, &'a [u8])],
+    // The one block of the heap after it, at 32: none where it is empty.
+    pair: &'a [u8],
 }
 
 // A heap of one page with that root, and with a turn begun.
@@ -91,9 +91,9 @@ fn try_case(rt: &(impl Abort + AllocGlobal), case: &Case<'_>) -> Result<(), Fail
     )?;
     let value = objects.value(rt.alloc())?;
     assert_eq!(rt; (value.size, value.root), (256, case.root_then));
-    assert_eq!(rt; value.blocks.len(), case.blocks.len());
-    for (block, want) in value.blocks.as_slice().iter().zip(case.blocks) {
-        assert_eq!(rt; (block.place, block.bytes.as_slice()), *want);
+    assert_eq!(rt; value.blocks.is_empty(), case.pair.is_empty());
+    for block in value.blocks.as_slice() {
+        assert_eq!(rt; (block.place, block.bytes.as_slice()), (32, case.pair));
     }
     assert_eq!(rt; made.draws.as_slice(), case.draws);
     assert_eq!(rt; oracle.asked, case.draws.len() as u64);
@@ -129,7 +129,7 @@ fn make_case<'a>(
         sent,
         out,
         draws,
-        blocks: &[],
+        pair: b"",
     }
 }
 
@@ -250,10 +250,10 @@ fn mix_sends_a_count_where_the_word_says(rt: HostRuntime) -> Result<(), Fail> {
     Ok(())
 }
 
-// A turn of kv in an empty heap: what it outputs, and the pair that it keeps at 32, if any.
-fn kv<'a>(payload: &'a [u8], out: &'a [u8], blocks: &'a [(u64, &'a [u8])]) -> Case<'a> {
+// A turn of kv in an empty heap: what it outputs, and the pair that it keeps, if any.
+fn kv<'a>(payload: &'a [u8], out: &'a [u8], pair: &'a [u8]) -> Case<'a> {
     Case {
-        blocks,
+        pair,
         ..make_case(Kind::Kv, payload, 5, &[], out, &[])
     }
 }
@@ -264,18 +264,14 @@ fn kv_keeps_pairs_in_blocks(rt: HostRuntime) -> Result<(), Fail> {
     longest[..6].copy_from_slice(b"put k ");
     let mut longer = [b'x'; 229];
     longer[..6].copy_from_slice(b"put k ");
-    let short = [(32, b"a 1".as_slice())];
-    let spaces = [(32, b"key a b".as_slice())];
-    let empty = [(32, b"a ".as_slice())];
-    let whole = [(32, &longest[4..])];
     let cases = [
-        kv(b"put a 1", b"ok", &short),
-        kv(b"put key a b", b"ok", &spaces),
-        kv(b"put a ", b"ok", &empty),
-        kv(&longest, b"ok", &whole),
-        kv(&longer, b"full", &[]),
-        kv(b"get a", b"none", &[]),
-        kv(b"del a", b"none", &[]),
+        kv(b"put a 1", b"ok", b"a 1"),
+        kv(b"put key a b", b"ok", b"key a b"),
+        kv(b"put a ", b"ok", b"a "),
+        kv(&longest, b"ok", &longest[4..]),
+        kv(&longer, b"full", b""),
+        kv(b"get a", b"none", b""),
+        kv(b"del a", b"none", b""),
     ];
     for case in &cases {
         try_case(&rt, case)?;
