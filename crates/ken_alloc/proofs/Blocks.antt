@@ -105,18 +105,27 @@ module _ (xs zs : List ℕ) (size place at : ℕ) (whole : length xs ≡ size) w
         let le : end_of b ≤ size = AreCells-le xs (end_of b) size bs cells.3 in
         let kept : KeepsOutside (place + at) (place + at + length zs) xs (written xs (place + at) zs) = KeepsOutside-written xs zs (place + at) (omega (arith, here.0)) in
         let long : length (written b.bytes at zs) ≡ length b.bytes = length-written b.bytes at zs fits_b in
-        at_true (λ (l : List Block). AreCells (written xs (place + at) zs) from size l) (eqb b.place place) (record { place = b.place; bytes = written b.bytes at zs } ∷ bs) (b ∷ rewritten place at zs bs) here.2
-        (cells.0, IsGap-below (place + at) (place + at + length zs) xs (written xs (place + at) zs) kept from (b.place - 16) (omega (arith, here.0, cells.0)) cells.1,
-        (omega (arith, long, cells.2.0), cells.2.1, subst (λ (n : ℕ). HasHead (written xs (place + at) zs) (b.place - 16) (16 + rounded n) n) (sym long) (HasHead-below (place + at) (place + at + length zs) (b.place - 16) (16 + rounded (length b.bytes)) (length b.bytes) xs (written xs (place + at) zs) kept (omega (arith, here.0, cells.0)) cells.2.2),
-        subst (λ (n : ℕ). part b.place n (written xs (place + at) zs) ≡ written b.bytes at zs) (sym long) (part-written_within xs zs b.place (length b.bytes) at (place + at) (omega (arith, here.0)) fits_b (omega arith) ∙ ap (λ (ws : List ℕ). written ws at zs) cells.2.3)),
-        subst (λ (n : ℕ). AreCells (written xs (place + at) zs) (b.place + rounded n) size bs) (sym long) (AreCells-above (place + at) (place + at + length zs) xs (written xs (place + at) zs) kept (end_of b) size bs (omega (arith, here.0)) cells.3))
+        at_true (λ (l : List Block). AreCells (written xs (place + at) zs) from size l) (eqb b.place place) (record { place = b.place; bytes = written b.bytes at zs } ∷ bs) (b ∷ rewritten place at zs bs) here.2 (
+          cells.0,
+          IsGap-below (place + at) (place + at + length zs) xs (written xs (place + at) zs) kept from (b.place - 16) (omega (arith, here.0, cells.0)) cells.1,
+          (
+            omega (arith, long, cells.2.0),
+            cells.2.1,
+            subst (λ (n : ℕ). HasHead (written xs (place + at) zs) (b.place - 16) (16 + rounded n) n) (sym long) (HasHead-below (place + at) (place + at + length zs) (b.place - 16) (16 + rounded (length b.bytes)) (length b.bytes) xs (written xs (place + at) zs) kept (omega (arith, here.0, cells.0)) cells.2.2),
+            subst (λ (n : ℕ). part b.place n (written xs (place + at) zs) ≡ written b.bytes at zs) (sym long) (part-written_within xs zs b.place (length b.bytes) at (place + at) (omega (arith, here.0)) fits_b (omega arith) ∙ ap (λ (ws : List ℕ). written ws at zs) cells.2.3),
+          ),
+          subst (λ (n : ℕ). AreCells (written xs (place + at) zs) (b.place + rounded n) size bs) (sym long) (AreCells-above (place + at) (place + at + length zs) xs (written xs (place + at) zs) kept (end_of b) size bs (omega (arith, here.0)) cells.3),
+        )
     | inr on ↦
         let found_on : block_at place bs ≡ Some ys = sym on.1 ∙ found in
         let there : StandsAt xs size (end_of b) place bs = stands_at xs size place (end_of b) bs cells.3 (subst (λ (o : Option (List ℕ)). IsSome o) (sym found_on) refl) in
         let is : there.bytes ≡ ys = (let e : Some there.bytes ≡ Some ys = sym there.found ∙ found_on in cc) in
         let le : place + rounded (length there.bytes) ≤ size = AreCells-le xs (place + rounded (length there.bytes)) size there.rest there.after in
         let kept : KeepsOutside (place + at) (place + at + length zs) xs (written xs (place + at) zs) = KeepsOutside-written xs zs (place + at) (omega (arith, ap length is)) in
-        at_false (λ (l : List Block). AreCells (written xs (place + at) zs) from size l) (eqb b.place place) (record { place = b.place; bytes = written b.bytes at zs } ∷ bs) (b ∷ rewritten place at zs bs) on.0
-        (cells.0, IsGap-below (place + at) (place + at + length zs) xs (written xs (place + at) zs) kept from (b.place - 16) (omega (arith, there.past, cells.0)) cells.1, IsLaid-below (place + at) (place + at + length zs) xs (written xs (place + at) zs) kept b (omega (arith, cells.0)) (omega (arith, there.past)) cells.2,
-        AreCells-rewritten (end_of b) bs ys cells.3 found_on fits)
+        at_false (λ (l : List Block). AreCells (written xs (place + at) zs) from size l) (eqb b.place place) (record { place = b.place; bytes = written b.bytes at zs } ∷ bs) (b ∷ rewritten place at zs bs) on.0 (
+          cells.0,
+          IsGap-below (place + at) (place + at + length zs) xs (written xs (place + at) zs) kept from (b.place - 16) (omega (arith, there.past, cells.0)) cells.1,
+          IsLaid-below (place + at) (place + at + length zs) xs (written xs (place + at) zs) kept b (omega (arith, cells.0)) (omega (arith, there.past)) cells.2,
+          AreCells-rewritten (end_of b) bs ys cells.3 found_on fits,
+        )
   ]

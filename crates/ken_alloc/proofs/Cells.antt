@@ -122,10 +122,17 @@ module _ (xs ys : List ℕ) (size n : ℕ) (gap : Gap) (new : Block) (kept : Kee
     | inr here ↦
         elim (lt_cases new.place b.place) [
           | inl t ↦
-              at_true (λ (l : List Block). AreCells ys from size l) (ltb new.place b.place) (new ∷ b ∷ bs) (b ∷ with_block new bs) t.0
-              (omega (arith, here.1), (omega (arith, here.1), λ (some : from < new.place - 16). absurd (omega (arith, here.1))), laid,
-              (omega (arith, here.2, here.0), subst (λ (k : ℕ). IsGap ys (end_of new) k) here.2 gap_after, IsLaid-above gap.from gap.to xs ys kept b (omega (arith, here.2, here.0)) cells.2,
-              AreCells-above gap.from gap.to xs ys kept (end_of b) size bs (omega (arith, here.2)) cells.3))
+              at_true (λ (l : List Block). AreCells ys from size l) (ltb new.place b.place) (new ∷ b ∷ bs) (b ∷ with_block new bs) t.0 (
+                omega (arith, here.1),
+                (omega (arith, here.1), λ (some : from < new.place - 16). absurd (omega (arith, here.1))),
+                laid,
+                (
+                  omega (arith, here.2, here.0),
+                  subst (λ (k : ℕ). IsGap ys (end_of new) k) here.2 gap_after,
+                  IsLaid-above gap.from gap.to xs ys kept b (omega (arith, here.2, here.0)) cells.2,
+                  AreCells-above gap.from gap.to xs ys kept (end_of b) size bs (omega (arith, here.2)) cells.3,
+                ),
+              )
           | inr f ↦ absurd (omega (arith, f.1, here.0, here.1))
         ]
   ]
@@ -139,12 +146,18 @@ module _ (xs ys : List ℕ) (size n : ℕ) (gap : Gap) (kept : KeepsOutside (gap
   AreCells-inside from (b ∷ bs) even cells h = elim (fit_step size n from gap b bs h) [
     | inl on ↦
         let room : IsRoom size (16 + rounded n) (end_of b) gap = IsRoom-fit xs size n gap whole (end_of b) bs (end_even b cells.2.1) cells.3 on.1 in
-        let le : end_of b ≤ gap.from = room.past in
-        (cells.0, IsGap-below (gap.from + 16) gap.to xs ys kept from (b.place - 16) (omega (arith, cells.0)) cells.1, IsLaid-below (gap.from + 16) gap.to xs ys kept b (omega (arith, cells.0)) (omega arith) cells.2,
-        AreCells-inside (end_of b) bs (end_even b cells.2.1) cells.3 on.1)
-    | inr here ↦
-        (cells.0, IsGap-below (gap.from + 16) gap.to xs ys kept from (b.place - 16) (omega (arith, here.1)) cells.1, IsLaid-above (gap.from + 16) gap.to xs ys kept b (omega (arith, here.2, here.0)) cells.2,
-        AreCells-above (gap.from + 16) gap.to xs ys kept (end_of b) size bs (omega (arith, here.2)) cells.3)
+        let le : end_of b ≤ gap.from = room.past in (
+          cells.0,
+          IsGap-below (gap.from + 16) gap.to xs ys kept from (b.place - 16) (omega (arith, cells.0)) cells.1,
+          IsLaid-below (gap.from + 16) gap.to xs ys kept b (omega (arith, cells.0)) (omega arith) cells.2,
+          AreCells-inside (end_of b) bs (end_even b cells.2.1) cells.3 on.1,
+        )
+    | inr here ↦ (
+      cells.0,
+      IsGap-below (gap.from + 16) gap.to xs ys kept from (b.place - 16) (omega (arith, here.1)) cells.1,
+      IsLaid-above (gap.from + 16) gap.to xs ys kept b (omega (arith, here.2, here.0)) cells.2,
+      AreCells-above (gap.from + 16) gap.to xs ys kept (end_of b) size bs (omega (arith, here.2)) cells.3,
+    )
   ]
 
 -- the hole that a block leaves, one block on
@@ -180,11 +193,12 @@ module _ (xs ys : List ℕ) (size place : ℕ) (gap : Gap) (kept : KeepsOutside 
   merged from b [] le laid cells is to =
       let e = AreCells-le xs (end_of b) size [] cells in
       (omega arith, λ (some : from < size). subst (λ (k : ℕ). HasHead ys from (k - from) 0) to (subst (λ (k : ℕ). HasHead ys k (gap.to - k) 0) is head))
-  merged from b (c ∷ cs) le laid cells is to =
-      (omega (arith, cells.0),
-      (omega (arith, cells.0), λ (some : from < c.place - 16). subst (λ (k : ℕ). HasHead ys from (k - from) 0) to (subst (λ (k : ℕ). HasHead ys k (gap.to - k) 0) is head)),
-      IsLaid-above gap.from (gap.from + 16) xs ys kept c (omega (arith, cells.0, laid.0)) cells.2,
-      AreCells-above gap.from (gap.from + 16) xs ys kept (end_of c) size cs (omega (arith, cells.0)) cells.3)
+  merged from b (c ∷ cs) le laid cells is to = (
+    omega (arith, cells.0),
+    (omega (arith, cells.0), λ (some : from < c.place - 16). subst (λ (k : ℕ). HasHead ys from (k - from) 0) to (subst (λ (k : ℕ). HasHead ys k (gap.to - k) 0) is head)),
+    IsLaid-above gap.from (gap.from + 16) xs ys kept c (omega (arith, cells.0, laid.0)) cells.2,
+    AreCells-above gap.from (gap.from + 16) xs ys kept (end_of c) size cs (omega (arith, cells.0)) cells.3,
+  )
 
   pub AreCells-without_block : (from : ℕ) (bs : List Block) → AreCells xs from size bs → hole_from from size place bs ≡ Some gap → AreCells ys from size (without_block place bs)
   AreCells-without_block from [] cells h = absurd cc
@@ -194,7 +208,10 @@ module _ (xs ys : List ℕ) (size place : ℕ) (gap : Gap) (kept : KeepsOutside 
         (merged from b bs cells.0 cells.2 cells.3 here.2 here.3)
     | inr on ↦
         let rest = IsRoom-hole xs size place gap (end_of b) bs cells.3 on.1 in
-        at_false (λ (l : List Block). AreCells ys from size l) (eqb b.place place) bs (b ∷ without_block place bs) on.0
-        (cells.0, IsGap-below gap.from (gap.from + 16) xs ys kept from (b.place - 16) (omega (arith, cells.0, rest.0)) cells.1, IsLaid-below gap.from (gap.from + 16) xs ys kept b (omega (arith, cells.0)) rest.0 cells.2,
-        AreCells-without_block (end_of b) bs cells.3 on.1)
+        at_false (λ (l : List Block). AreCells ys from size l) (eqb b.place place) bs (b ∷ without_block place bs) on.0 (
+          cells.0,
+          IsGap-below gap.from (gap.from + 16) xs ys kept from (b.place - 16) (omega (arith, cells.0, rest.0)) cells.1,
+          IsLaid-below gap.from (gap.from + 16) xs ys kept b (omega (arith, cells.0)) rest.0 cells.2,
+          AreCells-without_block (end_of b) bs cells.3 on.1,
+        )
   ]

@@ -117,10 +117,12 @@ module _ (xs : List ℕ) (v : Value) (stands : StandsFor xs v) where
       let long : length {A = ℕ} (replicate n 0) ≡ n = length-replicate {A = ℕ} n 0 in
       let new : Block = record { place = gap.from + 16; bytes = replicate n 0 } in
       let start : gap.from ≡ gap.from + 16 - 16 = omega arith in
-      let laid : IsLaid ys new =
-      (omega (arith, long), omega (arith, room.even),
-      subst (λ (k : ℕ). HasHead ys (gap.from + 16 - 16) (16 + rounded k) k) (sym long) (subst (λ (k : ℕ). HasHead ys k (16 + rounded n) n) start head),
-      subst (λ (k : ℕ). part (gap.from + 16) k ys ≡ replicate n 0) (sym long) zeros) in
+      let laid : IsLaid ys new = (
+        omega (arith, long),
+        omega (arith, room.even),
+        subst (λ (k : ℕ). HasHead ys (gap.from + 16 - 16) (16 + rounded k) k) (sym long) (subst (λ (k : ℕ). HasHead ys k (16 + rounded n) n) start head),
+        subst (λ (k : ℕ). part (gap.from + 16) k ys ≡ replicate n 0) (sym long) zeros,
+      ) in
       let after : IsGap ys (end_of new) gap.to = subst (λ (k : ℕ). IsGap ys (gap.from + 16 + rounded k) gap.to) (sym long) rest in
       let ends : end_of new ≤ gap.to = omega (arith, room.fits, long) in
       StandsFor-cells xs ys v gap.from gap.to (with_block new v.blocks) kept room.past stands

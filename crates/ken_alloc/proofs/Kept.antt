@@ -92,9 +92,10 @@ pub zeros_more : (first old new ys : List ℕ) (at done n : ℕ) → KeepsOutsid
 zeros_more first old new ys at done n before zeros is fits step =
     let long : length ys ≡ n = ap length is ∙ length-replicate {A = ℕ} n 0 in
     let kept : KeepsOutside (at + done) (at + done + n) old new = KeepsOutside-after old new ys (at + done) n long (omega arith) step in
-    let there : part (at + done) n new ≡ replicate n 0 = part_after old new ys (at + done) n long (omega arith) step ∙ is in
-    (take-add done n (drop at new)
-    ∙ ap (λ (ws : List ℕ). ws ++ take n (drop done (drop at new))) (kept.below at done (omega arith) ∙ zeros)
-    ∙ ap (λ (ws : List ℕ). replicate done 0 ++ ws) (ap (take n) (drop-drop done at new) ∙ there)
-    ∙ replicate-append-replicate done n 0,
-    KeepsOutside-trans at (at + done) (at + done) (at + done + n) at (at + (done + n)) first old new before kept (omega arith) (omega arith) (omega arith) (omega arith))
+    let there : part (at + done) n new ≡ replicate n 0 = part_after old new ys (at + done) n long (omega arith) step ∙ is in (
+      take-add done n (drop at new)
+          ∙ ap (λ (ws : List ℕ). ws ++ take n (drop done (drop at new))) (kept.below at done (omega arith) ∙ zeros)
+          ∙ ap (λ (ws : List ℕ). replicate done 0 ++ ws) (ap (take n) (drop-drop done at new) ∙ there)
+          ∙ replicate-append-replicate done n 0,
+      KeepsOutside-trans at (at + done) (at + done) (at + done + n) at (at + (done + n)) first old new before kept (omega arith) (omega arith) (omega arith) (omega arith),
+    )

@@ -8,7 +8,9 @@ use crate::Broken;
 use byteorder::{BigEndian, ByteOrder};
 
 const NAME: [u8; 4] = *b"KENH";
+
 pub(crate) const NAME_AT: u64 = 8;
+
 const PAGES_AT: u64 = 12;
 
 // Those of a heap with the root 0.

@@ -3,7 +3,9 @@
 
 mod adopt;
 mod carve;
+mod copy;
 mod faults;
+mod format;
 mod head;
 mod header;
 mod objects;

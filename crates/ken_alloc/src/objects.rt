@@ -1,10 +1,10 @@
 // Objects in a heap.
-ghost use Rattle.std.specs.Prelude.{◌≡◌, ◌+◌, ◌-◌, ◌<◌, ◌≤◌, [], ◌∷◌, length, take, drop, Some, None, IfOk, OnOk, OnErr, IfErr, IfSome, IsSome, IsSomeAnd, is_some, option_map, ◌*◌, ◌^◌};
+ghost use Rattle.std.specs.Prelude.{◌≡◌, ◌+◌, ◌-◌, ◌<◌, ◌≤◌, [], ◌∷◌, length, take, drop, Some, None, IfOk, OnOk, OnErr, IfErr, IfSome, IsSome, IsSomeAnd, is_some, ◌^◌};
 ghost use Rattle.ken_model.specs.declared.values.Value.{Value};
 ghost use Rattle.ken_model.specs.Network.{empty_heap};
 ghost use Rattle.ken_model.specs.Heap.{IsHeap, first_gap, without_block, block_at, place_past};
 ghost use Rattle.ken_pages.specs.Paged.{dirty_pages, frozen_pages, shared_pages};
-ghost use Rattle.ken_alloc.specs.Layout.{StandsFor, BreaksAt, part};
+ghost use Rattle.ken_alloc.specs.Layout.{StandsFor, BreaksAt};
 ghost use Rattle.ken_alloc.specs.Blocks.{value_of};
 ghost use Rattle.ken_alloc.specs.Objects.{IsBlock, with_zeros, rewritten};
 
@@ -13,11 +13,11 @@ mod tests;
 
 use crate::head::{self, CELLS, HEAD, Head};
 use crate::walk::{self, Found};
-use crate::{Broken, adopt, carve, header};
+use crate::{Broken, adopt, carve, copy, format};
 use byteorder::{BigEndian, ByteOrder};
 use ken_frame::Frame;
-use ken_model::{Block, Items, Octets, Value};
-use ken_pages::{MAX_PAGES, PageHeap};
+use ken_model::{Items, Value};
+use ken_pages::PageHeap;
 use std::alloc::{AllocError, Global};
 use std::marker::Model;
 use std::sync::Arc;
@@ -36,46 +36,6 @@ impl Model for Objects {
     ghost view = { λ o. heap_of o.pages };
 
     ghost invariant = { λ o. IsHeld o.pages };
-}
-
-// The place of a block that may have been found.
-fn place_of(found: Option<Found>) -> Option<u64>
-    ensures { result ≡ option_map (λ f. f.place) found }
-{
-    match found {
-        Some(found) => Some(found.place),
-        None => None,
-    }
-}
-
-// A copy of a block.
-fn copy_of(pages: &PageHeap, found: Found, alloc: Global) -> Result<Block, AllocError>
-    requires { found.place + found.len ≤ length pages.now.bytes }
-    ensures { IfOk result (λ b. b ≡ record { place = found.place; bytes = part found.place found.len pages.now.bytes }) }
-{
-    let mut bytes = vec![in alloc; 0; found.len as usize]?;
-    pages.read(found.place, &mut bytes);
-    Ok(Block {
-        place: found.place,
-        bytes: Octets::new(bytes),
-    })
-}
-
-// Writes root 0, the name, the number of pages, and one gap.
-fn lay_out(pages: &mut PageHeap, count: u32) -> Result<(), AllocError>
-    requires begun { IsSome pages.old.begun }
-    requires some { 1 ≤ count }
-    requires most { count ≤ MAX_PAGES }
-    requires size { length pages.old.bytes ≡ 256 * count }
-    ensures stands { OnOk result (StandsFor pages.new.bytes (empty_heap (length pages.old.bytes))) }
-    ensures begun { pages.new.begun ≡ pages.old.begun }
-{
-    pages.write(0, &header::empty(count))?;
-    let head = Head {
-        span: (head::size(pages) - CELLS) as u32,
-        len: 0,
-    };
-    head.write(pages, CELLS)
 }
 
 impl Objects {
@@ -99,7 +59,7 @@ impl Objects {
     {
         let count = pages.pages();
         pages.begin();
-        lay_out(&mut pages, count)?;
+        format::format(&mut pages, count)?;
         pages.commit();
         Ok(Objects { pages })
     }
@@ -171,7 +131,7 @@ impl Objects {
         ensures place { result ≡ place_past 0 self.now.value.blocks }
         ensures heap { IsHeap self.now.value }
     {
-        place_of(walk::block_from(&self.pages, CELLS))
+        walk::block_from(&self.pages, CELLS).map(|found| found.place)
     }
 
     /// The place of the next block.
@@ -180,7 +140,7 @@ impl Objects {
         ensures { result ≡ place_past place self.now.value.blocks }
     {
         let end = self.block(place).end();
-        place_of(walk::block_from(&self.pages, end))
+        walk::block_from(&self.pages, end).map(|found| found.place)
     }
 
     /// The length of a block in bytes, at least 1.
@@ -235,16 +195,10 @@ impl Objects {
     pub fn value(&self, alloc: Global) -> Result<Value, AllocError>
         ensures { IfOk result (λ v. v ≡ self.now.value) }
     {
-        let mut blocks = Vec::new(alloc);
-        let mut from = CELLS;
-        while let Some(found) = walk::block_from(&self.pages, from) {
-            blocks.push(copy_of(&self.pages, found, alloc)?)?;
-            from = found.end();
-        }
         Ok(Value {
             size: head::size(&self.pages),
             root: self.root(),
-            blocks: Items::new(blocks),
+            blocks: Items::new(copy::blocks(&self.pages, alloc)?),
         })
     }
 

@@ -1,6 +1,6 @@
 use Rattle.std.proofs.Common.{◌≡◌, ℕ, ◌-◌, length, ap, ◌∙◌}
 use Rattle.ken_alloc.proofs.Laid.{laid_out}
-use Rattle.ken_alloc.proofs.objects.lay_out.Goals as goal
+use Rattle.ken_alloc.proofs.format.format.Goals as goal
 
 pub returns-clause-stands : goal.returns-clause-stands
 returns-clause-stands c =
