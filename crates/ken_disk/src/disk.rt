@@ -1,4 +1,4 @@
-ghost use Rattle.std.specs.Prelude.{◌≡◌, ℕ, ◌+◌, ◌^◌, ◌≤◌, length, take, drop, OnOk, OnErr, IsErrOf};
+ghost use Rattle.std.specs.Prelude.{◌≡◌, ℕ, ◌+◌, ◌≤◌, length, take, drop, OnOk, OnErr, IsErrOf};
 ghost use Rattle.std.specs.declared.option.Option.{Option};
 ghost use Rattle.std.specs.declared.option.Option.TheVariants.{Some};
 ghost use Rattle.ken_disk.specs.declared.faults.DiskFault.TheVariants.{Memory};
@@ -8,6 +8,9 @@ ghost use Rattle.ken_disk.specs.Steps.{went, after_write, after_sync, WentDown, 
 
 use crate::DiskFault;
 use std::alloc::AllocError;
+
+/// The furthest end of a write, in bytes.
+pub const MAX_LEN: u64 = 1 << 40;
 
 /// Bytes that a crash may tear. Between two syncs a crash leaves any bytes in the ranges written since, and an end
 /// anywhere up to the furthest written one. After a sync that answers Ok it leaves what a read gives.
@@ -40,7 +43,7 @@ pub trait Disk {
     /// fails counts as written, since a crash may leave its bytes. After Memory nothing is written.
     fn write(&mut self, at: u64, bytes: &[u8]) -> Result<(), DiskFault>
         requires place { at ≤ size self.old }
-        requires end { at + length bytes.now ≤ 2 ^ 40 }
+        requires end { at + length bytes.now ≤ MAX_LEN }
         ensures story { told self.new ≡ went (after_write at bytes.now result) (told self.old) }
         ensures size { SizeAfter at (length bytes.now) result (size self.old) (size self.new) }
         ensures ready { OnOk result (ready self.new) }

@@ -7,6 +7,6 @@ mod faults;
 mod tests;
 mod writes;
 
-pub use disk::Disk;
+pub use disk::{Disk, MAX_LEN};
 pub use faults::DiskFault;
 pub use writes::write_through;

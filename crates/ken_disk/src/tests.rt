@@ -1,4 +1,5 @@
-ghost use Rattle.std.specs.Prelude.{◌≡◌, ◌+◌, ◌^◌, ◌≤◌, length, OnOk, OnErr, IsErrOf, None};
+ghost use Rattle.std.specs.Prelude.{◌≡◌, IsErrOf, MatchOption, None};
+ghost use Rattle.std.proofs.Common.{subst};
 
 use super::*;
 use std::alloc::AllocError;
@@ -37,7 +38,7 @@ impl Disk for Quiet {
 
     ghost ready = { λ d. Unit {0} };
 
-    ghost sized = { λ d h told. absurd (let no : ⊥ = Prim.cc in no) };
+    ghost sized = { λ d h told. absurd (subst (λ o. MatchOption o (Unit {0}) (λ _. ⊥)) told tt) };
 
     fn len(&self) -> u64 {
         self.len

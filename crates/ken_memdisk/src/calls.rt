@@ -1,5 +1,5 @@
 // The cuts of a disk, and its calls.
-ghost use Rattle.std.specs.Prelude.{◌≡◌, List, Option, true, false, OnOk, OnErr, IsErrOf, IfOk};
+ghost use Rattle.std.specs.Prelude.{◌≡◌, true, false, OnOk, OnErr, IsErrOf, IfOk};
 ghost use Rattle.ken_disk.specs.Causes.{HasCause};
 ghost use Rattle.ken_memdisk.specs.Calls.{no_calls, pick_at, fails_next, after_call, after_cut, after_failed_read, after_restart};
 
@@ -63,7 +63,7 @@ impl Calls {
     pub(crate) fn make(&mut self) -> Result<(), DiskFault>
         ensures ok { OnOk result ((fails_next self.old ≡ false) × (self.new ≡ after_call self.old)) }
         ensures err { OnErr result ((fails_next self.old ≡ true) × (self.new ≡ after_cut self.old)) }
-        ensures failed { IsErrOf result DiskFault.Memory → ⊥ }
+        ensures no_memory { IsErrOf result DiskFault.Memory → ⊥ }
         ensures cause { HasCause self.old.faults self.new.faults result }
     {
         self.made = self.made.saturating_add(1);
@@ -78,7 +78,7 @@ impl Calls {
     pub(crate) fn read(&mut self) -> Result<(), DiskFault>
         ensures ok { OnOk result ((self.old.down ≡ false) × (self.new ≡ self.old)) }
         ensures err { OnErr result ((self.old.down ≡ true) × (self.new ≡ after_failed_read self.old)) }
-        ensures failed { IsErrOf result DiskFault.Memory → ⊥ }
+        ensures no_memory { IsErrOf result DiskFault.Memory → ⊥ }
         ensures cause { HasCause self.old.faults self.new.faults result }
     {
         if self.down {

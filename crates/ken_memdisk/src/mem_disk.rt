@@ -1,11 +1,12 @@
 use crate::calls::{Calls, Cut};
 use crate::platter::Platter;
-use ken_disk::{Disk, DiskFault};
+use ken_disk::{Disk, DiskFault, MAX_LEN};
 use std::alloc::{AllocError, Global};
 use std::marker::Model;
 
-/// A disk in memory. It fails at its cuts, and from a cut on until the next restart; what a restart leaves of it is its
-/// pick's. It keeps all that was done to it, and so tells its story.
+/// A disk in memory. It fails at its cuts, and from a cut on until the next restart. A restart leaves the written bytes for
+/// pick 0, the synced bytes for pick 1, and for each other pick a torn image, the same one each time. The disk keeps all
+/// that was done to it, and so tells its story. Its `hint` is the pick of the cut that was met last, or 0.
 #[derive(Debug, Drop)]
 pub struct MemDisk {
     platter: Platter,
@@ -38,12 +39,12 @@ impl MemDisk {
 }
 
 impl Disk for MemDisk {
-    ghost use Rattle.std.specs.Prelude.{◌≡◌, ◌+◌, ◌^◌, ◌≤◌, length, take, drop, true, false, Some, OnOk, OnErr, IsErrOf};
+    ghost use Rattle.std.specs.Prelude.{◌≡◌, ◌+◌, ◌≤◌, length, take, drop, true, false, Some, OnOk, OnErr, IsErrOf};
     ghost use Rattle.std.proofs.Common.{ap};
     ghost use Rattle.std.specs.Option.{unwrap_or};
     ghost use Rattle.ken_disk.specs.declared.faults.DiskFault.TheVariants.{Failed, Memory};
     ghost use Rattle.ken_disk.specs.Causes.{HasCause};
-    ghost use Rattle.ken_disk.specs.Steps.{went, after_write, after_sync, WentDown, SizeAfter, goes_to, restarted};
+    ghost use Rattle.ken_disk.specs.Steps.{went, after_write, after_sync, WentDown, SizeAfter};
     ghost use Rattle.ken_memdisk.specs.Calls.{fails_next, after_call, after_cut, after_failed_read, after_restart};
     ghost use Rattle.ken_memdisk.specs.Platters.{restart_at};
 
@@ -71,7 +72,7 @@ impl Disk for MemDisk {
         ensures ok { OnOk result ((self.old.calls.down ≡ false) × (self.new.calls ≡ self.old.calls)) }
         ensures err { OnErr result ((self.old.calls.down ≡ true) × (self.new.calls ≡ after_failed_read self.old.calls)) }
         ensures none { OnErr result (buf.new ≡ buf.old) }
-        ensures failed { IsErrOf result Memory → ⊥ }
+        ensures no_memory { IsErrOf result Memory → ⊥ }
     {
         self.calls.read()?;
         self.platter.read(at, buf);
@@ -80,7 +81,7 @@ impl Disk for MemDisk {
 
     fn write(&mut self, at: u64, bytes: &[u8]) -> Result<(), DiskFault>
         requires place { at ≤ length self.old.held.story.now.seen }
-        requires end { at + length bytes.now ≤ 2 ^ 40 }
+        requires end { at + length bytes.now ≤ MAX_LEN }
         ensures story { Some self.new.held.story ≡ went (after_write at bytes.now result) (Some self.old.held.story) }
         ensures size { SizeAfter at (length bytes.now) result (length self.old.held.story.now.seen) (length self.new.held.story.now.seen) }
         ensures ready { OnOk result (self.new.held.ready ≡ true) }

@@ -1,7 +1,8 @@
 // What a crash leaves of a disk, by a pick.
-ghost use Rattle.std.specs.Prelude.{◌≡◌, ℕ, ◌+◌, ◌^◌, ◌<◌, ◌≤◌, [], ◌∷◌, ◌++◌, ◌||◌, reverse, length, get_or, false, IfOk, vec_len};
+ghost use Rattle.std.specs.Prelude.{◌≡◌, ℕ, ◌<◌, ◌≤◌, ◌||◌, reverse, length, get_or, false, IfOk, vec_len};
 ghost use Rattle.ken_memdisk.specs.Picks.{is_within, is_written, drawn, after_draw, byte_of, generator_after, image_of, torn};
 
+use ken_disk::MAX_LEN;
 use ken_num::Lcg;
 use std::alloc::{AllocError, Global};
 
@@ -14,7 +15,7 @@ pub(crate) fn image(
     ranges: &[(u64, u64)],
 ) -> Result<Vec<u8>, AllocError>
     requires within { length synced.now ≤ length seen.now }
-    requires bound { length seen.now ≤ 2 ^ 40 }
+    requires bound { length seen.now ≤ MAX_LEN }
     ensures { IfOk result (λ image. image.items ≡ image_of seen.now synced.now (reverse ranges.now) pick) }
 {
     match pick {
@@ -33,7 +34,7 @@ fn torn(
     ranges: &[(u64, u64)],
 ) -> Result<Vec<u8>, AllocError>
     requires within { length synced.now ≤ length seen.now }
-    requires bound { length seen.now ≤ 2 ^ 40 }
+    requires bound { length seen.now ≤ MAX_LEN }
     ensures { IfOk result (λ image. image.items ≡ torn seen.now synced.now (reverse ranges.now) pick) }
 {
     let mut words = Lcg::new(pick);

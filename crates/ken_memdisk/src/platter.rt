@@ -1,5 +1,5 @@
 // The bytes of a disk in memory, with all that was done to them.
-ghost use Rattle.std.specs.Prelude.{◌≡◌, ◌+◌, ◌^◌, ◌<◌, ◌≤◌, vec_capacity, length, take, drop, true, false, OnOk, OnErr};
+ghost use Rattle.std.specs.Prelude.{◌≡◌, ◌+◌, ◌<◌, ◌≤◌, vec_capacity, length, take, drop, true, false, OnOk, OnErr};
 ghost use Rattle.ken_disk.specs.Story.{IsImage, blank};
 ghost use Rattle.ken_disk.specs.Steps.{written, made_safe, goes_to};
 ghost use Rattle.ken_memdisk.specs.Picks.{picked};
@@ -7,6 +7,7 @@ ghost use Rattle.ken_memdisk.specs.Platters.{restart_at};
 
 use crate::steps::Step;
 use crate::{bytes, picks};
+use ken_disk::MAX_LEN;
 use std::alloc::{AllocError, Global};
 use std::marker::Model;
 
@@ -18,6 +19,7 @@ pub(crate) struct Platter {
     synced: Vec<u8>,
     // The start and length of each range that was written since the last sync or restart, oldest first.
     ranges: Vec<(u64, u64)>,
+    // All that was done, oldest first.
     steps: Vec<Step>,
 }
 
@@ -73,19 +75,18 @@ impl Platter {
     // Writes `bytes` from the place `at` on, and takes the memory that the next sync needs.
     pub(crate) fn write(&mut self, at: u64, bytes: &[u8]) -> Result<(), AllocError>
         requires place { at ≤ length self.old.story.now.seen }
-        requires end { at + length bytes.now ≤ 2 ^ 40 }
+        requires end { at + length bytes.now ≤ MAX_LEN }
         ensures ok { OnOk result (self.new.story ≡ goes_to (written at bytes.now self.old.story.now) self.old.story) }
         ensures ready { OnOk result (self.new.ready ≡ true) }
         ensures err { OnErr result (self.new.story ≡ self.old.story) }
     {
+        let end = at as usize + bytes.len();
         let kept = bytes.to_vec(self.alloc)?;
         self.ranges.reserve(1)?;
+        // One for this write, and one for the next sync.
         self.steps.reserve(2)?;
-        reserve_to(&mut self.seen, at as usize + bytes.len())?;
-        reserve_to(
-            &mut self.synced,
-            self.seen.len().max(at as usize + bytes.len()),
-        )?;
+        reserve_to(&mut self.seen, end)?;
+        reserve_to(&mut self.synced, self.seen.len().max(end))?;
         bytes::lay_over(&mut self.seen, at as usize, bytes);
         self.ranges.push((at, bytes.len() as u64)).unwrap();
         self.steps.push(Step::Wrote(at, kept)).unwrap();
@@ -121,7 +122,7 @@ impl Platter {
         let copy = image.to_vec(self.alloc)?;
         self.seen = image;
         self.synced = copy;
-        self.ranges.clear();
+        self.ranges = Vec::new(self.alloc);
         self.steps.push(Step::Restarted(pick)).unwrap();
         Ok(())
     }

@@ -94,3 +94,12 @@ fn calls_are_counted_over_restarts(rt: HostRuntime) -> Result<(), Fail> {
     assert_eq!(rt; disk.sync(), Ok(()));
     Ok(())
 }
+
+// Takes what another thread may be given.
+fn take<T: Send + Drop>(_value: T) {}
+
+#[test]
+fn another_thread_may_be_given_a_disk(rt: HostRuntime) -> Result<(), Fail> {
+    take(MemDisk::new(rt.alloc(), &[])?);
+    Ok(())
+}
