@@ -9,5 +9,4 @@ pub mod Held
 pub mod Laid
 pub mod Adopted
 pub mod Stuck
-
 pub mod Valid

@@ -1,0 +1,73 @@
+ghost use Rattle.std.specs.Prelude.{◌≡◌, ℕ, ◌+◌, ◌≤◌, length, take, drop, OnOk, OnErr, IsErrOf};
+ghost use Rattle.std.specs.declared.option.Option.{Option};
+ghost use Rattle.std.specs.declared.option.Option.TheVariants.{Some};
+ghost use Rattle.ken_disk.specs.declared.faults.DiskFault.TheVariants.{Memory};
+ghost use Rattle.ken_disk.specs.Causes.{HasCause};
+ghost use Rattle.ken_disk.specs.Story.{Story, Tells};
+ghost use Rattle.ken_disk.specs.Steps.{went, after_write, after_sync, WentDown, SizeAfter};
+
+use crate::DiskFault;
+use std::alloc::AllocError;
+
+/// The furthest end of a write, in bytes.
+pub const MAX_LEN: u64 = 1 << 40;
+
+/// Bytes that a crash may tear. Between two syncs a crash leaves any bytes in the ranges written since, and an end
+/// anywhere up to the furthest written one. After a sync that answers Ok it leaves what a read gives.
+pub trait Disk {
+    /// What it holds and held, where the disk tells.
+    ghost told: { Self → Option Story };
+
+    /// How long it is, in bytes. Every disk tells this.
+    ghost size: { Self → ℕ };
+
+    /// How many calls have failed. An implementation may let the count stand at 2^64 - 1.
+    ghost faults: { Self → ℕ };
+
+    /// It has the memory that its next sync needs.
+    ghost ready: { Self → Type 0 };
+
+    /// How long it is, in bytes.
+    fn len(&self) -> u64
+        ensures { result ≡ size self.now };
+
+    /// Fills `buf` with the bytes from the place `at` on. After an error nothing is known of `buf`.
+    fn read(&mut self, at: u64, buf: &mut [u8]) -> Result<(), DiskFault>
+        requires { at + length buf.old ≤ size self.old }
+        ensures bytes { Tells (told self.old) (λ h. OnOk result (buf.new ≡ take (length buf.old) (drop at h.now.seen))) }
+        ensures story { told self.new ≡ told self.old }
+        ensures size { size self.new ≡ size self.old }
+        ensures cause { HasCause (faults self.old) (faults self.new) result };
+
+    /// Writes `bytes` from the place `at` on, past the end too. It takes the memory that its sync will need. A write that
+    /// fails counts as written, since a crash may leave its bytes. After Memory nothing is written.
+    fn write(&mut self, at: u64, bytes: &[u8]) -> Result<(), DiskFault>
+        requires place { at ≤ size self.old }
+        requires end { at + length bytes.now ≤ MAX_LEN }
+        ensures story { told self.new ≡ went (after_write at bytes.now result) (told self.old) }
+        ensures size { SizeAfter at (length bytes.now) result (size self.old) (size self.new) }
+        ensures ready { OnOk result (ready self.new) }
+        ensures cause { HasCause (faults self.old) (faults self.new) result };
+
+    /// Makes safe what a read gives. After an error nothing more is safe than before. A sync straight after a write that
+    /// answered Ok wants no memory.
+    fn sync(&mut self) -> Result<(), DiskFault>
+        ensures story { told self.new ≡ went (after_sync result) (told self.old) }
+        ensures size { size self.new ≡ size self.old }
+        ensures ready { ready self.old → IsErrOf result Memory → ⊥ }
+        ensures cause { HasCause (faults self.old) (faults self.new) result };
+
+    /// Crashes. The disk then holds one of its possible images, which `pick` may choose, and nothing is pending. After an
+    /// error it is as before.
+    fn restart(&mut self, pick: u64) -> Result<(), AllocError>
+        ensures story { OnOk result (WentDown (told self.old) (told self.new)) }
+        ensures memory { OnErr result (told self.new ≡ told self.old) }
+        ensures size { OnErr result (size self.new ≡ size self.old) }
+        ensures faults { faults self.new ≡ faults self.old };
+
+    /// The pick that a disk which fails proposes for its restart. Nothing is promised of it.
+    fn hint(&self) -> u64;
+
+    /// The size is that of what a read gives.
+    ghost sized: { (disk : Self) (h : Story) → told disk ≡ Some h → size disk ≡ length h.now.seen };
+}

@@ -1,0 +1,4 @@
+pub mod Ranges
+pub mod Images
+pub mod Kept
+pub mod Caught

@@ -1,0 +1,15 @@
+use Rattle.std.proofs.Common.{rules, subst}
+use Rattle.ken_disk.specs.Story.{IsImage}
+use Rattle.ken_memdisk.specs.Disks.{Held}
+use Rattle.ken_memdisk.specs.Picks.{picked}
+use Rattle.ken_memdisk.proofs.Images.{image-picked}
+use Rattle.ken_memdisk.proofs.Kept.{kept_by_restart}
+use Rattle.ken_memdisk.proofs.platter.Platter.restart.Goals as goal
+
+pub invariant_of-self-2 : goal.invariant_of-self-2
+invariant_of-self-2 c =
+    kept_by_restart _ _ _ _ _ _ c.self.inside.steps.items c.push.new.self.items c.args.pick c.self.invariant (rw (c.deref.ensures.value, c.deref-2.ensures.value, c.deref-3.ensures.value) at c.in_ok-image.ensures) (search rules) (search rules) (search rules)
+
+pub returns-clause-image : goal.returns-clause-image
+returns-clause-image c =
+    subst (λ (h : Held). IsImage h.story.now (picked c.args.pick h.story.now)) c.self.view_is (image-picked c.args.pick _ c.self.invariant.sound)

@@ -1,0 +1,51 @@
+-- Which calls of a disk in memory fail.
+use Rattle.std.specs.Prelude.{ℕ, ◌||◌, ◌==◌, List, Bool, true, false, Option, is_some}
+use Rattle.std.specs.List.{find}
+use Rattle.std.specs.Option.{option_map, unwrap_or}
+use Rattle.ken_disk.specs.Causes.{risen}
+use Rattle.ken_memdisk.specs.declared.calls.Cut.{Cut}
+
+-- the cuts, and the writes and syncs so far
+pub record CallCounts : Type 0 where
+  pub cuts : List Cut
+  -- how many writes and syncs were made, failed ones too
+  pub made : ℕ
+  -- a cut was met since the last restart
+  pub down : Bool
+  -- the pick of the cut that was met last, or 0
+  pub hint : ℕ
+  -- how many reads, writes and syncs failed
+  pub faults : ℕ
+
+-- before the first call
+abbrev pub no_calls : List Cut → CallCounts
+no_calls cuts = record { cuts = cuts; made = 0; down = false; hint = 0; faults = 0 }
+
+-- the pick of the first cut on the list that is at this call; calls are numbered from 1
+abbrev pub pick_at : List Cut → ℕ → Option ℕ
+pick_at cuts call = option_map (λ cut. cut.pick) (find (λ cut. cut.call == call) cuts)
+
+-- whether the next write or sync fails: it is at a cut, or comes after one with no restart between
+abbrev pub fails_next : CallCounts → Bool
+fails_next c = c.down || is_some (pick_at c.cuts (risen c.made))
+
+-- a write or sync was made
+abbrev pub after_call : CallCounts → CallCounts
+after_call c = record c { made = risen c.made }
+
+-- one failed
+abbrev pub after_cut : CallCounts → CallCounts
+after_cut c = record c {
+  made = risen c.made;
+  down = true;
+  hint = unwrap_or (pick_at c.cuts (risen c.made)) c.hint;
+  faults = risen c.faults;
+}
+
+-- a read failed
+abbrev pub after_failed_read : CallCounts → CallCounts
+after_failed_read c = record c { faults = risen c.faults }
+
+-- a restart
+abbrev pub after_restart : CallCounts → CallCounts
+after_restart c = record c { down = false }

@@ -1,0 +1,4 @@
+pub mod Calls
+pub mod Picks
+pub mod Disks
+pub mod Platters

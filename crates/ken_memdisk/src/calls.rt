@@ -1,0 +1,96 @@
+// The cuts of a disk, and its calls.
+ghost use Rattle.std.specs.Prelude.{◌≡◌, true, false, OnOk, OnErr, IsErrOf, IfOk};
+ghost use Rattle.ken_disk.specs.Causes.{HasCause};
+ghost use Rattle.ken_memdisk.specs.Calls.{no_calls, pick_at, fails_next, after_call, after_cut, after_failed_read, after_restart};
+
+use ken_disk::DiskFault;
+use std::alloc::{AllocError, Global};
+use std::marker::Model;
+
+/// A call that fails. `call` counts the writes and syncs of a disk from 1, over restarts too. `pick` is the pick that the
+/// disk then proposes for its restart.
+#[derive(Clone, Copy, Debug, PartialEq, Eq)]
+pub struct Cut {
+    pub call: u64,
+    pub pick: u64,
+}
+
+#[derive(Debug, Drop)]
+pub(crate) struct Calls {
+    cuts: Vec<Cut>,
+    made: u64,
+    down: bool,
+    hint: u64,
+    faults: u64,
+}
+
+impl Model for Calls {
+    ghost use Rattle.ken_memdisk.specs.Calls.{CallCounts};
+
+    ghost Value = { CallCounts };
+
+    ghost view = { λ c. record { cuts = c.cuts.items; made = c.made; down = c.down; hint = c.hint; faults = c.faults } };
+}
+
+// The pick of the first cut at this call.
+fn pick_at(cuts: &[Cut], call: u64) -> Option<u64>
+    ensures { result ≡ pick_at cuts.now call }
+{
+    cuts.iter().find(|cut| cut.call == call).map(|cut| cut.pick)
+}
+
+impl Calls {
+    pub(crate) fn new(alloc: Global, cuts: &[Cut]) -> Result<Self, AllocError>
+        ensures { IfOk result (λ c. c ≡ no_calls cuts.now) }
+    {
+        Ok(Calls {
+            cuts: cuts.to_vec(alloc)?,
+            made: 0,
+            down: false,
+            hint: 0,
+            faults: 0,
+        })
+    }
+
+    // The pick of the cut that was met last, or 0.
+    pub(crate) fn hint(&self) -> u64
+        ensures { result ≡ self.now.hint }
+    {
+        self.hint
+    }
+
+    // Counts a write or a sync, and says whether it fails.
+    pub(crate) fn make(&mut self) -> Result<(), DiskFault>
+        ensures ok { OnOk result ((fails_next self.old ≡ false) × (self.new ≡ after_call self.old)) }
+        ensures err { OnErr result ((fails_next self.old ≡ true) × (self.new ≡ after_cut self.old)) }
+        ensures no_memory { IsErrOf result DiskFault.Memory → ⊥ }
+        ensures cause { HasCause self.old.faults self.new.faults result }
+    {
+        self.made = self.made.saturating_add(1);
+        if let Some(pick) = pick_at(&self.cuts, self.made) {
+            self.down = true;
+            self.hint = pick;
+        }
+        self.read()
+    }
+
+    // Says whether a read fails.
+    pub(crate) fn read(&mut self) -> Result<(), DiskFault>
+        ensures ok { OnOk result ((self.old.down ≡ false) × (self.new ≡ self.old)) }
+        ensures err { OnErr result ((self.old.down ≡ true) × (self.new ≡ after_failed_read self.old)) }
+        ensures no_memory { IsErrOf result DiskFault.Memory → ⊥ }
+        ensures cause { HasCause self.old.faults self.new.faults result }
+    {
+        if self.down {
+            self.faults = self.faults.saturating_add(1);
+            return Err(DiskFault::Failed);
+        }
+        Ok(())
+    }
+
+    pub(crate) fn restart(&mut self)
+        ensures { self.new ≡ after_restart self.old }
+    {
+        self.down = false;
+    }
+}

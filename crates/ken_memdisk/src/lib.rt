@@ -1,0 +1,15 @@
+//! A disk in memory, for tests and worlds of runs: it fails at the calls that it is told to, and a pick chooses what a
+//! crash leaves of it.
+#![tactic(auto)]
+
+mod bytes;
+mod calls;
+mod mem_disk;
+mod picks;
+mod platter;
+mod steps;
+#[cfg(test)]
+mod tests;
+
+pub use calls::Cut;
+pub use mem_disk::MemDisk;
