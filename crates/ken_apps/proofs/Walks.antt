@@ -1,17 +1,16 @@
 -- A walk over blocks finds the pair of a key.
-use Rattle.std.proofs.Common.{◌≡◌, ℕ, ◌+◌, ◌-◌, ◌^◌, ◌<◌, ◌≤◌, List, [], ◌∷◌, length, Bool, true, false, ◌==◌, nat_lt, if◌then◌else◌, Option, Some, None, IsSome, IfSome, option_map, take, drop, ◌++◌, refl, ap, sym, ◌∙◌, arith, eq-eqb, ne_eqb, lt-ltb, ⊎_elim, subst}
+use Rattle.std.proofs.Common.{◌≡◌, ℕ, ◌+◌, ◌-◌, ◌^◌, ◌<◌, ◌≤◌, List, [], ◌∷◌, length, Bool, true, false, ◌==◌, nat_lt, if◌then◌else◌, Option, Some, None, IsSome, IfSome, option_map, take, drop, refl, ap, sym, ◌∙◌, arith, eq-eqb, ne_eqb, ⊎_elim, subst}
 use Rattle.std.specs.List.{position}
 use Rattle.std.proofs.lemmas.Bool.{cases_eq}
-use Rattle.std.proofs.lemmas.List.{length-drop, length-take-le, append-nil}
+use Rattle.std.proofs.lemmas.List.{length-take-le, append-nil}
 use Rattle.std.proofs.lemmas.Slice.Eq.{bytes_eq-Decides}
 use Rattle.std.proofs.lemmas.List.Quantifiers.{position-Some}
-use Rattle.std.proofs.Math.Seq.{take-length}
 use Rattle.std.proofs.Math.ListN.{drop_of_length-le}
 use Rattle.ken_frame.specs.Written.{written}
 use Rattle.ken_alloc.specs.Objects.{rewritten}
 use Rattle.ken_model.specs.declared.values.Block.{Block}
 use Rattle.ken_model.specs.declared.values.Value.{Value}
-use Rattle.ken_model.specs.Heap.{AreBlocks, end_of, rounded, block_at, place_past, with_block, first_gap_from}
+use Rattle.ken_model.specs.Heap.{AreBlocks, end_of, block_at, place_past, with_block, first_gap_from}
 use Rattle.ken_model.specs.KeyValue.{at_space, is_key, pair_of}
 use Rattle.ken_app.specs.Turning.{AreShort}
 use Rattle.ken_apps.specs.Found.{IsPairAt, with_pair}

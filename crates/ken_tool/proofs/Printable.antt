@@ -1,5 +1,5 @@
 -- What nodes that run hold can be printed.
-use Rattle.std.proofs.Common.{◌≡◌, ℕ, ◌+◌, ◌<◌, ◌≤◌, ◌^◌, max, List, length, [], ◌∷◌, map, true, false, ◌==◌, Option, Some, None, option_map, refl, ap, subst, ⊎_elim, arith, eq-eqb, ne_eqb}
+use Rattle.std.proofs.Common.{◌≡◌, ℕ, ◌+◌, ◌<◌, ◌≤◌, ◌^◌, max, List, length, [], ◌∷◌, map, true, false, ◌==◌, Option, Some, None, option_map, refl, ap, ⊎_elim, arith, eq-eqb, ne_eqb}
 use Rattle.std.specs.List.{AllByRecursion}
 use Rattle.std.proofs.lemmas.Bool.{cases_eq}
 use Rattle.ken_model.specs.declared.values.Block.{Block}

@@ -1,10 +1,10 @@
 -- What kind kv keeps and outputs are texts.
-use Rattle.std.proofs.Common.{◌≡◌, ℕ, zero, suc, ◌+◌, ◌-◌, ◌≤◌, List, [], ◌∷◌, length, take, drop, Bool, ◌==◌, true, false, if◌then◌else◌, nat_lt, bytes_eq, codes, Option, Some, None, IfSome, option_map, refl, arith}
+use Rattle.std.proofs.Common.{ℕ, zero, suc, ◌+◌, List, [], ◌∷◌, length, take, drop, Bool, ◌==◌, true, false, if◌then◌else◌, nat_lt, bytes_eq, codes, Option, Some, None, IfSome, option_map, arith}
 use Rattle.std.specs.List.{AllByRecursion, position}
 use Rattle.std.proofs.lemmas.List.{length-drop}
 use Rattle.ken_model.specs.declared.values.Block.{Block}
 use Rattle.ken_model.specs.declared.values.Value.{Value}
-use Rattle.ken_model.specs.Effects.{Effect, answered, refused}
+use Rattle.ken_model.specs.Effects.{Effect, answered}
 use Rattle.ken_model.specs.Heap.{first_gap, with_block, without_block}
 use Rattle.ken_model.specs.KeyValue.{Command, Put, Get, Delete, at_space, put_of, key_of, command_in, command_of, is_key, pair_of, without_pair, put_at, get_from, delete_from, kv}
 use Rattle.ken_model.specs.Report.{IsOneLine}

@@ -1,5 +1,4 @@
-use Rattle.std.proofs.Common.{◌≡◌, ◌<◌, ◌^◌, ℕ, Option, Some, None, true, false, refl, sym, subst, arith, rules, option_map, ◌∙◌, ap}
-use Rattle.ken_model.specs.declared.values.Block.{Block}
+use Rattle.std.proofs.Common.{◌<◌, ◌^◌, Some, true, false, refl, sym, subst, arith}
 use Rattle.ken_model.specs.Heap.{block_at, place_past}
 use Rattle.ken_model.specs.KeyValue.{pair_of}
 use Rattle.ken_apps.proofs.Walks.{Seeks, pair_from, first_seeks, found_here, walks, tested, past_more, at_most, to_end, falls}

@@ -1,4 +1,3 @@
-use Rattle.std.proofs.Common.{Option}
 use Rattle.ken_model.specs.Heap.{IsHeap}
 use Rattle.ken_model.specs.KeyValue.{pair_of}
 use Rattle.ken_apps.proofs.Walks.{Seeks, to_end}

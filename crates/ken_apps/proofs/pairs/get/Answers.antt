@@ -1,5 +1,4 @@
-use Rattle.std.proofs.Common.{◌≡◌, ◌≤◌, ◌+◌, length, drop, List, ℕ, Some, sym, subst, refl, ap, ◌∙◌, arith}
-use Rattle.ken_model.specs.declared.values.Block.{Block}
+use Rattle.std.proofs.Common.{◌≡◌, ◌≤◌, ◌+◌, length, drop, sym, subst, refl, ap, ◌∙◌}
 use Rattle.ken_model.specs.KeyValue.{get_from}
 use Rattle.ken_model.specs.Effects.{answered}
 use Rattle.ken_apps.proofs.Walks.{key_room, some_is}

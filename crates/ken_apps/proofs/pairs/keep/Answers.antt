@@ -1,8 +1,7 @@
-use Rattle.std.proofs.Common.{◌≡◌, ◌≤◌, ◌+◌, length, replicate, List, ℕ, Some, IsSomeAnd, sym, subst, refl, ap, ◌∙◌, arith}
+use Rattle.std.proofs.Common.{◌≡◌, ◌≤◌, ◌+◌, length, replicate, List, ℕ, Some, IsSomeAnd, sym, subst, ap, ◌∙◌, arith}
 use Rattle.std.proofs.lemmas.List.{length-replicate}
 use Rattle.ken_model.specs.declared.values.Value.{Value}
-use Rattle.ken_model.specs.declared.values.Block.{Block}
-use Rattle.ken_model.specs.Heap.{block_at, with_block}
+use Rattle.ken_model.specs.Heap.{block_at}
 use Rattle.ken_alloc.specs.Objects.{with_zeros, rewritten}
 use Rattle.ken_apps.proofs.Walks.{put_in}
 use Rattle.ken_apps.proofs.pairs.keep.Goals as goal

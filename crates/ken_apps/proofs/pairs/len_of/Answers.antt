@@ -1,6 +1,5 @@
-use Rattle.std.proofs.Common.{◌≡◌, ◌≤◌, length, IfSome, arith, rules}
+use Rattle.std.proofs.Common.{arith}
 use Rattle.ken_apps.proofs.Walks.{short_at}
-use Rattle.ken_model.specs.Heap.{block_at}
 use Rattle.ken_apps.proofs.pairs.len_of.Goals as goal
 
 pub returns-clause-short : goal.returns-clause-short

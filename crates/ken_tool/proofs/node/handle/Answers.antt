@@ -1,5 +1,4 @@
-use Rattle.std.proofs.Common.{sym, ap, subst}
-use Rattle.ken_model.specs.declared.values.Value.{Value}
+use Rattle.std.proofs.Common.{sym, subst}
 use Rattle.ken_alloc.specs.Objects.{Heap}
 use Rattle.ken_model.specs.Effects.{Effect}
 use Rattle.ken_model.specs.Handler.{after}
