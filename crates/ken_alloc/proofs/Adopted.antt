@@ -8,7 +8,7 @@ use Rattle.ken_model.specs.declared.values.Block.{Block}
 use Rattle.ken_model.specs.declared.values.Value.{Value}
 use Rattle.ken_model.specs.Heap.{rounded, end_of}
 use Rattle.ken_alloc.specs.declared.faults.Broken.{Broken}
-use Rattle.ken_alloc.specs.Layout.{part, HasHead, IsGap, IsLaid, AreCells, HasName, StandsFor, BreaksAt}
+use Rattle.ken_alloc.specs.Layout.{part, HasHead, IsGap, IsLaid, AreCells, StandsFor, BreaksAt}
 use Rattle.ken_alloc.specs.Layout.BreaksAt.{name as breaks_at_name, pages as breaks_at_pages}
 use Rattle.ken_alloc.specs.Blocks.{value_of}
 use Rattle.ken_alloc.specs.Walk.{IsWrongHeader, HasHeader, IsCell, IsSize}
@@ -55,11 +55,6 @@ module _ (xs buf : List ℕ) (count : ℕ) (long : length xs ≡ 256 * count) (i
   pub header_none : {X : Type 0} (r : Result X Broken) → IfErr r (λ (b : Broken). IsWrongHeader buf count b.place) → OnErr r ((v : Value) → StandsFor xs v → ⊥)
   header_none (Ok x) h = tt
   header_none (Err e) h = wrong_none e.place h
-
--- no bytes have no name
-pub no_name : (xs : List ℕ) → length xs ≡ 0 → HasName xs → ⊥
-no_name [] long name = absurd cc
-no_name (x ∷ xs) long name = absurd (omega arith)
 
 -- where the last of some blocks ends
 abbrev pub last_end : ℕ → List Block → ℕ

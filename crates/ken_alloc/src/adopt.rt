@@ -5,10 +5,9 @@ ghost use Rattle.ken_alloc.specs.Layout.{StandsFor, BreaksAt};
 ghost use Rattle.ken_alloc.specs.Blocks.{value_of};
 ghost use Rattle.ken_alloc.specs.Walk.{IsCell, IsSize, HasHeader};
 
-use crate::Broken;
 use crate::head::{self, CELLS, HEAD, Head};
-use crate::header::{self, NAME_AT};
 use crate::walk::round;
+use crate::{Broken, header};
 use ken_pages::PageHeap;
 
 // Whether a head with these numbers is that of a cell. Two gaps are never side by side.
@@ -32,9 +31,6 @@ fn check_header(pages: &PageHeap) -> Result<(), Broken>
     ensures place { IfErr result (λ broken. BreaksAt pages.now.bytes broken.place) }
 {
     let count = pages.pages();
-    if count == 0 {
-        return Err(Broken { place: NAME_AT });
-    }
     let mut bytes = [0; 16];
     pages.read(0, &mut bytes);
     header::check(&bytes, count)

@@ -9,7 +9,7 @@ use byteorder::{BigEndian, ByteOrder};
 
 const NAME: [u8; 4] = *b"KENH";
 
-pub(crate) const NAME_AT: u64 = 8;
+const NAME_AT: u64 = 8;
 
 const PAGES_AT: u64 = 12;
 

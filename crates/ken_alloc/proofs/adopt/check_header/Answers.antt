@@ -1,10 +1,6 @@
 use Rattle.std.proofs.Common.{arith}
-use Rattle.ken_alloc.specs.Layout.BreaksAt.{name as breaks_at_name}
-use Rattle.ken_alloc.proofs.Adopted.{header_seen, header_breaks, header_none, no_name}
+use Rattle.ken_alloc.proofs.Adopted.{header_seen, header_breaks, header_none}
 use Rattle.ken_alloc.proofs.adopt.check_header.Goals as goal
-
-pub returns-then-count-eq0-clause-place : goal.returns-then-count-eq0-clause-place
-returns-then-count-eq0-clause-place c = breaks_at_name (no_name c.args.pages.now.bytes (omega arith))
 
 pub returns-clause-header : goal.returns-clause-header
 returns-clause-header c =
