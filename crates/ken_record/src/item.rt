@@ -1,0 +1,63 @@
+ghost use Rattle.std.specs.Prelude.{◌≡◌, ◌++◌, ◌⊎◌, List, ℕ, Ok, Err, length, drop, IfOk, IsErrOf, OnOk};
+ghost use Rattle.ken_record.specs.declared.item.Item.{Item};
+ghost use Rattle.ken_record.specs.Items.{IsItem, kind_of, spelling, Spells};
+ghost use Rattle.ken_record.specs.Reading.{Gives, item_at};
+
+use crate::header::{Header, header_front};
+use crate::record::{Record, record_front};
+use crate::RecordFault;
+use std::alloc::{AllocError, Global};
+
+/// An item of a log, without its gate.
+#[derive(Debug, Drop)]
+pub enum Item {
+    Header(Header),
+    Record(Record),
+}
+
+/// What is read.
+#[derive(Clone, Copy, Debug, PartialEq, Eq)]
+pub enum ItemKind {
+    Header,
+    Record,
+}
+
+impl Item {
+    /// Appends its one spelling. After an error `out` may hold more bytes after those that it had.
+    pub fn put(&self, out: &mut Vec<u8>) -> Result<(), AllocError>
+        requires { IsItem self.now }
+        ensures { OnOk result (out.new.items ≡ out.old.items ++ spelling self.now) }
+    {
+        match self {
+            Item::Header(header) => header.put(out),
+            Item::Record(record) => record.put(out),
+        }
+    }
+}
+
+/// The one spelling of an item.
+pub fn encode(alloc: Global, item: &Item) -> Result<Vec<u8>, AllocError>
+    requires { IsItem item.now }
+    ensures { IfOk result (λ bytes. bytes.items ≡ spelling item.now) }
+{
+    let mut out = Vec::new(alloc);
+    item.put(&mut out)?;
+    Ok(out)
+}
+
+// The item at the front of bytes, and the bytes after it.
+#[tactic(auto, unfolding(crate::specs::Reading::item_at))]
+fn item_front(alloc: Global, kind: ItemKind, bytes: &[u8]) -> Result<(Item, &[u8]), RecordFault>
+    ensures { Gives (λ x. (x.0, x.1.now)) result (item_at kind bytes.now) }
+{
+    match kind {
+        ItemKind::Header => {
+            let (header, rest) = header_front(bytes)?;
+            Ok((Item::Header(header), rest))
+        }
+        ItemKind::Record => {
+            let (record, rest) = record_front(alloc, bytes)?;
+            Ok((Item::Record(record), rest))
+        }
+    }
+}
