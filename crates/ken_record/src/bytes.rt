@@ -104,11 +104,11 @@ pub(crate) fn put_8(out: &mut Vec<u8>, n: u64) -> Result<(), AllocError>
 
 // Writes a number over the four bytes at a place.
 #[tactic(auto, unfolding(crate::specs::Spelling::number))]
-pub(crate) fn write_4(out: &mut Vec<u8>, at: usize, n: u32)
-    requires { at + 4 ≤ length out.old.items }
-    ensures { out.new.items ≡ (take at out.old.items ++ number 4 n) ++ drop (at + 4) out.old.items }
+pub(crate) fn write_4(bytes: &mut [u8], at: usize, n: u32)
+    requires { at + 4 ≤ length bytes.old }
+    ensures { bytes.new ≡ (take at bytes.old ++ number 4 n) ++ drop (at + 4) bytes.old }
 {
-    BigEndian::write_u32(&mut out[at..], n);
+    BigEndian::write_u32(&mut bytes[at..], n);
 }
 
 pub(crate) fn put_text(out: &mut Vec<u8>, bytes: &[u8]) -> Result<(), AllocError>

@@ -34,7 +34,9 @@ impl Header {
     pub fn fits(&self) -> bool
         ensures { IsTrue result ↔ IsHeader self.now }
     {
-        let _any = (self.turns, self.base_len);
+        let _generation = self.generation;
+        let _turns = self.turns;
+        let _base_len = self.base_len;
         self.is_sound()
     }
 

@@ -46,7 +46,9 @@ impl Record {
     pub fn fits(&self) -> bool
         ensures { IsTrue result ↔ IsRecord self.now }
     {
-        let _any = (self.turn, self.stamp, self.number);
+        let _turn = self.turn;
+        let _stamp = self.stamp;
+        let _number = self.number;
         self.is_sound() && self.lists_fit()
     }
 
