@@ -50,14 +50,16 @@ pub if_some : {A : Type 0} (b : Bool) (x : Option A) (y : A) → cond b x None �
 if_some true x y e = (refl, e)
 if_some false x y e = absurd cc
 
-pub pair_is : {A B : Type 0} (a : A) (b : B) (x : A) (y : B) → ◌≡◌ {A = Option (A × B)} (Some (a, b)) (Some (x, y)) → (a ≡ x) × (b ≡ y)
-pair_is a b x y e = (cc, cc)
-
 abbrev some : {A : Type 0} → A → Option A
 some x = Some x
 
 pub some_is : {A : Type 0} (x y : A) → some x ≡ some y → x ≡ y
 some_is x y e = cc
+
+pub pair_is : {A B : Type 0} (a : A) (b : B) (x : A) (y : B) → some {A = A × B} (a, b) ≡ some {A = A × B} (x, y) → (a ≡ x) × (b ≡ y)
+pair_is {A = A} {B = B} a b x y e =
+    let same : ◌≡◌ {A = A × B} (a, b) (x, y) = some_is (a, b) (x, y) e in
+    (ap (λ (p : A × B). p.0) same, ap (λ (p : A × B). p.1) same)
 
 -- ---- one after the other
 

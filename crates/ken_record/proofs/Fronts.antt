@@ -12,7 +12,7 @@ use Rattle.ken_record.specs.declared.item.ItemKind.{ItemKind}
 use Rattle.ken_record.specs.declared.item.ItemKind.TheVariants as kinds
 use Rattle.ken_record.specs.Spelling.{number, mark, place, past, fields, header_bytes, record_bytes}
 use Rattle.ken_record.specs.Grammar.{IsHeader, IsRecord}
-use Rattle.ken_record.specs.Items.{kind_of, IsItem, spelling, Spells}
+use Rattle.ken_record.specs.Items.{kind_of, IsItem, spelling, Spells, Reads}
 use Rattle.ken_record.specs.Reading.{◌>>=◌, Fails, Gives, number_at, header_at, record_at, item_at}
 use Rattle.ken_record.proofs.Forms.{IsBytes, bind_some, some_is, number_4}
 use Rattle.ken_record.proofs.Members.{header_form, record_form}
@@ -48,13 +48,12 @@ two_kinds : (h : Header) (r : Record) (x y : List ℕ) → IsRecord r → header
 two_kinds h r x y is e =
     let len : ℕ = length (fields r) in
     let short = fields_short r is in
-    let after : List ℕ = number 1 1 ++ (place h ++ past h ++ x) in
     let left : header_bytes h ++ x ≡ number 4 0x4b45_4e4c ++ (number 1 1 ++ ((place h ++ past h) ++ x)) = append_assoc mark (place h ++ past h) x ∙ append_assoc (number 4 0x4b45_4e4c) (number 1 1) ((place h ++ past h) ++ x) in
     let right : record_bytes r ++ y ≡ number 4 len ++ (fields r ++ y) = append_assoc (number 4 len) (fields r) y in
     let one = number_4.again 0x4b45_4e4c (number 1 1 ++ ((place h ++ past h) ++ x)) (omega arith) in
     let two = number_4.again len (fields r ++ y) (omega arith) in
     let same : number 4 0x4b45_4e4c ++ (number 1 1 ++ ((place h ++ past h) ++ x)) ≡ number 4 len ++ (fields r ++ y) = sym left ∙ e ∙ right in
-    let read : Some (0x4b45_4e4c, number 1 1 ++ ((place h ++ past h) ++ x)) ≡ Some (len, fields r ++ y) = sym one ∙ ap (number_at 4) same ∙ two in
+    let read : ◌≡◌ {A = Option (ℕ × List ℕ)} (Some (0x4b45_4e4c, number 1 1 ++ ((place h ++ past h) ++ x))) (Some (len, fields r ++ y)) = sym one ∙ ap (number_at 4) same ∙ two in
     let equal : 0x4b45_4e4c ≡ len = ap (λ (p : ℕ × List ℕ). p.0) (some_is (0x4b45_4e4c, number 1 1 ++ ((place h ++ past h) ++ x)) (len, fields r ++ y) read) in
     omega arith
 
@@ -70,3 +69,24 @@ one_item (items.Header g) (items.Header h) x y ia ib e = alike kinds.Header (ite
 one_item (items.Record q) (items.Record r) x y ia ib e = alike kinds.Record (items.Record q) (items.Record r) x y refl refl ia ib e
 one_item (items.Header h) (items.Record r) x y ia ib e = absurd (two_kinds h r x y ib e)
 one_item (items.Record r) (items.Header h) x y ia ib e = absurd (two_kinds h r y x ia (sym e))
+
+-- how long what was taken is
+pub front_long : (bytes : List ℕ) (item : Item) (rest : List ℕ) → Spells bytes item rest → length bytes ≡ length (spelling item) + length rest
+front_long bytes item rest s = ap length s.parts ∙ length-append (spelling item) rest
+
+-- the same, with the bytes after it told by its length
+pub front_at : (bytes : List ℕ) (item : Item) (rest : List ℕ) → Spells bytes item rest → Spells bytes item (drop (length bytes - length rest) bytes)
+front_at bytes item rest s =
+    let long = front_long bytes item rest s in
+    let same : drop (length bytes - length rest) bytes ≡ rest = ap (drop (length bytes - length rest)) s.parts ∙ drop_at (spelling item) rest (length bytes - length rest) (omega arith) in
+    subst (Spells bytes item) (sym same) s
+
+-- after an answer of Memory or Bad
+pub read_nothing : (fault : RecordFault) (kind : ItemKind) (bytes : List ℕ) (item : Item) (rest : List ℕ) → Fails fault (item_at kind bytes) → kind_of item ≡ kind → Spells bytes item rest → Reads (Err fault) item
+read_nothing Memory kind bytes item rest e is s = tt
+read_nothing Bad kind bytes item rest e is s = let found = item_read kind bytes item rest is s in absurd cc
+
+pub read_one : (kind : ItemKind) (bytes : List ℕ) (item other : Item) (rest after : List ℕ) → item_at kind bytes ≡ Some (item, rest) → kind_of other ≡ kind → Spells bytes other after → (item ≡ other) × (rest ≡ after)
+read_one kind bytes item other rest after e is s =
+    let same = some_is (item, rest) (other, after) (sym e ∙ item_read kind bytes other after is s) in
+    (ap (λ (p : Item × List ℕ). p.0) same, ap (λ (p : Item × List ℕ). p.1) same)

@@ -1,5 +1,7 @@
 -- An item at the front of bytes.
-use Rattle.std.specs.Prelude.{◌≡◌, ℕ, List, ◌++◌}
+use Rattle.std.specs.Prelude.{◌≡◌, ℕ, List, ◌++◌, length, Result, Ok, Err}
+use Rattle.ken_record.specs.declared.faults.RecordFault.{RecordFault}
+use Rattle.ken_record.specs.declared.faults.RecordFault.TheVariants.{Bad, Memory}
 use Rattle.ken_record.specs.declared.item.Item.{Item}
 use Rattle.ken_record.specs.declared.item.Item.TheVariants as items
 use Rattle.ken_record.specs.declared.item.ItemKind.{ItemKind}
@@ -25,3 +27,9 @@ spelling (items.Record r) = record_bytes r
 pub record Spells (bytes : List ℕ) (item : Item) (rest : List ℕ) : Type 0 where
   pub fits : IsItem item
   pub parts : bytes ≡ spelling item ++ rest
+
+-- a call read just this item, with its length, or wanted memory
+abbrev pub Reads : Result (Item × ℕ) RecordFault → Item → Type 0
+Reads (Ok x) item = (x.0 ≡ item) × (x.1 ≡ length (spelling item))
+Reads (Err Memory) item = Unit {0}
+Reads (Err Bad) item = ⊥

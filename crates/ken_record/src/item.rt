@@ -1,6 +1,6 @@
-ghost use Rattle.std.specs.Prelude.{◌≡◌, ◌++◌, ◌⊎◌, List, ℕ, Ok, Err, length, drop, IfOk, IsErrOf, OnOk};
+ghost use Rattle.std.specs.Prelude.{◌≡◌, ◌++◌, List, ℕ, length, drop, IfOk, IsErrOf, OnOk};
 ghost use Rattle.ken_record.specs.declared.item.Item.{Item};
-ghost use Rattle.ken_record.specs.Items.{IsItem, kind_of, spelling, Spells};
+ghost use Rattle.ken_record.specs.Items.{IsItem, kind_of, spelling, Spells, Reads};
 ghost use Rattle.ken_record.specs.Reading.{Gives, item_at};
 
 use crate::header::{Header, header_front};
@@ -60,4 +60,19 @@ fn item_front(alloc: Global, kind: ItemKind, bytes: &[u8]) -> Result<(Item, &[u8
             Ok((Item::Record(record), rest))
         }
     }
+}
+
+/// The item of this kind at the front of `bytes`, and its length in bytes. `Bad` comes exactly where no front of them
+/// is one. Takes time and memory by the bytes that are there, whatever length they tell.
+pub fn decode(alloc: Global, kind: ItemKind, bytes: &[u8]) -> Result<(Item, usize), RecordFault>
+    // What is read is of the kind, and stands at the front as it is spelled.
+    ensures kind { IfOk result (λ x. kind_of x.0 ≡ kind) }
+    ensures length { IfOk result (λ x. x.1 ≡ length (spelling x.0)) }
+    ensures found { IfOk result (λ x. Spells bytes.now x.0 (drop x.1 bytes.now)) }
+    // What stands at the front is read, unless memory runs out.
+    ensures only { (item : Item) (rest : List ℕ) → kind_of item ≡ kind → Spells bytes.now item rest → Reads result item }
+    ensures bad { IsErrOf result RecordFault.Bad → (item : Item) (rest : List ℕ) → kind_of item ≡ kind → Spells bytes.now item rest → ⊥ }
+{
+    let (item, rest) = item_front(alloc, kind, bytes)?;
+    Ok((item, bytes.len() - rest.len()))
 }

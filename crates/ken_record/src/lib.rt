@@ -16,7 +16,7 @@ mod tests;
 
 pub use faults::RecordFault;
 pub use header::Header;
-pub use item::{Item, ItemKind, encode};
+pub use item::{Item, ItemKind, decode, encode};
 pub use laws::{lengths, one_spelling};
 pub use page::Page;
 pub use record::{MAX_DRAWS, MAX_FIELDS, MAX_OUTS, MAX_SENDS, Record};
