@@ -1,4 +1,4 @@
-ghost use Rattle.std.specs.Prelude.{◌≡◌, ◌++◌, List, ℕ, length, drop, IfOk, IsErrOf, OnOk};
+ghost use Rattle.std.specs.Prelude.{◌≡◌, ◌++◌, List, ℕ, length, drop, IfOk, IsErrOf, OnOk, IsTrue, ◌↔◌};
 ghost use Rattle.ken_record.specs.declared.item.Item.{Item};
 ghost use Rattle.ken_record.specs.Items.{IsItem, kind_of, spelling, Spells, Reads};
 ghost use Rattle.ken_record.specs.Reading.{Gives, item_at};
@@ -6,6 +6,7 @@ ghost use Rattle.ken_record.specs.Reading.{Gives, item_at};
 use crate::header::{Header, header_front};
 use crate::record::{Record, record_front};
 use crate::RecordFault;
+use ken_model::Octets;
 use std::alloc::{AllocError, Global};
 
 /// An item of a log, without its gate.
@@ -23,6 +24,16 @@ pub enum ItemKind {
 }
 
 impl Item {
+    /// Whether it has a spelling.
+    pub fn fits(&self) -> bool
+        ensures { IsTrue result ↔ IsItem self.now }
+    {
+        match self {
+            Item::Header(header) => header.fits(),
+            Item::Record(record) => record.fits(),
+        }
+    }
+
     /// Appends its one spelling. After an error `out` may hold more bytes after those that it had.
     pub fn put(&self, out: &mut Vec<u8>) -> Result<(), AllocError>
         requires { IsItem self.now }
@@ -36,13 +47,13 @@ impl Item {
 }
 
 /// The one spelling of an item.
-pub fn encode(alloc: Global, item: &Item) -> Result<Vec<u8>, AllocError>
+pub fn encode(alloc: Global, item: &Item) -> Result<Octets, AllocError>
     requires { IsItem item.now }
-    ensures { IfOk result (λ bytes. bytes.items ≡ spelling item.now) }
+    ensures { IfOk result (λ bytes. bytes ≡ spelling item.now) }
 {
     let mut out = Vec::new(alloc);
     item.put(&mut out)?;
-    Ok(out)
+    Ok(Octets::new(out))
 }
 
 // The item at the front of bytes, and the bytes after it.
