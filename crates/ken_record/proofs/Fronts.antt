@@ -74,12 +74,14 @@ one_item (items.Record r) (items.Header h) x y ia ib e = absurd (two_kinds h r y
 pub front_long : (bytes : List ℕ) (item : Item) (rest : List ℕ) → Spells bytes item rest → length bytes ≡ length (spelling item) + length rest
 front_long bytes item rest s = ap length s.parts ∙ length-append (spelling item) rest
 
--- the same, with the bytes after it told by its length
-pub front_at : (bytes : List ℕ) (item : Item) (rest : List ℕ) → Spells bytes item rest → Spells bytes item (drop (length bytes - length rest) bytes)
-front_at bytes item rest s =
+-- the bytes after it, told by its length
+pub front_rest : (bytes : List ℕ) (item : Item) (rest : List ℕ) → Spells bytes item rest → drop (length bytes - length rest) bytes ≡ rest
+front_rest bytes item rest s =
     let long = front_long bytes item rest s in
-    let same : drop (length bytes - length rest) bytes ≡ rest = ap (drop (length bytes - length rest)) s.parts ∙ drop_at (spelling item) rest (length bytes - length rest) (omega arith) in
-    subst (Spells bytes item) (sym same) s
+    ap (drop (length bytes - length rest)) s.parts ∙ drop_at (spelling item) rest (length bytes - length rest) (omega arith)
+
+pub front_at : (bytes : List ℕ) (item : Item) (rest : List ℕ) → Spells bytes item rest → Spells bytes item (drop (length bytes - length rest) bytes)
+front_at bytes item rest s = subst (Spells bytes item) (sym (front_rest bytes item rest s)) s
 
 -- after an answer of Memory or Bad
 pub read_nothing : (fault : RecordFault) (kind : ItemKind) (bytes : List ℕ) (item : Item) (rest : List ℕ) → Fails fault (item_at kind bytes) → kind_of item ≡ kind → Spells bytes item rest → Reads (Err fault) item

@@ -159,15 +159,17 @@ PartsFit x = ((x.0.0 < 2 ^ 64) × ((x.0.1.0 < 2 ^ 64) × ((x.0.1.1.0 < 2 ^ 8) ×
 
 record_makes : (a : Parts) → PartsFit a → is_sound (record_of a) ≡ true → IsRecord (record_of a) × (record_parts (record_of a) ≡ a)
 record_makes a fit test =
-    let s = is_sound_sound (record_of a) test in
-    (record {
-      turn = (s.turn, fit.0.0);
-      stamp = (s.stamp, fit.0.1.0);
-      from = s.from;
-      number = (s.number, fit.0.1.1.1);
-      lists = (fit.1.0, fit.1.1.0, fit.1.1.1.0, fit.1.1.1.1);
-      rising = s.rising;
-    }, refl)
+    let s = is_sound_sound (record_of a) test in (
+      record {
+        turn = (s.turn, fit.0.0);
+        stamp = (s.stamp, fit.0.1.0);
+        from = s.from;
+        number = (s.number, fit.0.1.1.1);
+        lists = (fit.1.0, fit.1.1.0, fit.1.1.1.0, fit.1.1.1.1);
+        rising = s.rising;
+      },
+      refl,
+    )
 
 sender_byte : (from : ℕ) → (from < 8) ⊎ (from ≡ 255) → from < 2 ^ 8
 sender_byte from h = omega arith

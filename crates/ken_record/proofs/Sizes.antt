@@ -65,8 +65,8 @@ pages_short ps fit =
 origin_short : (r : Record) → length (origin r) ≤ 25
 origin_short r =
     long_2 (number 8 r.turn) (number 8 r.stamp ++ (number 1 r.from ++ number 8 r.number)) 8 17 (omega (arith, number_long 8 r.turn))
-      (long_2 (number 8 r.stamp) (number 1 r.from ++ number 8 r.number) 8 9 (omega (arith, number_long 8 r.stamp))
-        (long_2 (number 1 r.from) (number 8 r.number) 1 8 (omega (arith, number_long 1 r.from)) (omega (arith, number_long 8 r.number))))
+    (long_2 (number 8 r.stamp) (number 1 r.from ++ number 8 r.number) 8 9 (omega (arith, number_long 8 r.stamp))
+    (long_2 (number 1 r.from) (number 8 r.number) 1 8 (omega (arith, number_long 1 r.from)) (omega (arith, number_long 8 r.number))))
 
 pub fields_short : (r : Record) → IsRecord r → length (fields r) ≤ 1081838
 fields_short r is =
@@ -75,9 +75,9 @@ fields_short r is =
     let outs = outs_short r.outs is.lists.2 in
     let pages = pages_short r.pages is.lists.3 in
     long_2 (origin r) (lists r) 25 1081813 (origin_short r)
-      (long_2 (counted 1 (number 8) r.draws) (counted 1 sent r.sends ++ (counted 1 out r.outs ++ counted 2 page r.pages)) 129 1081684 draws
-        (long_2 (counted 1 sent r.sends) (counted 1 out r.outs ++ counted 2 page r.pages) 8369 1073315 sends
-          (long_2 (counted 1 out r.outs) (counted 2 page r.pages) 8353 1064962 outs pages)))
+    (long_2 (counted 1 (number 8) r.draws) (counted 1 sent r.sends ++ (counted 1 out r.outs ++ counted 2 page r.pages)) 129 1081684 draws
+    (long_2 (counted 1 sent r.sends) (counted 1 out r.outs ++ counted 2 page r.pages) 8369 1073315 sends
+    (long_2 (counted 1 out r.outs) (counted 2 page r.pages) 8353 1064962 outs pages)))
 
 pub header_long : (h : Header) → length (header_bytes h) ≡ 31
 header_long h =

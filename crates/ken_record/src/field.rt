@@ -81,7 +81,11 @@ pub(crate) fn put_all<T: Field>(out: &mut Vec<u8>, items: &[T]) -> Result<(), Al
 }
 
 // So many items. Each is read before the next is waited for: no memory is taken for a count.
-pub(crate) fn some<T: Field>(alloc: Global, count: usize, bytes: &[u8]) -> Result<(Items<T>, &[u8]), RecordFault>
+pub(crate) fn some<T: Field>(
+    alloc: Global,
+    count: usize,
+    bytes: &[u8],
+) -> Result<(Items<T>, &[u8]), RecordFault>
     ensures { Gives (λ x. (x.0, x.1.now)) result (items_at T.reads count bytes.now) }
 {
     let mut items = Vec::new(alloc);
@@ -95,7 +99,11 @@ pub(crate) fn some<T: Field>(alloc: Global, count: usize, bytes: &[u8]) -> Resul
 }
 
 // A count of one byte, at most `most`, and the items.
-pub(crate) fn few_front<T: Field>(alloc: Global, most: usize, bytes: &[u8]) -> Result<(Items<T>, &[u8]), RecordFault>
+pub(crate) fn few_front<T: Field>(
+    alloc: Global,
+    most: usize,
+    bytes: &[u8],
+) -> Result<(Items<T>, &[u8]), RecordFault>
     ensures { Gives (λ x. (x.0, x.1.now)) result (sized 1 most (items_at T.reads) bytes.now) }
 {
     let (count, rest) = u8_front(bytes)?;
@@ -107,7 +115,11 @@ pub(crate) fn few_front<T: Field>(alloc: Global, most: usize, bytes: &[u8]) -> R
 }
 
 // A count of two bytes, at most `most`, and the items.
-pub(crate) fn many_front<T: Field>(alloc: Global, most: usize, bytes: &[u8]) -> Result<(Items<T>, &[u8]), RecordFault>
+pub(crate) fn many_front<T: Field>(
+    alloc: Global,
+    most: usize,
+    bytes: &[u8],
+) -> Result<(Items<T>, &[u8]), RecordFault>
     ensures { Gives (λ x. (x.0, x.1.now)) result (sized 2 most (items_at T.reads) bytes.now) }
 {
     let (count, rest) = u16_front(bytes)?;

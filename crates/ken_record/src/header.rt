@@ -45,7 +45,8 @@ impl Header {
     {
         let placed = self.node < self.nodes && self.nodes <= MAX_NODES;
         let paged = self.pages > 0 && u64::from(self.pages) <= MAX_PAGES;
-        let counted = self.generation > 0 && (self.generation != 1 || (self.turns == 0 && self.base_len == 0));
+        let counted = self.generation > 0
+            && (self.generation != 1 || (self.turns == 0 && self.base_len == 0));
         placed && paged && counted
     }
 
@@ -121,7 +122,14 @@ pub(crate) fn header_front(bytes: &[u8]) -> Result<(Header, &[u8]), RecordFault>
     let ((name, version), rest) = mark_front(bytes)?;
     let ((node, (nodes, (pages, generation))), rest) = place_front(rest)?;
     let ((turns, (base_len, zero)), rest) = past_front(rest)?;
-    let header = Header { node, nodes, pages, generation, turns, base_len };
+    let header = Header {
+        node,
+        nodes,
+        pages,
+        generation,
+        turns,
+        base_len,
+    };
     if name == NAME && version == VERSION && zero == 0 && header.is_sound() {
         Ok((header, rest))
     } else {

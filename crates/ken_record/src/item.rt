@@ -3,9 +3,9 @@ ghost use Rattle.ken_record.specs.declared.item.Item.{Item};
 ghost use Rattle.ken_record.specs.Items.{IsItem, kind_of, spelling, Spells, Reads};
 ghost use Rattle.ken_record.specs.Reading.{Gives, item_at};
 
+use crate::RecordFault;
 use crate::header::{Header, header_front};
 use crate::record::{Record, record_front};
-use crate::RecordFault;
 use ken_model::Octets;
 use std::alloc::{AllocError, Global};
 
@@ -82,6 +82,8 @@ pub fn decode(alloc: Global, kind: ItemKind, bytes: &[u8]) -> Result<(Item, usiz
     ensures found { IfOk result (λ x. Spells bytes.now x.0 (drop x.1 bytes.now)) }
     // What stands at the front is read, unless memory runs out.
     ensures only { (item : Item) (rest : List ℕ) → kind_of item ≡ kind → Spells bytes.now item rest → Reads result item }
+    // The same as one definition.
+    ensures exact { Gives (λ x. (x.0, drop x.1 bytes.now)) result (item_at kind bytes.now) }
     ensures bad { IsErrOf result RecordFault.Bad → (item : Item) (rest : List ℕ) → kind_of item ≡ kind → Spells bytes.now item rest → ⊥ }
 {
     let (item, rest) = item_front(alloc, kind, bytes)?;

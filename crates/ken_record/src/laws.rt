@@ -10,12 +10,10 @@ ghost use Rattle.ken_record.specs.Spelling.{header_bytes, record_bytes};
 /// No two items are spelled alike, and no spelling begins another.
 pub fn one_spelling()
     ensures { (a b : Item) (x y : List ℕ) → IsItem a → IsItem b → spelling a ++ x ≡ spelling b ++ y → (a ≡ b) × (x ≡ y) }
-{
-}
+{}
 
 /// A header takes 31 bytes, and a record no more than its length may say.
 pub fn lengths()
     ensures header { (h : Header) → length (header_bytes h) ≡ 31 }
     ensures record { (r : Record) → IsRecord r → length (record_bytes r) ≤ 4 + 1081838 }
-{
-}
+{}

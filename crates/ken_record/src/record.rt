@@ -4,7 +4,7 @@ ghost use Rattle.ken_record.specs.Grammar.{IsRecord, HasLists};
 ghost use Rattle.ken_record.specs.Reading.{Gives, origin_at, lists_at, fields_at, within, record_at, is_sound};
 
 use crate::RecordFault;
-use crate::bytes::{part_front, put_1, put_4, put_8, write_4, u8_front, u32_front, u64_front};
+use crate::bytes::{part_front, put_1, put_4, put_8, u8_front, u32_front, u64_front, write_4};
 use crate::field::{at_most, few_front, many_front, put_few, put_many};
 use crate::page::{Page, rise};
 use crate::sent::Sent;
@@ -141,7 +141,16 @@ fn fields_front(alloc: Global, bytes: &[u8]) -> Result<(Record, &[u8]), RecordFa
 {
     let ((turn, (stamp, (from, number))), rest) = origin_front(bytes)?;
     let ((draws, (sends, (outs, pages))), rest) = lists_front(alloc, rest)?;
-    let read = Record { turn, stamp, from, number, draws, sends, outs, pages };
+    let read = Record {
+        turn,
+        stamp,
+        from,
+        number,
+        draws,
+        sends,
+        outs,
+        pages,
+    };
     if read.is_sound() {
         Ok((read, rest))
     } else {

@@ -1,9 +1,9 @@
-use Rattle.std.proofs.Common.{List, ℕ, length, Result, ap, subst, arith}
+use Rattle.std.proofs.Common.{Some, sym, ◌∙◌, List, ℕ, length, Result, ap, subst, arith}
 use Rattle.ken_record.specs.declared.faults.RecordFault.{RecordFault}
 use Rattle.ken_record.specs.declared.item.Item.{Item}
 use Rattle.std.proofs.lemmas.Result.{err_from_is_err_and}
 use Rattle.ken_record.specs.Items.{Reads, spelling}
-use Rattle.ken_record.proofs.Fronts.{item_takes, front_long, front_at, read_nothing, read_one}
+use Rattle.ken_record.proofs.Fronts.{item_takes, front_long, front_rest, front_at, read_nothing, read_one}
 use Rattle.ken_record.proofs.item.decode.Goals as goal
 
 pub returns-in_err-item-clause-only : goal.returns-in_err-item-clause-only
@@ -40,5 +40,11 @@ returns-clause-only c =
     let bytes : List ℕ = c.args.bytes.now in
     let front = item_takes c.args.kind bytes c.in_ok-item.item c.in_ok-item.rest.now (λ i. omega (arith, c.type_inv.bytes i)) c.in_ok-item.ensures in
     λ item rest is s.
-      let same = read_one c.args.kind bytes c.in_ok-item.item item c.in_ok-item.rest.now rest c.in_ok-item.ensures is s in
-      (same.0, omega (arith, front_long bytes c.in_ok-item.item c.in_ok-item.rest.now front.spells, ap (λ i. length (spelling i)) same.0))
+    let same = read_one c.args.kind bytes c.in_ok-item.item item c.in_ok-item.rest.now rest c.in_ok-item.ensures is s in
+    (same.0, omega (arith, front_long bytes c.in_ok-item.item c.in_ok-item.rest.now front.spells, ap (λ i. length (spelling i)) same.0))
+
+pub returns-clause-exact : goal.returns-clause-exact
+returns-clause-exact c =
+    let bytes : List ℕ = c.args.bytes.now in
+    let front = item_takes c.args.kind bytes c.in_ok-item.item c.in_ok-item.rest.now (λ i. omega (arith, c.type_inv.bytes i)) c.in_ok-item.ensures in
+    c.in_ok-item.ensures ∙ ap (λ (rest : List ℕ). Some (c.in_ok-item.item, rest)) (sym (front_rest bytes c.in_ok-item.item c.in_ok-item.rest.now front.spells))
