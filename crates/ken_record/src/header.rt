@@ -34,6 +34,7 @@ impl Header {
     pub fn fits(&self) -> bool
         ensures { IsTrue result ↔ IsHeader self.now }
     {
+        // What is read is in its type's range.
         let _generation = self.generation;
         let _turns = self.turns;
         let _base_len = self.base_len;
@@ -50,8 +51,9 @@ impl Header {
         placed && paged && counted
     }
 
-    /// Appends its one spelling, 31 bytes. After an error `out` may hold a front of them.
+    /// Appends its one spelling, 31 bytes. After an error `out` may hold a part of it after the bytes that it had.
     pub fn put(&self, out: &mut Vec<u8>) -> Result<(), AllocError>
+        requires { IsHeader self.now }
         ensures { OnOk result (out.new.items ≡ out.old.items ++ header_bytes self.now) }
     {
         put_mark(out)?;

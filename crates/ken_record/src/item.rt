@@ -34,7 +34,7 @@ impl Item {
         }
     }
 
-    /// Appends its one spelling. After an error `out` may hold more bytes after those that it had.
+    /// Appends its one spelling. After an error `out` may hold a part of it after the bytes that it had.
     pub fn put(&self, out: &mut Vec<u8>) -> Result<(), AllocError>
         requires { IsItem self.now }
         ensures { OnOk result (out.new.items ≡ out.old.items ++ spelling self.now) }

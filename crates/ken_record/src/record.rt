@@ -46,6 +46,7 @@ impl Record {
     pub fn fits(&self) -> bool
         ensures { IsTrue result ↔ IsRecord self.now }
     {
+        // What is read is in its type's range.
         let _turn = self.turn;
         let _stamp = self.stamp;
         let _number = self.number;
@@ -70,7 +71,8 @@ impl Record {
             && at_most(MAX_PAGES as usize, self.pages.as_slice())
     }
 
-    /// Appends its one spelling. After an error `out` may hold more bytes after those that it had.
+    /// Appends its one spelling: the length in four bytes, and so many bytes. After an error `out` may hold a part of it
+    /// after the bytes that it had.
     pub fn put(&self, out: &mut Vec<u8>) -> Result<(), AllocError>
         requires { IsRecord self.now }
         ensures { OnOk result (out.new.items ≡ out.old.items ++ record_bytes self.now) }
