@@ -1,6 +1,5 @@
 -- An item at the front of bytes: found, and no other.
-use Rattle.std.proofs.Common.{◌≡◌, ℕ, ◌+◌, ◌-◌, ◌≤◌, ◌<◌, List, [], ◌∷◌, ◌++◌, length, drop, Option, Some, None, Result, Ok, Err, refl, sym, ap, subst, ◌∙◌, append_assoc, arith}
-use Rattle.std.specs.Prelude.{IfOk, IsErrOf}
+use Rattle.std.proofs.Common.{◌≡◌, ℕ, ◌+◌, ◌-◌, List, ◌++◌, length, drop, Option, Some, Err, refl, sym, ap, subst, ◌∙◌, append_assoc, arith}
 use Rattle.std.proofs.lemmas.List.{drop_at, length-append}
 use Rattle.ken_record.specs.declared.faults.RecordFault.{RecordFault}
 use Rattle.ken_record.specs.declared.faults.RecordFault.TheVariants.{Bad, Memory}
@@ -11,9 +10,9 @@ use Rattle.ken_record.specs.declared.item.Item.TheVariants as items
 use Rattle.ken_record.specs.declared.item.ItemKind.{ItemKind}
 use Rattle.ken_record.specs.declared.item.ItemKind.TheVariants as kinds
 use Rattle.ken_record.specs.Spelling.{number, mark, place, past, fields, header_bytes, record_bytes}
-use Rattle.ken_record.specs.Grammar.{IsHeader, IsRecord}
+use Rattle.ken_record.specs.Grammar.{IsRecord}
 use Rattle.ken_record.specs.Items.{kind_of, IsItem, spelling, Spells, Reads}
-use Rattle.ken_record.specs.Reading.{◌>>=◌, Fails, Gives, number_at, header_at, record_at, item_at}
+use Rattle.ken_record.specs.Reading.{Fails, number_at, header_at, record_at, item_at}
 use Rattle.ken_record.proofs.Forms.{IsBytes, bind_some, some_is, number_4}
 use Rattle.ken_record.proofs.Members.{header_form, record_form}
 use Rattle.ken_record.proofs.Sizes.{fields_short}

@@ -1,10 +1,8 @@
 -- Lists read and tested one item after the other, as loops do.
-use Rattle.std.proofs.Common.{◌≡◌, ℕ, suc, ◌-◌, ◌+◌, ◌≤◌, ◌<◌, Bool, true, false, ◌&&◌, nat_le, List, [], ◌∷◌, ◌++◌, length, drop, get_or, Option, Some, None, refl, sym, ap, ◌∙◌, append_assoc, arith}
-use Rattle.std.proofs.lemmas.List.{append-nil, at_drop_more}
+use Rattle.std.proofs.Common.{◌≡◌, ℕ, suc, ◌-◌, ◌+◌, ◌≤◌, ◌<◌, List, [], ◌∷◌, ◌++◌, Option, Some, None, refl, sym, ap, ◌∙◌, append_assoc, arith}
+use Rattle.std.proofs.lemmas.List.{append-nil}
 use Rattle.ken_record.specs.declared.faults.RecordFault.{RecordFault}
 use Rattle.ken_record.specs.declared.faults.RecordFault.TheVariants.{Bad, Memory}
-use Rattle.ken_record.specs.declared.page.Page.{Page}
-use Rattle.ken_record.specs.Grammar.{rise_from}
 use Rattle.ken_record.specs.Reading.{◌>>=◌, Fails, items_at}
 
 -- what was read before, and what is still read

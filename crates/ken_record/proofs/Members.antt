@@ -1,6 +1,5 @@
 -- The forms of the parts of an item, and of the items.
-use Rattle.std.proofs.Common.{◌≡◌, ℕ, ◌+◌, ◌≤◌, ◌<◌, ◌^◌, ◌⊎◌, Bool, true, false, cond, ◌&&◌, ◌||◌, not, ◌==◌, nat_lt, nat_le, List, [], ◌∷◌, ◌++◌, length, take, Option, Some, None, refl, sym, ap, subst, ◌∙◌, append_assoc, arith, inl, inr}
-use Rattle.std.specs.List.{flat_map, AllByRecursion}
+use Rattle.std.proofs.Common.{◌≡◌, ℕ, ◌≤◌, ◌<◌, ◌^◌, ◌⊎◌, Bool, true, false, cond, ◌&&◌, ◌||◌, ◌==◌, nat_lt, List, [], ◌++◌, length, take, Some, None, refl, sym, ap, subst, ◌∙◌, arith}
 use Rattle.std.proofs.lemmas.Bool.{eqb-true}
 use Rattle.std.proofs.lemmas.Bool.Decides.{nat_tests}
 use Rattle.std.proofs.lemmas.List.{append-nil, nil_from_length, take_at}
@@ -9,9 +8,9 @@ use Rattle.ken_record.specs.declared.sent.Sent.{Sent}
 use Rattle.ken_record.specs.declared.page.Page.{Page}
 use Rattle.ken_record.specs.declared.header.Header.{Header}
 use Rattle.ken_record.specs.declared.record.Record.{Record}
-use Rattle.ken_record.specs.Spelling.{number, text, counted, sent, out, page, origin, lists, fields, mark, place, past, header_bytes, record_bytes}
-use Rattle.ken_record.specs.Grammar.{IsCount, IsDraw, IsText, IsSent, IsOut, IsPage, AtMost, HasLists, rise_from, IsRecord, IsHeader}
-use Rattle.ken_record.specs.Reading.{◌>>=◌, number_at, part_at, seq, made, sized, items_at, text_at, sent_at, out_at, page_at, origin_at, lists_at, is_sound, record_of, fields_at, within, record_at, is_sound_header, mark_at, place_at, past_at, header_of, header_at}
+use Rattle.ken_record.specs.Spelling.{number, text, counted, sent, out, page, fields, header_bytes, record_bytes}
+use Rattle.ken_record.specs.Grammar.{IsDraw, IsText, IsSent, IsOut, IsPage, AtMost, rise_from, IsRecord, IsHeader}
+use Rattle.ken_record.specs.Reading.{◌>>=◌, number_at, part_at, sized, items_at, text_at, sent_at, out_at, page_at, origin_at, lists_at, is_sound, record_of, fields_at, within, record_at, is_sound_header, mark_at, place_at, past_at, header_of, header_at}
 use Rattle.ken_record.proofs.Forms.{IsBytes, IsBytes-take, some_is, Took, IsForm, bind_some, if_some, pair_is, seq_form, made_form, fit_form, number_1, number_2, number_4, number_8, part_form, items_form, sized_form}
 use Rattle.ken_record.proofs.Sizes.{fields_short}
 

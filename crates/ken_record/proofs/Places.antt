@@ -1,5 +1,5 @@
 -- Bytes written over others.
-use Rattle.std.proofs.Common.{◌≡◌, ℕ, ◌+◌, ◌-◌, ◌≤◌, List, [], ◌++◌, length, take, drop, refl, sym, ap, ◌∙◌, append_assoc, arith, length-drop, length-append}
+use Rattle.std.proofs.Common.{◌≡◌, ℕ, ◌+◌, ◌-◌, List, [], ◌++◌, length, take, drop, refl, sym, ap, ◌∙◌, append_assoc, arith, length-drop, length-append}
 use Rattle.std.proofs.lemmas.List.{append-nil, take_all, drop-drop, take_at, drop_at}
 use Rattle.ken_record.specs.Spelling.{number}
 use Rattle.ken_record.proofs.Sizes.{number_long}

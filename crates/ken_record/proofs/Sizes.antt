@@ -1,5 +1,5 @@
 -- How long spellings are.
-use Rattle.std.proofs.Common.{◌≡◌, ℕ, suc, ◌+◌, ◌*◌, ◌≤◌, ◌<◌, List, [], ◌∷◌, ◌++◌, length, refl, ap, ◌∙◌, arith, length-append}
+use Rattle.std.proofs.Common.{◌≡◌, ℕ, ◌+◌, ◌*◌, ◌≤◌, List, [], ◌∷◌, ◌++◌, length, ap, ◌∙◌, arith, length-append}
 use Rattle.std.specs.List.{flat_map, AllByRecursion}
 use Rattle.std.proofs.lemmas.List.Concat.{flat_map-cons}
 use Rattle.std.proofs.Math.Nat.{mul-suc}
@@ -9,7 +9,7 @@ use Rattle.ken_record.specs.declared.sent.Sent.{Sent}
 use Rattle.ken_record.specs.declared.page.Page.{Page}
 use Rattle.ken_record.specs.declared.header.Header.{Header}
 use Rattle.ken_record.specs.declared.record.Record.{Record}
-use Rattle.ken_record.specs.Spelling.{number, text, counted, sent, out, page, origin, lists, fields, mark, place, past, header_bytes}
+use Rattle.ken_record.specs.Spelling.{number, text, counted, sent, out, page, origin, lists, fields, header_bytes}
 use Rattle.ken_record.specs.Grammar.{IsDraw, IsText, IsSent, IsOut, IsPage, AtMost, IsRecord}
 
 pub number_long : (w n : ℕ) → length (number w n) ≡ w

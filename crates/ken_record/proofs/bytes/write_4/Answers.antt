@@ -1,4 +1,4 @@
-use Rattle.std.proofs.Common.{◌≡◌, ◌++◌, ◌-◌, List, ℕ, length, take, drop, ap, ◌∙◌}
+use Rattle.std.proofs.Common.{◌++◌, ◌-◌, List, ℕ, length, take, drop, ap, ◌∙◌}
 use Rattle.ken_record.specs.Spelling.{number}
 use Rattle.ken_record.proofs.Places.{over}
 use Rattle.ken_record.proofs.bytes.write_4.Goals as goal

@@ -1,4 +1,4 @@
-use Rattle.std.proofs.Common.{◌≡◌, ◌+◌, ◌-◌, ◌++◌, List, ℕ, length, take, drop, refl, ap, ◌∙◌, arith}
+use Rattle.std.proofs.Common.{◌≡◌, ◌+◌, ◌-◌, ◌++◌, List, ℕ, take, drop, refl, ap, ◌∙◌, arith}
 use Rattle.ken_record.specs.Spelling.{number, fields}
 use Rattle.ken_record.proofs.Sizes.{fields_short}
 use Rattle.ken_record.proofs.Places.{length_written, length_fits, all_written}
