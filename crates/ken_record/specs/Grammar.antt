@@ -39,6 +39,7 @@ abbrev pub rise_from : ℕ → List Page → Bool
 rise_from low [] = true
 rise_from low (p ∷ ps) = nat_le low p.page && rise_from (p.page + 1) ps
 
+-- what is in the lists of a record
 abbrev pub HasLists : Record → Type 0
 HasLists r = AtMost 16 IsDraw r.draws × AtMost 16 IsSent r.sends × AtMost 16 IsOut r.outs × AtMost 4096 IsPage r.pages
 

@@ -63,9 +63,11 @@ items_at reads (suc n) bytes = do
   others ← items_at reads n first.1
   Some (first.0 ∷ others.0, others.1)
 
+-- two bytes of length, at most 512, and so many bytes
 unfoldable pub text_at : List ℕ → Option (List ℕ × List ℕ)
 text_at bytes = sized 2 512 part_at bytes
 
+-- the node that it goes to, its number and its bytes
 unfoldable pub sent_at : List ℕ → Option (Sent × List ℕ)
 sent_at bytes = made (λ x. nat_lt x.0 8 && nat_lt 0 x.1.0) (λ x. record { to = x.0; number = x.1.0; bytes = x.1.1 }) (seq (number_at 1) (seq (number_at 8) text_at)) bytes
 
@@ -75,14 +77,15 @@ out_at bytes = made (λ x. nat_lt 0 x.0) (λ x. record { number = x.0; text = x.
 unfoldable pub page_at : List ℕ → Option (Page × List ℕ)
 page_at bytes = made (λ x. true) (λ x. record { page = x.0; bytes = x.1 }) (seq (number_at 4) (part_at 256)) bytes
 
--- the first four fields of a record, and its lists
+-- the turn, the stamp, the sender and the number of a record
 unfoldable pub origin_at : List ℕ → Option ((ℕ × (ℕ × (ℕ × ℕ))) × List ℕ)
 origin_at bytes = seq (number_at 8) (seq (number_at 8) (seq (number_at 1) (number_at 8))) bytes
 
+-- its draws, sends, outs and pages
 unfoldable pub lists_at : List ℕ → Option ((List ℕ × (List Sent × (List Out × List Page))) × List ℕ)
 lists_at bytes = seq (sized 1 16 (items_at (number_at 8))) (seq (sized 1 16 (items_at sent_at)) (seq (sized 1 16 (items_at out_at)) (sized 2 4096 (items_at page_at)))) bytes
 
--- whether the fields that stand alone are in range
+-- whether its fields are in range and its pages rise, where the items of its lists are
 abbrev pub is_sound : Record → Bool
 is_sound r = nat_lt 0 r.turn && nat_lt 0 r.stamp && (nat_lt r.from 8 || r.from == 255) && nat_lt 0 r.number && rise_from 0 r.pages
 
@@ -102,6 +105,7 @@ within n bytes = do
 unfoldable pub record_at : List ℕ → Option (Record × List ℕ)
 record_at bytes = sized 4 1081838 within bytes
 
+-- whether the fields of a header are in range
 abbrev pub is_sound_header : Header → Bool
 is_sound_header h = nat_lt h.node h.nodes && nat_le h.nodes 8 && nat_lt 0 h.pages && nat_le h.pages 4096 && nat_lt 0 h.generation && (not (h.generation == 1) || (h.turns == 0 && h.base_len == 0))
 
@@ -120,9 +124,11 @@ past_at bytes = seq (number_at 8) (seq (number_at 4) (number_at 4)) bytes
 abbrev pub header_of : (ℕ × ℕ) × ((ℕ × (ℕ × (ℕ × ℕ))) × (ℕ × (ℕ × ℕ))) → Header
 header_of x = record { node = x.1.0.0; nodes = x.1.0.1.0; pages = x.1.0.1.1.0; generation = x.1.0.1.1.1; turns = x.1.1.0; base_len = x.1.1.1.0 }
 
+-- the name KENL, version 1, fields in range, and a zero
 unfoldable pub header_at : List ℕ → Option (Header × List ℕ)
 header_at bytes = made (λ x. x.0.0 == 0x4b45_4e4c && x.0.1 == 1 && x.1.1.1.1 == 0 && is_sound_header (header_of x)) header_of (seq mark_at (seq place_at past_at)) bytes
 
+-- the item of a kind at the front of bytes
 unfoldable pub item_at : ItemKind → List ℕ → Option (Item × List ℕ)
 item_at kinds.Header bytes = header_at bytes >>= λ x. Some (items.Header x.0, x.1)
 item_at kinds.Record bytes = record_at bytes >>= λ x. Some (items.Record x.0, x.1)

@@ -53,6 +53,7 @@ impl Field for u64 {
     }
 }
 
+// Whether each item has a spelling.
 pub(crate) fn all_fit<T: Field>(items: &[T]) -> bool
     ensures { IsTrue result ↔ AllByRecursion T.is items.now }
 {
@@ -64,12 +65,14 @@ pub(crate) fn all_fit<T: Field>(items: &[T]) -> bool
     true
 }
 
+// Whether they are at most so many, each with a spelling.
 pub(crate) fn at_most<T: Field>(most: usize, items: &[T]) -> bool
     ensures { IsTrue result ↔ AtMost most T.is items.now }
 {
     items.len() <= most && all_fit(items)
 }
 
+// Appends the items, one after the other.
 pub(crate) fn put_all<T: Field>(out: &mut Vec<u8>, items: &[T]) -> Result<(), AllocError>
     requires { AllByRecursion T.is items.now }
     ensures { OnOk result (out.new.items ≡ out.old.items ++ flat_map T.spell items.now) }

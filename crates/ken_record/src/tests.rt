@@ -1,7 +1,3 @@
-ghost use Rattle.std.specs.Prelude.{◌≡◌, IfOk};
-ghost use Rattle.ken_record.specs.Grammar.{IsRecord, IsHeader};
-ghost use Rattle.ken_record.specs.Items.{IsItem};
-
 use super::*;
 use ken_model::{Items, OUTSIDE, Octets, Out};
 use std::alloc::{AllocError, Global};
