@@ -1,0 +1,6 @@
+pub mod Loops
+pub mod Places
+pub mod Sizes
+pub mod Forms
+pub mod Members
+pub mod Fronts

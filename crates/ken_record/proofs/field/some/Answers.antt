@@ -1,0 +1,20 @@
+use Rattle.std.proofs.lemmas.Result.{err_from_is_err_and}
+use Rattle.ken_record.specs.Reading.{items_at}
+use Rattle.ken_record.proofs.Loops.{goes_on, ends, is_done}
+use Rattle.ken_record.proofs.field.some.Goals as goal
+
+pub returns-in_err-item : goal.returns-in_err-item
+returns-in_err-item g c =
+    let reads = g.T.Field.reads in
+    let p = err_from_is_err_and c.from_residual.result c.from_residual.ensures.1 in
+    rw (p.1, p.2) (ends reads c.in_err-item.field-0.0 c.loop.items.items c.args.count c.loop.counter c.loop.rest.now (items_at reads c.args.count c.args.bytes.now) c.loop-test.true c.in_err-item.ensures c.loop.invariant)
+
+pub loop-preserved : goal.loop-preserved
+loop-preserved g c =
+    let reads = g.T.Field.reads in
+    rw c.in_ok-push.ensures.items (goes_on reads c.loop.items.items c.args.count c.loop.counter c.loop.rest.now c.in_ok-item.item c.in_ok-item.after.now (items_at reads c.args.count c.args.bytes.now) c.loop-test.true c.in_ok-item.ensures c.loop.invariant)
+
+pub returns : goal.returns
+returns g c =
+    let reads = g.T.Field.reads in
+    rw c.new.ensures (is_done reads c.loop.items.items c.args.count c.loop.counter c.loop.rest.now (items_at reads c.args.count c.args.bytes.now) c.loop-test.false c.loop.invariant)

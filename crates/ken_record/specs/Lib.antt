@@ -1,0 +1,4 @@
+pub mod Spelling
+pub mod Grammar
+pub mod Reading
+pub mod Items

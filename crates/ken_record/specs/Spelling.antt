@@ -1,0 +1,59 @@
+-- How each part of an item is spelled in bytes.
+use Rattle.std.specs.Prelude.{ℕ, List, ◌++◌, length}
+use Rattle.std.specs.List.{flat_map}
+use Rattle.byteorder.specs.Endian.{big_bytes}
+use Rattle.ken_model.specs.declared.messages.Out.{Out}
+use Rattle.ken_record.specs.declared.sent.Sent.{Sent}
+use Rattle.ken_record.specs.declared.page.Page.{Page}
+use Rattle.ken_record.specs.declared.header.Header.{Header}
+use Rattle.ken_record.specs.declared.record.Record.{Record}
+
+-- a number in w bytes, the highest first
+unfoldable pub number : ℕ → ℕ → List ℕ
+number w n = big_bytes w n
+
+-- two bytes of length, and the bytes
+abbrev pub text : List ℕ → List ℕ
+text bytes = number 2 (length bytes) ++ bytes
+
+-- a count of w bytes, and each item
+abbrev pub counted : {A : Type 0} → ℕ → (A → List ℕ) → List A → List ℕ
+counted w spell items = number w (length items) ++ flat_map spell items
+
+abbrev pub sent : Sent → List ℕ
+sent s = number 1 s.to ++ (number 8 s.number ++ text s.bytes)
+
+abbrev pub out : Out → List ℕ
+out o = number 8 o.number ++ text o.text
+
+abbrev pub page : Page → List ℕ
+page p = number 4 p.page ++ p.bytes
+
+-- the first four fields of a record
+abbrev pub origin : Record → List ℕ
+origin r = number 8 r.turn ++ (number 8 r.stamp ++ (number 1 r.from ++ number 8 r.number))
+
+-- its four lists
+abbrev pub lists : Record → List ℕ
+lists r = counted 1 (number 8) r.draws ++ (counted 1 sent r.sends ++ (counted 1 out r.outs ++ counted 2 page r.pages))
+
+abbrev pub fields : Record → List ℕ
+fields r = origin r ++ lists r
+
+-- the number of bytes of the fields, and the fields
+abbrev pub record_bytes : Record → List ℕ
+record_bytes r = number 4 (length (fields r)) ++ fields r
+
+-- the name KENL and version 1
+abbrev pub mark : List ℕ
+mark = number 4 0x4b45_4e4c ++ number 1 1
+
+abbrev pub place : Header → List ℕ
+place h = number 1 h.node ++ (number 1 h.nodes ++ (number 4 h.pages ++ number 4 h.generation))
+
+-- what came before this log, and a zero
+abbrev pub past : Header → List ℕ
+past h = number 8 h.turns ++ (number 4 h.base_len ++ number 4 0)
+
+abbrev pub header_bytes : Header → List ℕ
+header_bytes h = mark ++ (place h ++ past h)

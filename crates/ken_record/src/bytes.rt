@@ -1,0 +1,120 @@
+// Numbers and byte strings at the front of bytes.
+ghost use Rattle.std.specs.Prelude.{◌≡◌, ◌++◌, ◌≤◌, ◌+◌, length, take, drop, OnOk};
+ghost use Rattle.ken_record.specs.Spelling.{number, text};
+ghost use Rattle.ken_record.specs.Grammar.{IsText};
+ghost use Rattle.ken_record.specs.Reading.{Gives, number_at, part_at, text_at};
+
+use crate::RecordFault;
+use byteorder::{BigEndian, ByteOrder};
+use ken_model::{MAX_TEXT, Octets};
+use ken_num::{put_u8, put_u16, put_u32, put_u64, u8_at, u16_at, u32_at, u64_at};
+use std::alloc::{AllocError, Global};
+
+#[tactic(auto, unfolding(crate::specs::Reading::number_at))]
+pub(crate) fn u8_front(bytes: &[u8]) -> Result<(u8, &[u8]), RecordFault>
+    ensures { Gives (λ x. (x.0, x.1.now)) result (number_at 1 bytes.now) }
+{
+    match u8_at(bytes, 0) {
+        Some(number) => Ok((number, &bytes[1..])),
+        None => Err(RecordFault::Bad),
+    }
+}
+
+#[tactic(auto, unfolding(crate::specs::Reading::number_at))]
+pub(crate) fn u16_front(bytes: &[u8]) -> Result<(u16, &[u8]), RecordFault>
+    ensures { Gives (λ x. (x.0, x.1.now)) result (number_at 2 bytes.now) }
+{
+    match u16_at(bytes, 0) {
+        Some(number) => Ok((number, &bytes[2..])),
+        None => Err(RecordFault::Bad),
+    }
+}
+
+#[tactic(auto, unfolding(crate::specs::Reading::number_at))]
+pub(crate) fn u32_front(bytes: &[u8]) -> Result<(u32, &[u8]), RecordFault>
+    ensures { Gives (λ x. (x.0, x.1.now)) result (number_at 4 bytes.now) }
+{
+    match u32_at(bytes, 0) {
+        Some(number) => Ok((number, &bytes[4..])),
+        None => Err(RecordFault::Bad),
+    }
+}
+
+#[tactic(auto, unfolding(crate::specs::Reading::number_at))]
+pub(crate) fn u64_front(bytes: &[u8]) -> Result<(u64, &[u8]), RecordFault>
+    ensures { Gives (λ x. (x.0, x.1.now)) result (number_at 8 bytes.now) }
+{
+    match u64_at(bytes, 0) {
+        Some(number) => Ok((number, &bytes[8..])),
+        None => Err(RecordFault::Bad),
+    }
+}
+
+// So many bytes, and those after them.
+#[tactic(auto, unfolding(crate::specs::Reading::part_at))]
+pub(crate) fn part_front(bytes: &[u8], len: usize) -> Result<(&[u8], &[u8]), RecordFault>
+    ensures { Gives (λ x. (x.0.now, x.1.now)) result (part_at len bytes.now) }
+{
+    if bytes.len() < len {
+        return Err(RecordFault::Bad);
+    }
+    Ok(bytes.split_at(len))
+}
+
+#[tactic(auto, unfolding(crate::specs::Reading::text_at))]
+pub(crate) fn text_front(alloc: Global, bytes: &[u8]) -> Result<(Octets, &[u8]), RecordFault>
+    ensures { Gives (λ x. (x.0, x.1.now)) result (text_at bytes.now) }
+{
+    let (len, rest) = u16_front(bytes)?;
+    let len = usize::from(len);
+    if len > MAX_TEXT {
+        return Err(RecordFault::Bad);
+    }
+    let (text, rest) = part_front(rest, len)?;
+    Ok((Octets::new(Vec::from_slice(alloc, text)?), rest))
+}
+
+#[tactic(auto, unfolding(crate::specs::Spelling::number))]
+pub(crate) fn put_1(out: &mut Vec<u8>, n: u8) -> Result<(), AllocError>
+    ensures { OnOk result (out.new.items ≡ out.old.items ++ number 1 n) }
+{
+    put_u8(out, n)
+}
+
+#[tactic(auto, unfolding(crate::specs::Spelling::number))]
+pub(crate) fn put_2(out: &mut Vec<u8>, n: u16) -> Result<(), AllocError>
+    ensures { OnOk result (out.new.items ≡ out.old.items ++ number 2 n) }
+{
+    put_u16(out, n)
+}
+
+#[tactic(auto, unfolding(crate::specs::Spelling::number))]
+pub(crate) fn put_4(out: &mut Vec<u8>, n: u32) -> Result<(), AllocError>
+    ensures { OnOk result (out.new.items ≡ out.old.items ++ number 4 n) }
+{
+    put_u32(out, n)
+}
+
+#[tactic(auto, unfolding(crate::specs::Spelling::number))]
+pub(crate) fn put_8(out: &mut Vec<u8>, n: u64) -> Result<(), AllocError>
+    ensures { OnOk result (out.new.items ≡ out.old.items ++ number 8 n) }
+{
+    put_u64(out, n)
+}
+
+// Writes a number over the four bytes at a place.
+#[tactic(auto, unfolding(crate::specs::Spelling::number))]
+pub(crate) fn write_4(bytes: &mut [u8], at: usize, n: u32)
+    requires { at + 4 ≤ length bytes.old }
+    ensures { bytes.new ≡ (take at bytes.old ++ number 4 n) ++ drop (at + 4) bytes.old }
+{
+    BigEndian::write_u32(&mut bytes[at..], n);
+}
+
+pub(crate) fn put_text(out: &mut Vec<u8>, bytes: &[u8]) -> Result<(), AllocError>
+    requires { IsText bytes.now }
+    ensures { OnOk result (out.new.items ≡ out.old.items ++ text bytes.now) }
+{
+    put_2(out, bytes.len() as u16)?;
+    out.extend_from_slice(bytes)
+}

@@ -1,0 +1,23 @@
+//! The items of a log in bytes: what is one, its one spelling, and how it is read back.
+#![tactic(auto)]
+
+mod bytes;
+mod faults;
+mod field;
+mod header;
+mod item;
+mod laws;
+mod out;
+mod page;
+mod record;
+mod sent;
+#[cfg(test)]
+mod tests;
+
+pub use faults::RecordFault;
+pub use header::Header;
+pub use item::{Item, ItemKind, decode, encode};
+pub use laws::{lengths, one_spelling};
+pub use page::Page;
+pub use record::{MAX_DRAWS, MAX_FIELDS, MAX_OUTS, MAX_SENDS, Record};
+pub use sent::Sent;
