@@ -1,0 +1,4 @@
+pub mod Parts
+pub mod LogMounts
+pub mod Openings
+pub mod Sealed
