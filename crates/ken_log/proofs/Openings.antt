@@ -58,7 +58,7 @@ module _ (front body : List ℕ) (before after : Mounted) (at : ℕ) (h : Story)
       gate_torn image torn =
           let t = torn_byte front at is.gate behind image (sym place) (subst (λ (l : List ℕ). Torn at 1 l image) staged_is torn) in
           ⊎_elim
-          (λ open. inr (ap mount_of (t.1 ∙ ap (λ (b : ℕ). front ++ b ∷ behind) open.1) ∙ gates.opened (drop (length body) is.free)))
+          (λ stands. inr (ap mount_of (t.1 ∙ ap (λ (b : ℕ). front ++ b ∷ behind) stands.1) ∙ gates.opened (drop (length body) is.free)))
           (λ shut. inl (ap mount_of t.1 ∙ gates.closed t.0 behind shut.1))
           (eqb_tells t.0 165)
 

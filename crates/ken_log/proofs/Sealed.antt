@@ -1,5 +1,5 @@
 -- A log after a seal.
-use Rattle.std.proofs.Common.{◌≡◌, ℕ, ◌+◌, ◌<◌, ◌≤◌, false, List, [], ◌∷◌, ◌++◌, length, refl, sym, ap, subst, ◌∙◌, append_assoc, arith, length-append, Option, Some, None, Result, Ok, Err}
+use Rattle.std.proofs.Common.{◌≡◌, ℕ, ◌+◌, ◌<◌, ◌≤◌, false, List, [], ◌∷◌, ◌++◌, length, refl, sym, ap, subst, ◌∙◌, append_assoc, arith, length-append, inl, Option, Some, None, Result, Ok, Err}
 use Rattle.std.specs.Prelude.{OnOk}
 use Rattle.std.specs.List.{flat_map, AllByRecursion}
 use Rattle.std.proofs.lemmas.List.{append-nil}
@@ -7,15 +7,18 @@ use Rattle.std.proofs.lemmas.List.Concat.{flat_map-cons, flat_map-append}
 use Rattle.ken_disk.specs.declared.faults.DiskFault.{DiskFault}
 use Rattle.ken_disk.specs.declared.faults.DiskFault.TheVariants.{Memory}
 use Rattle.ken_disk.specs.Story.{DiskState, Story, IsAtRest, Tells}
+use Rattle.ken_disk.proofs.Images.{at_rest_leaves}
+use Rattle.ken_disk.proofs.Moments.{stays}
 use Rattle.ken_record.specs.declared.header.Header.{Header}
 use Rattle.ken_record.specs.declared.record.Record.{Record}
 use Rattle.ken_record.specs.Spelling.{header_bytes, record_bytes}
 use Rattle.ken_record.specs.Grammar.{IsRecord}
 use Rattle.ken_record.proofs.Forms.{some_is}
+use Rattle.ken_log.specs.declared.faults.SealFault.TheVariants as seals
 use Rattle.ken_log.specs.declared.log.Log.{Log}
 use Rattle.ken_log.specs.Mounts.{Mounted, Whole, mount_of, with_record}
 use Rattle.ken_log.specs.Layout.{opened, log_bytes, IsLogHeader, IsLogOf}
-use Rattle.ken_log.specs.Seals.{Changes, as_seal}
+use Rattle.ken_log.specs.Seals.{MountsAs, MountsAsEither, Changes, as_seal}
 use Rattle.ken_log.specs.Opening.{IsClosedBehind, IsOpenBehind, IsGateOf, Opens}
 use Rattle.ken_log.specs.Settled.{Holds, IsSettled}
 use Rattle.ken_log.proofs.LogMounts.{log_mounts}
@@ -58,6 +61,18 @@ module _ (head : Header) (items : List Record) (r : Record) (end : ℕ) (header 
     opened = λ free. log_mounts _ head (items ++ r ∷ []) (end + (1 + length (record_bytes r))) (opened_lies free);
   }
 
+-- no call of the disk was made
+pub nothing_done : {T : Type 0} (before after : Mounted) (count : ℕ) (h : Story) (told : Option Story) → told ≡ Some h → IsAtRest h.now → mount_of h.now.seen ≡ before → Changes {T = T} before after count (Err seals.Memory) h told
+nothing_done before after count h told tells rests is = record {
+  new = h;
+  tells = tells;
+  any_moment = stays (MountsAsEither before after) h (at_rest_leaves (MountsAsEither before after) h.now rests (inl is));
+  ok = tt;
+  memory = λ _. stays (MountsAs before) h (at_rest_leaves (MountsAs before) h.now rests is);
+  syncs = tt;
+  in_doubt = λ m. absurd (let no : ⊥ = cc in no);
+}
+
 -- what is told of the new story holds where the disk tells
 told_after : (old new : Option Story) (P : Story → Type 0) → (old ≡ None → new ≡ None) → Tells old (λ h. (s : Story) × (new ≡ Some s) × P s) → Tells new P
 told_after None new P silent story h is = absurd (let no : ⊥ = cc (silent refl, is) in no)
@@ -78,14 +93,16 @@ module _ {D T : Type 0} (told : D → Option Story) (size : D → ℕ) (log new 
       let closed : IsClosedBehind (log_bytes log.header k.items) h.now = record { rests = settled.rests h is; gate = l.gate; free = l.free; parts = l.parts; closed = l.closed } in
       (k, story h is (log_bytes log.header k.items) (Whole log.header k.items) (Whole log.header (k.items ++ r ∷ [])) l.place closed (subst (λ (b : List ℕ). IsGateOf (log_bytes log.header k.items) b (Whole log.header k.items) (Whole log.header (k.items ++ r ∷ []))) (sym spells) (record_gate log.header k.items r log.end l.header l.items fit l.place)))
 
-  pub seal_changes : Tells (told log.disk) (λ h. Changes (mount_of h.now.seen) (with_record r (mount_of h.now.seen)) 2 (as_seal result) h (told new.disk))
-  seal_changes h is =
+  pub seal_changes : (q : Result T DiskFault) → result ≡ q → Tells (told log.disk) (λ h. Changes (mount_of h.now.seen) (with_record r (mount_of h.now.seen)) 2 (as_seal q) h (told new.disk))
+  seal_changes q was h is =
       let d = did h is in
-      subst (λ (m : Mounted). Changes m (with_record r m) 2 (as_seal result) h (told new.disk)) (sym (log_mounts h.now.seen log.header d.0.items log.end d.0.lies)) d.1.changes
+      let c : Changes (mount_of h.now.seen) (with_record r (mount_of h.now.seen)) 2 (as_seal result) h (told new.disk) = subst (λ (m : Mounted). Changes m (with_record r m) 2 (as_seal result) h (told new.disk)) (sym (log_mounts h.now.seen log.header d.0.items log.end d.0.lies)) d.1.changes in
+      subst (λ (a : Result T DiskFault). Changes (mount_of h.now.seen) (with_record r (mount_of h.now.seen)) 2 (as_seal a) h (told new.disk)) was c
 
   module _ (silent : told log.disk ≡ None → told new.disk ≡ None) (header : new.header ≡ log.header) (sound : new.spent ≡ false) where
     -- after Memory
     pub seal_goes_on : result ≡ Err Memory → new.records ≡ log.records → new.end ≡ log.end → log.end + 1 ≤ size new.disk → IsSettled told size new
+    unfolding did
     seal_goes_on memory records end room = record {
       sound = sound;
       few = omega (arith, settled.few, records, end);
@@ -101,6 +118,7 @@ module _ {D T : Type 0} (told : D → Option Story) (size : D → ℕ) (log new 
 
     -- after Ok
     pub seal_settled : (x : T) → result ≡ Ok x → new.records ≡ log.records + 1 → new.end ≡ log.end + (1 + length (record_bytes r)) → log.end + (1 + length bytes) ≤ size new.disk → IsSettled told size new
+    unfolding did
     seal_settled x ok records end room = record {
       sound = sound;
       few = omega (arith, settled.few, records, end);
