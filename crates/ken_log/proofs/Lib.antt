@@ -2,3 +2,4 @@ pub mod Parts
 pub mod LogMounts
 pub mod Openings
 pub mod Sealed
+pub mod Formatted

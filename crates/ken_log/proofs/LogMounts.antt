@@ -1,10 +1,10 @@
 -- A log that lies in bytes is what they mount as.
-use Rattle.std.proofs.Common.{◌≡◌, ℕ, zero, suc, ◌+◌, ◌<◌, ◌≤◌, Bool, true, false, ltb, not, List, [], ◌∷◌, ◌++◌, length, get_or, take, drop, Option, Some, None, refl, sym, ap, subst, ◌∙◌, append_assoc, arith, length-append, inl, inr, ⊎_elim, ◌⊎◌}
+use Rattle.std.proofs.Common.{◌≡◌, ℕ, zero, suc, ◌+◌, ◌<◌, ◌≤◌, Bool, true, false, cond, ltb, not, List, [], ◌∷◌, ◌++◌, length, get_or, take, drop, Option, Some, None, refl, sym, ap, subst, ◌∙◌, append_assoc, arith, length-append, inl, inr, ⊎_elim, ◌⊎◌}
 use Rattle.std.specs.Prelude.{◌==◌, ◌||◌, nat_lt}
 use Rattle.std.specs.List.{flat_map, AllByRecursion}
 use Rattle.std.proofs.lemmas.List.{append-nil}
 use Rattle.std.proofs.lemmas.List.Concat.{flat_map-cons}
-use Rattle.std.proofs.lemmas.Bool.{lt-ltb, le-ltb, ne_eqb, eqb-false}
+use Rattle.std.proofs.lemmas.Bool.{lt-ltb, ltb-true, le-ltb, ne_eqb}
 use Rattle.ken_record.specs.declared.header.Header.{Header}
 use Rattle.ken_record.specs.declared.record.Record.{Record}
 use Rattle.ken_record.specs.Spelling.{header_bytes, record_bytes}
@@ -84,3 +84,40 @@ unfolding mount_of
 closed_mounts gate free closed =
     let is : ltb (length (gate ∷ free)) 32 || not (is_open gate) ≡ true = closed_test (ltb (length (gate ∷ free)) 32) gate closed in
     rw is refl
+
+-- what is found behind an open gate is no disk without a log
+is_not_unformatted : Mounted → Type 0
+is_not_unformatted m = m ≡ Unformatted → ⊥
+
+found_cond : (b : Bool) (x y : Mounted) → (x ≡ Unformatted → ⊥) → (y ≡ Unformatted → ⊥) → cond b x y ≡ Unformatted → ⊥
+found_cond true x y first second e = first e
+found_cond false x y first second e = second e
+
+found_next : (most : ℕ) (head : Header) (found : List Record) (place : ℕ) → ((f : List Record) (p : ℕ) (b : List ℕ) → records_from most head f p b ≡ Unformatted → ⊥) → (o : Option (Record × List ℕ)) → next most head found place o ≡ Unformatted → ⊥
+unfolding next
+found_next most head found place more None e = absurd (let no : ⊥ = cc in no)
+found_next most head found place more (Some x) e = more (found ++ x.0 ∷ []) (place + (1 + length (record_bytes x.0))) x.1 e
+
+records_found : (most : ℕ) (head : Header) (found : List Record) (place : ℕ) (bytes : List ℕ) → records_from most head found place bytes ≡ Unformatted → ⊥
+unfolding records_from next
+records_found zero head found place bytes e = absurd (let no : ⊥ = cc in no)
+records_found (suc most) head found place [] e = absurd (let no : ⊥ = cc in no)
+records_found (suc most) head found place (gate ∷ bytes) e =
+    found_cond (is_open gate) (next most head found place (record_at bytes)) (Whole head found) (found_next most head found place (λ f p b. records_found most head f p b) (record_at bytes)) (λ w. absurd (let no : ⊥ = cc in no)) e
+
+header_found : (most : ℕ) (o : Option (Header × List ℕ)) → after_header most o ≡ Unformatted → ⊥
+header_found most None e = absurd (let no : ⊥ = cc in no)
+header_found most (Some x) e =
+    found_cond (x.0.base_len == 0) (records_from most x.0 [] 32 x.1) (Damaged 0) (records_found most x.0 [] 32 x.1) (λ w. absurd (let no : ⊥ = cc in no)) e
+
+short_test : (b : Bool) (gate : ℕ) (m : Mounted) → gate ≡ 165 → (m ≡ Unformatted → ⊥) → cond (b || not (is_open gate)) Unformatted m ≡ Unformatted → b ≡ true
+short_test true gate m is found e = refl
+short_test false gate m is found e =
+    let e' : m ≡ Unformatted = subst (λ (g : ℕ). cond (not (is_open g)) Unformatted m ≡ Unformatted) is e in
+    absurd (found e')
+
+-- an open first gate of a disk without a log stands in a short file
+pub open_is_short : (bytes : List ℕ) → mount_of bytes ≡ Unformatted → get_or bytes 0 0 ≡ 165 → length bytes < 32
+unfolding mount_of
+open_is_short bytes is gate =
+    ltb-true _ _ (short_test (ltb (length bytes) 32) (get_or bytes 0 0) (after_header (length bytes) (header_at (drop 1 bytes))) gate (header_found (length bytes) (header_at (drop 1 bytes))) is)

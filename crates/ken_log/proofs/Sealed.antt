@@ -74,7 +74,7 @@ nothing_done before after count h told tells rests is = record {
 }
 
 -- what is told of the new story holds where the disk tells
-told_after : (old new : Option Story) (P : Story → Type 0) → (old ≡ None → new ≡ None) → Tells old (λ h. (s : Story) × (new ≡ Some s) × P s) → Tells new P
+pub told_after : (old new : Option Story) (P : Story → Type 0) → (old ≡ None → new ≡ None) → Tells old (λ h. (s : Story) × (new ≡ Some s) × P s) → Tells new P
 told_after None new P silent story h is = absurd (let no : ⊥ = cc (silent refl, is) in no)
 told_after (Some o) new P silent story h is =
     let s = story o refl in

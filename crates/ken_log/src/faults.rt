@@ -1,6 +1,8 @@
 ghost use Rattle.std.specs.Prelude.{◌≡◌};
 ghost use Rattle.ken_log.specs.declared.faults.SealFault.TheVariants.{Memory};
+ghost use Rattle.ken_log.specs.Seals.{as_fault};
 
+use ken_disk::DiskFault;
 use std::alloc::AllocError;
 use thiserror::Error;
 
@@ -13,6 +15,17 @@ pub enum SealFault {
     /// There wasn't memory. The gate stands closed.
     #[error("out of memory")]
     Memory,
+}
+
+impl From<DiskFault> for SealFault {
+    ghost from_gives = { λ fault e. e ≡ as_fault fault };
+
+    fn from(fault: DiskFault) -> Self {
+        match fault {
+            DiskFault::Failed => SealFault::Disk,
+            DiskFault::Memory => SealFault::Memory,
+        }
+    }
 }
 
 impl From<AllocError> for SealFault {

@@ -2,6 +2,7 @@
 #![tactic(auto)]
 
 mod faults;
+mod format;
 mod log;
 mod opening;
 mod seal;
