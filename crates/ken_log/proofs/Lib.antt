@@ -3,3 +3,4 @@ pub mod LogMounts
 pub mod Openings
 pub mod Sealed
 pub mod Formatted
+pub mod Taken

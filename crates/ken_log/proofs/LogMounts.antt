@@ -31,6 +31,10 @@ module _ (most : ℕ) (head : Header) (found : List Record) (place : ℕ) where
   unfolding next records_from
   one_read r rest fits = ap next (record_form.again r rest fits)
 
+  pub bad_read : (bytes : List ℕ) → record_at bytes ≡ None → records_from (suc most) head found place (165 ∷ bytes) ≡ Damaged place
+  unfolding next records_from
+  bad_read bytes none = ap next none
+
   pub none_read : (gate : ℕ) (rest : List ℕ) → (gate ≡ 165 → ⊥) → records_from (suc most) head found place (gate ∷ rest) ≡ Whole head found
   unfolding records_from
   none_read gate rest closed = rw (closed_gate gate closed) refl
@@ -121,3 +125,14 @@ pub open_is_short : (bytes : List ℕ) → mount_of bytes ≡ Unformatted → ge
 unfolding mount_of
 open_is_short bytes is gate =
     ltb-true _ _ (short_test (ltb (length bytes) 32) (get_or bytes 0 0) (after_header (length bytes) (header_at (drop 1 bytes))) gate (header_found (length bytes) (header_at (drop 1 bytes))) is)
+
+pub first_closed : (bytes : List ℕ) → (get_or bytes 0 0 ≡ 165 → ⊥) → mount_of bytes ≡ Unformatted
+first_closed [] closed = short_mounts [] (omega arith)
+first_closed (gate ∷ free) closed = closed_mounts gate free closed
+
+-- an open first gate with what the header is
+pub header_mounts : (bytes : List ℕ) → 32 ≤ length bytes → get_or bytes 0 0 ≡ 165 → mount_of bytes ≡ after_header (length bytes) (header_at (drop 1 bytes))
+unfolding mount_of
+header_mounts bytes long stands =
+    let no : ltb (length bytes) 32 ≡ false = le-ltb _ _ long in
+    rw (no, stands) refl

@@ -23,11 +23,11 @@ use Rattle.ken_log.specs.Opening.{IsClosedBehind, IsOpenBehind, IsGateOf, Opens}
 use Rattle.ken_log.specs.Settled.{Holds, IsSettled}
 use Rattle.ken_log.proofs.LogMounts.{log_mounts}
 
-all_and : {X : Type 0} (P : X → Type 0) (xs : List X) (y : X) → AllByRecursion P xs → P y → AllByRecursion P (xs ++ y ∷ [])
+pub all_and : {X : Type 0} (P : X → Type 0) (xs : List X) (y : X) → AllByRecursion P xs → P y → AllByRecursion P (xs ++ y ∷ [])
 all_and P [] y all last = (last, tt)
 all_and P (x ∷ xs) y all last = (all.0, all_and P xs y all.1 last)
 
-log_grown : (head : Header) (items : List Record) (r : Record) → log_bytes head (items ++ r ∷ []) ≡ log_bytes head items ++ opened r
+pub log_grown : (head : Header) (items : List Record) (r : Record) → log_bytes head (items ++ r ∷ []) ≡ log_bytes head items ++ opened r
 log_grown head items r =
     let last : flat_map opened (r ∷ []) ≡ opened r = flat_map-cons opened r [] ∙ append-nil (opened r) in
     let more : flat_map opened (items ++ r ∷ []) ≡ flat_map opened items ++ opened r = flat_map-append opened items (r ∷ []) ∙ ap (λ (l : List ℕ). flat_map opened items ++ l) last in

@@ -4,3 +4,4 @@ pub mod Seals
 pub mod Opening
 pub mod Settled
 pub mod Formats
+pub mod Mounting

@@ -3,7 +3,7 @@ ghost use Rattle.ken_log.specs.declared.faults.SealFault.TheVariants.{Memory};
 ghost use Rattle.ken_log.specs.Seals.{as_fault};
 
 use ken_disk::DiskFault;
-use std::alloc::AllocError;
+use std::alloc::{AllocError, AllocFailed};
 use thiserror::Error;
 
 /// Why a log was not formatted, or a record not sealed.
@@ -50,4 +50,15 @@ pub enum LogFault {
     Disk,
     #[error("out of memory")]
     Memory,
+}
+
+impl<T: Drop> From<AllocFailed<T>> for LogFault {
+    ghost use Rattle.std.specs.Prelude.{◌≡◌};
+    ghost use Rattle.ken_log.specs.declared.faults.LogFault.TheVariants as faults;
+
+    ghost from_gives = { λ _ fault. fault ≡ faults.Memory };
+
+    fn from(_refused: AllocFailed<T>) -> Self {
+        LogFault::Memory
+    }
 }

@@ -4,6 +4,7 @@
 mod faults;
 mod format;
 mod log;
+mod mount;
 mod opening;
 mod seal;
 
