@@ -1,0 +1,6 @@
+pub mod Parts
+pub mod LogMounts
+pub mod Openings
+pub mod Sealed
+pub mod Formatted
+pub mod Taken

@@ -1,0 +1,12 @@
+//! A log on a disk that a crash may tear: what its bytes mount as is before a seal or after it, and never between.
+#![tactic(auto)]
+
+mod faults;
+mod format;
+mod log;
+mod mount;
+mod opening;
+mod seal;
+
+pub use faults::{LogFault, SealFault};
+pub use log::Log;

@@ -1,0 +1,176 @@
+ghost use Rattle.std.specs.Prelude.{◌≡◌, ℕ, ◌+◌, ◌-◌, ◌≤◌, ◌<◌, ◌^◌, ◌∷◌, ◌++◌, [], length, IfOk, IsErrOf};
+ghost use Rattle.ken_disk.specs.Causes.{HasCause};
+ghost use Rattle.ken_disk.specs.Story.{Tells, IsAtRest};
+ghost use Rattle.ken_record.specs.Spelling.{header_bytes};
+ghost use Rattle.ken_record.specs.Reading.{header_at};
+ghost use Rattle.ken_log.specs.Mounts.{Damaged, mount_of, records_from, after_header};
+ghost use Rattle.ken_log.specs.Layout.{IsLogHeader, IsLogOf};
+ghost use Rattle.ken_log.specs.Mounting.{Answers, HasMountCause, IsFirst, IsNext, IsDamaged, NextIs, disk_with, fault_with};
+ghost use Rattle.ken_log.specs.Settled.{IsSettled};
+
+use crate::LogFault;
+use crate::log::{Log, OPEN};
+use ken_disk::{Disk, DiskFault};
+use ken_record::{Header, Item, ItemKind, Record, RecordFault, decode};
+use std::alloc::Global;
+
+// The bytes of a header with its gate.
+const HEADER_LEN: usize = 32;
+
+// A log as it lies in bytes.
+#[derive(Drop)]
+pub(crate) struct Found {
+    header: Header,
+    records: Vec<Record>,
+    end: u64,
+}
+
+impl<D: Disk> Log<D> {
+    /// Finds the log on a disk, and its records before the first closed gate, and writes nothing. The errors: `Unformatted`
+    /// where there is no log, `Damaged` where the bytes of an item at a place are wrong, `Disk` where a read failed, and
+    /// `Memory`. Each hands the disk back as it was.
+    pub fn mount(alloc: Global, mut disk: D) -> Result<(Log<D>, Vec<Record>), (LogFault, D)>
+        requires { Tells (D.told disk) (λ h. IsAtRest h.now) }
+        ensures mounts { Tells (D.told disk) (λ h. Answers (λ x. x.0.header) (λ x. x.1.items) (fault_with result) (mount_of h.now.seen)) }
+        ensures settled { IfOk result (λ x. IsSettled D.told D.size x.0) }
+        ensures count { IfOk result (λ x. x.0.records ≡ length x.1.items) }
+        ensures story { D.told (disk_with result) ≡ D.told disk }
+        ensures cause { HasMountCause (D.faults disk) (D.faults (disk_with result)) (fault_with result) }
+    {
+        match find(alloc, &mut disk) {
+            Ok(found) => {
+                let header = found.header;
+                let end = found.end;
+                let items = found.records;
+                let records = items.len() as u64;
+                let log = Log {
+                    disk,
+                    header,
+                    records,
+                    end,
+                    spent: false,
+                };
+                Ok((log, items))
+            }
+            Err(fault) => Err((fault, disk)),
+        }
+    }
+}
+
+fn find<D: Disk>(alloc: Global, disk: &mut D) -> Result<Found, LogFault>
+    ensures mounts { Tells (D.told disk.old) (λ h. Answers (λ f. f.header) (λ f. f.records.items) result (mount_of h.now.seen)) }
+    ensures lies { Tells (D.told disk.old) (λ h. IfOk result (λ f. IsLogOf h.now.seen f.header f.records.items f.end)) }
+    ensures few { IfOk result (λ f. length f.records.items ≤ f.end) }
+    ensures room { IfOk result (λ f. f.end + 1 ≤ D.size disk.new) }
+    ensures story { D.told disk.new ≡ D.told disk.old }
+    ensures cause { HasMountCause (D.faults disk.old) (D.faults disk.new) result }
+{
+    match contents(alloc, disk) {
+        Ok(bytes) => log_in(alloc, &bytes),
+        Err(DiskFault::Failed) => Err(LogFault::Disk),
+        Err(DiskFault::Memory) => Err(LogFault::Memory),
+    }
+}
+
+// All that a read gives.
+fn contents<D: Disk>(alloc: Global, disk: &mut D) -> Result<Vec<u8>, DiskFault>
+    ensures bytes { Tells (D.told disk.old) (λ h. IfOk result (λ b. b.items ≡ h.now.seen)) }
+    ensures len { IfOk result (λ b. length b.items ≡ D.size disk.new) }
+    ensures story { D.told disk.new ≡ D.told disk.old }
+    ensures cause { HasCause (D.faults disk.old) (D.faults disk.new) result }
+{
+    let mut bytes = Vec::new(alloc);
+    bytes.resize(disk.len() as usize, 0)?;
+    disk.read(0, &mut bytes)?;
+    Ok(bytes)
+}
+
+// The log that the bytes are.
+fn log_in(alloc: Global, bytes: &[u8]) -> Result<Found, LogFault>
+    ensures mounts { Answers (λ f. f.header) (λ f. f.records.items) result (mount_of bytes.now) }
+    ensures lies { IfOk result (λ f. IsLogOf bytes.now f.header f.records.items f.end) }
+    ensures no_disk { IsErrOf result LogFault.Disk → ⊥ }
+{
+    if bytes.len() < HEADER_LEN {
+        return Err(LogFault::Unformatted);
+    }
+    if bytes[0] != OPEN {
+        return Err(LogFault::Unformatted);
+    }
+    match header_front(alloc, &bytes[1..]) {
+        Ok((header, rest)) => records_in(alloc, header, rest, bytes.len()),
+        Err(RecordFault::Bad) => Err(LogFault::Damaged { place: 0 }),
+        Err(RecordFault::Memory) => Err(LogFault::Memory),
+    }
+}
+
+// The header of a log at the front of bytes, and the bytes after it.
+fn header_front(alloc: Global, bytes: &[u8]) -> Result<(Header, &[u8]), RecordFault>
+    ensures found { IfOk result (λ x. IsFirst bytes.now x.0 x.1.now) }
+    ensures bad { IsErrOf result RecordFault.Bad → (most : ℕ) → after_header most (header_at bytes.now) ≡ Damaged 0 }
+{
+    let (item, len) = decode(alloc, ItemKind::Header, bytes)?;
+    match item {
+        Item::Header(header) => {
+            if header.base_len != 0 {
+                return Err(RecordFault::Bad);
+            }
+            Ok((header, &bytes[len..]))
+        }
+        Item::Record(_) => Err(RecordFault::Bad),
+    }
+}
+
+// The record at the front of bytes, behind its open gate, and the bytes after it.
+fn record_front(alloc: Global, bytes: &[u8]) -> Result<(Record, &[u8]), RecordFault>
+    ensures found { IfOk result (λ x. IsNext (165 ∷ bytes.now) x.0 x.1.now) }
+    ensures bad { IsErrOf result RecordFault.Bad → IsDamaged (165 ∷ bytes.now) }
+{
+    let (item, len) = decode(alloc, ItemKind::Record, bytes)?;
+    match item {
+        Item::Record(record) => Ok((record, &bytes[len..])),
+        Item::Header(_) => Err(RecordFault::Bad),
+    }
+}
+
+// The record behind an open gate and the bytes after it, or nothing behind a closed one. It is damaged where the gate is
+// missing, or no record follows it.
+fn next_record(alloc: Global, bytes: &[u8], place: u64) -> Result<Option<(Record, &[u8])>, LogFault>
+    ensures { NextIs (λ x. x.0) (λ x. x.1.now) place result bytes.now }
+{
+    if bytes.is_empty() {
+        return Err(LogFault::Damaged { place });
+    }
+    if bytes[0] != OPEN {
+        return Ok(None);
+    }
+    match record_front(alloc, &bytes[1..]) {
+        Ok(next) => Ok(Some(next)),
+        Err(RecordFault::Bad) => Err(LogFault::Damaged { place }),
+        Err(RecordFault::Memory) => Err(LogFault::Memory),
+    }
+}
+
+// The records from the first gate on. There are at most `most`.
+fn records_in(alloc: Global, header: Header, bytes: &[u8], most: usize) -> Result<Found, LogFault>
+    requires { 32 + length bytes.now ≤ most }
+    ensures mounts { Answers (λ f. f.header) (λ f. f.records.items) result (records_from most header [] 32 bytes.now) }
+    ensures lies { IfOk result (λ f. IsLogHeader header → IsLogOf ((165 ∷ header_bytes header) ++ bytes.now) f.header f.records.items f.end) }
+    ensures no_disk { IsErrOf result LogFault.Disk → ⊥ }
+{
+    let mut records = Vec::new(alloc);
+    let mut rest = bytes;
+    let mut end = HEADER_LEN as u64;
+    for _ in 0..most {
+        match next_record(alloc, rest, end)? {
+            Some(next) => {
+                let (record, after) = next;
+                records.push(record)?;
+                end += (rest.len() - after.len()) as u64;
+                rest = after;
+            }
+            None => return Ok(Found { header, records, end }),
+        }
+    }
+    Err(LogFault::Damaged { place: end })
+}

@@ -1,0 +1,60 @@
+ghost use Rattle.std.specs.Prelude.{◌≡◌, ◌+◌, ◌≤◌, ◌∷◌, ◌++◌, [], length, true, None, OnOk, OnErr, IfOk, IsErrOf};
+ghost use Rattle.ken_disk.specs.Story.{Tells};
+ghost use Rattle.ken_record.specs.Grammar.{IsRecord};
+ghost use Rattle.ken_record.specs.Spelling.{record_bytes};
+ghost use Rattle.ken_log.specs.Mounts.{mount_of, with_record};
+ghost use Rattle.ken_log.specs.Seals.{Changes, HasLogCause};
+ghost use Rattle.ken_log.specs.Settled.{IsSettled};
+
+use crate::SealFault;
+use crate::log::{CLOSED, Log};
+use crate::opening::open_gate;
+use ken_disk::{Disk, DiskFault, MAX_LEN};
+use ken_record::Record;
+use std::alloc::{AllocError, Global};
+
+impl<D: Disk> Log<D> {
+    /// Adds a record, by four calls of the disk: the record is written behind the closed gate, with the next gate closed
+    /// behind it, and synced; then the gate is opened, and synced. A crash at any moment leaves the records before, or these
+    /// and the new one. After `Ok` it leaves the new one too. After `Memory` the log stands as before. After `Disk` the log is
+    /// spent: which of the two a crash leaves is in doubt, and it takes no more seals.
+    pub fn seal(&mut self, alloc: Global, item: &Record) -> Result<(), SealFault>
+        requires settled { IsSettled D.told D.size self.old }
+        requires item { IsRecord item.now }
+        requires room { self.old.end + (2 + length (record_bytes item.now)) ≤ MAX_LEN }
+        ensures story { Tells (D.told self.old.disk) (λ h. Changes (mount_of h.now.seen) (with_record item.now (mount_of h.now.seen)) 2 result h (D.told self.new.disk)) }
+        ensures settled { OnOk result (IsSettled D.told D.size self.new) }
+        ensures goes_on { IsErrOf result SealFault.Memory → IsSettled D.told D.size self.new }
+        ensures spent { IsErrOf result SealFault.Disk → self.new.spent ≡ true }
+        ensures grown { OnOk result ((self.new.records ≡ self.old.records + 1) × (self.new.end ≡ self.old.end + (1 + length (record_bytes item.now)))) }
+        ensures same { OnErr result ((self.new.records ≡ self.old.records) × (self.new.end ≡ self.old.end)) }
+        ensures header { self.new.header ≡ self.old.header }
+        ensures silent { D.told self.old.disk ≡ None → D.told self.new.disk ≡ None }
+        ensures cause { HasLogCause (D.faults self.old.disk) (D.faults self.new.disk) result }
+    {
+        let body = staged(alloc, item)?;
+        match open_gate(&mut self.disk, self.end, &body) {
+            Ok(()) => {
+                self.records += 1;
+                self.end += body.len() as u64;
+                Ok(())
+            }
+            Err(DiskFault::Memory) => Err(SealFault::Memory),
+            Err(DiskFault::Failed) => {
+                self.spent = true;
+                Err(SealFault::Disk)
+            }
+        }
+    }
+}
+
+// What is written behind the closed gate: the record, and the next gate.
+fn staged(alloc: Global, item: &Record) -> Result<Vec<u8>, AllocError>
+    requires { IsRecord item.now }
+    ensures { IfOk result (λ body. body.items ≡ record_bytes item.now ++ 0 ∷ []) }
+{
+    let mut body = Vec::new(alloc);
+    item.put(&mut body)?;
+    body.push(CLOSED)?;
+    Ok(body)
+}
