@@ -5,6 +5,7 @@ use ken_record::Header;
 
 // The bytes of a gate.
 pub(crate) const OPEN: u8 = 0xa5;
+
 pub(crate) const CLOSED: u8 = 0;
 
 /// A header, records, and then a closed gate, on a disk.

@@ -169,7 +169,11 @@ fn records_in(alloc: Global, header: Header, bytes: &[u8], most: usize) -> Resul
                 end += (rest.len() - after.len()) as u64;
                 rest = after;
             }
-            None => return Ok(Found { header, records, end }),
+            None => return Ok(Found {
+                header,
+                records,
+                end,
+            }),
         }
     }
     Err(LogFault::Damaged { place: end })
