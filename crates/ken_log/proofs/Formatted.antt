@@ -1,23 +1,20 @@
 -- A log is made on a disk that has none.
-use Rattle.std.proofs.Common.{◌≡◌, ℕ, zero, suc, ◌+◌, ◌<◌, ◌≤◌, Bool, true, false, cond, ltb, List, [], ◌∷◌, ◌++◌, length, get_or, take, drop, refl, sym, ap, subst, ◌∙◌, append_assoc, arith, length-append, inl, inr, ⊎_elim, ◌⊎◌, Option, Some, None, Result, Ok, Err}
-use Rattle.std.specs.Prelude.{OnOk, IsErrOf}
+use Rattle.std.proofs.Common.{◌≡◌, ℕ, ◌+◌, ◌<◌, ◌≤◌, false, List, [], ◌∷◌, ◌++◌, length, get_or, drop, refl, sym, ap, subst, ◌∙◌, append_assoc, arith, inl, inr, ⊎_elim, ◌⊎◌, Option, Some, None, Result, Ok, Err}
+use Rattle.std.specs.Prelude.{OnOk}
 use Rattle.std.proofs.lemmas.List.{append-nil}
-use Rattle.std.proofs.lemmas.Bool.{cases_lt, le-ltb}
 use Rattle.ken_disk.specs.declared.faults.DiskFault.{DiskFault}
 use Rattle.ken_disk.specs.declared.faults.DiskFault.TheVariants.{Failed, Memory}
-use Rattle.ken_disk.specs.Bytes.{overwrite}
 use Rattle.ken_disk.specs.Story.{DiskState, Story, IsAtRest, Through, Tells}
 use Rattle.ken_disk.specs.Through.{Torn, IsWritten, WroteThrough}
 use Rattle.ken_disk.proofs.Images.{at_rest_leaves}
 use Rattle.ken_disk.proofs.Moments.{stays, weaker, joined}
 use Rattle.ken_record.specs.declared.header.Header.{Header}
-use Rattle.ken_record.specs.declared.record.Record.{Record}
 use Rattle.ken_record.specs.Spelling.{header_bytes}
 use Rattle.ken_record.proofs.Sizes.{header_long}
 use Rattle.ken_log.specs.declared.faults.SealFault.TheVariants as seals
 use Rattle.ken_log.specs.declared.log.Log.{Log}
-use Rattle.ken_log.specs.Mounts.{Mounted, Unformatted, Damaged, Whole, mount_of}
-use Rattle.ken_log.specs.Layout.{opened, log_bytes, IsLogHeader, IsLogOf}
+use Rattle.ken_log.specs.Mounts.{Mounted, Unformatted, Whole, mount_of}
+use Rattle.ken_log.specs.Layout.{log_bytes, IsLogHeader, IsLogOf}
 use Rattle.ken_log.specs.Seals.{MountsAs, MountsAsEither, Changes, as_fault, as_seal}
 use Rattle.ken_log.specs.Opening.{IsClosedBehind, IsOpenBehind, IsGateOf, Opens}
 use Rattle.ken_log.specs.Formats.{IsBlank, Closes, Formats}

@@ -1,6 +1,6 @@
 -- A log that lies in bytes is what they mount as.
-use Rattle.std.proofs.Common.{◌≡◌, ℕ, zero, suc, ◌+◌, ◌<◌, ◌≤◌, Bool, true, false, cond, ltb, not, List, [], ◌∷◌, ◌++◌, length, get_or, take, drop, Option, Some, None, refl, sym, ap, subst, ◌∙◌, append_assoc, arith, length-append, inl, inr, ⊎_elim, ◌⊎◌}
-use Rattle.std.specs.Prelude.{◌==◌, ◌||◌, nat_lt}
+use Rattle.std.proofs.Common.{◌≡◌, ℕ, zero, suc, ◌+◌, ◌<◌, ◌≤◌, Bool, true, false, cond, ltb, not, List, [], ◌∷◌, ◌++◌, length, get_or, drop, Option, Some, None, refl, sym, ap, subst, ◌∙◌, append_assoc, arith, length-append}
+use Rattle.std.specs.Prelude.{◌==◌, ◌||◌}
 use Rattle.std.specs.List.{flat_map, AllByRecursion}
 use Rattle.std.proofs.lemmas.List.{append-nil}
 use Rattle.std.proofs.lemmas.List.Concat.{flat_map-cons}
@@ -8,12 +8,12 @@ use Rattle.std.proofs.lemmas.Bool.{lt-ltb, ltb-true, le-ltb, ne_eqb}
 use Rattle.ken_record.specs.declared.header.Header.{Header}
 use Rattle.ken_record.specs.declared.record.Record.{Record}
 use Rattle.ken_record.specs.Spelling.{header_bytes, record_bytes}
-use Rattle.ken_record.specs.Grammar.{IsHeader, IsRecord}
+use Rattle.ken_record.specs.Grammar.{IsRecord}
 use Rattle.ken_record.specs.Reading.{header_at, record_at}
 use Rattle.ken_record.proofs.Members.{header_form, record_form}
 use Rattle.ken_record.proofs.Sizes.{header_long}
-use Rattle.ken_log.specs.Mounts.{Mounted, Unformatted, Damaged, Whole, is_open, is_unformatted, records_from, after_header, mount_of}
-use Rattle.ken_log.specs.Layout.{opened, log_bytes, IsLogHeader, IsLogOf}
+use Rattle.ken_log.specs.Mounts.{Mounted, Unformatted, Damaged, Whole, is_open, records_from, after_header, mount_of}
+use Rattle.ken_log.specs.Layout.{opened, IsLogHeader, IsLogOf}
 
 pub closed_gate : (gate : ℕ) → (gate ≡ 165 → ⊥) → is_open gate ≡ false
 closed_gate gate closed = ne_eqb gate 165 closed

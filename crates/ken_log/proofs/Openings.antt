@@ -1,16 +1,15 @@
 -- Bytes are written behind a closed gate, and then the gate is opened.
-use Rattle.std.proofs.Common.{◌≡◌, ℕ, ◌+◌, ◌<◌, ◌≤◌, List, [], ◌∷◌, ◌++◌, length, drop, refl, sym, ap, subst, ◌∙◌, append_assoc, arith, length-append, inl, inr, ⊎_elim, ◌⊎◌, Option, Some, Result, Ok, Err}
-use Rattle.std.specs.Prelude.{IsErrOf}
+use Rattle.std.proofs.Common.{◌≡◌, ℕ, ◌+◌, List, [], ◌∷◌, ◌++◌, length, drop, refl, sym, ap, subst, ◌∙◌, append_assoc, arith, length-append, inl, inr, ⊎_elim, Option, Some, Result, Ok, Err}
 use Rattle.std.proofs.lemmas.Bool.Decides.{eqb_tells}
 use Rattle.ken_disk.specs.declared.faults.DiskFault.{DiskFault}
 use Rattle.ken_disk.specs.declared.faults.DiskFault.TheVariants.{Failed, Memory}
 use Rattle.ken_disk.specs.Bytes.{overwrite}
-use Rattle.ken_disk.specs.Story.{DiskState, Story, IsAtRest, Through, Tells, Leaves}
+use Rattle.ken_disk.specs.Story.{Story, IsAtRest, Through}
 use Rattle.ken_disk.specs.Through.{Torn, IsWritten, WroteThrough}
 use Rattle.ken_disk.proofs.Images.{at_rest_leaves}
 use Rattle.ken_disk.proofs.Moments.{weaker, joined}
 use Rattle.ken_log.specs.Mounts.{Mounted, mount_of}
-use Rattle.ken_log.specs.Seals.{MountsAs, MountsAsEither, Changes, as_seal}
+use Rattle.ken_log.specs.Seals.{MountsAs, MountsAsEither}
 use Rattle.ken_log.specs.Opening.{IsClosedBehind, IsOpenBehind, IsGateOf, Opens}
 use Rattle.ken_log.proofs.Parts.{over_at, torn_at, torn_byte}
 

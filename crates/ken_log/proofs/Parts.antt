@@ -1,5 +1,5 @@
 -- Writes in the middle of bytes: what stands before them stays.
-use Rattle.std.proofs.Common.{◌≡◌, ℕ, ◌+◌, ◌<◌, ◌≤◌, List, [], ◌∷◌, ◌++◌, length, take, drop, refl, sym, ap, ◌∙◌, append_assoc, arith, length-append, length-drop}
+use Rattle.std.proofs.Common.{◌≡◌, ℕ, ◌+◌, ◌≤◌, List, [], ◌∷◌, ◌++◌, length, take, drop, refl, sym, ap, ◌∙◌, arith, length-append}
 use Rattle.std.proofs.lemmas.List.{take_at, drop_at, take-append-drop, drop-drop}
 use Rattle.ken_disk.specs.Bytes.{overwrite}
 use Rattle.ken_disk.specs.Through.{Torn}

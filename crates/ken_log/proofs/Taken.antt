@@ -1,5 +1,5 @@
 -- What is read from the front of a log's bytes.
-use Rattle.std.proofs.Common.{◌≡◌, ℕ, zero, suc, ◌+◌, ◌-◌, ◌<◌, ◌≤◌, Bool, true, false, cond, ltb, List, [], ◌∷◌, ◌++◌, length, get_or, take, drop, refl, sym, ap, subst, ◌∙◌, append_assoc, arith, length-append, Option, Some, None, Result, Ok, Err}
+use Rattle.std.proofs.Common.{◌≡◌, ℕ, zero, suc, ◌+◌, ◌-◌, ◌<◌, ◌≤◌, false, List, [], ◌∷◌, ◌++◌, length, get_or, take, drop, refl, sym, ap, subst, ◌∙◌, append_assoc, arith, length-append, Option, Some, None, Result, Ok, Err}
 use Rattle.std.specs.Prelude.{◌==◌, IsErrOf, IfOk}
 use Rattle.std.specs.List.{flat_map, AllByRecursion}
 use Rattle.std.proofs.lemmas.List.{append-nil, take_all, length-drop}
@@ -16,11 +16,11 @@ use Rattle.ken_record.specs.Items.{Spells}
 use Rattle.ken_record.specs.Grammar.{IsHeader, IsRecord}
 use Rattle.ken_record.specs.Reading.{◌>>=◌, Fails, header_at, record_at, item_at}
 use Rattle.ken_record.proofs.Sizes.{header_long}
-use Rattle.ken_record.proofs.Members.{header_form, record_form}
+use Rattle.ken_record.proofs.Members.{header_form}
 use Rattle.ken_disk.specs.Story.{Story, Tells, IsAtRest}
 use Rattle.ken_log.specs.declared.log.Log.{Log}
-use Rattle.ken_log.specs.Settled.{Holds, IsSettled}
-use Rattle.ken_log.specs.Mounts.{Mounted, mount_of, Damaged, Whole, records_from, after_header}
+use Rattle.ken_log.specs.Settled.{IsSettled}
+use Rattle.ken_log.specs.Mounts.{mount_of, Damaged, Whole, records_from, after_header}
 use Rattle.ken_log.specs.Layout.{opened, log_bytes, IsLogHeader, IsLogOf}
 use Rattle.ken_log.specs.Mounting.{IsFirst, IsNext, IsClosed, IsDamaged, NextIs}
 use Rattle.ken_log.proofs.LogMounts.{bad_read, one_read, none_read, few_records, mounts_from}

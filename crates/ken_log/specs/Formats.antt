@@ -1,5 +1,5 @@
 -- What a format makes of a disk that has no log.
-use Rattle.std.specs.Prelude.{◌≡◌, ℕ, ◌+◌, List, [], ◌∷◌, ◌++◌, Option, Some, Result, Ok, Err, OnOk, IsErrOf}
+use Rattle.std.specs.Prelude.{◌≡◌, ◌+◌, [], ◌∷◌, ◌++◌, Option, Some, Result, Ok, Err, OnOk, IsErrOf}
 use Rattle.ken_disk.specs.declared.faults.DiskFault.{DiskFault}
 use Rattle.ken_disk.specs.declared.faults.DiskFault.TheVariants.{Memory}
 use Rattle.ken_disk.specs.Story.{DiskState, Story, IsAtRest, Through}
@@ -7,7 +7,6 @@ use Rattle.ken_record.specs.declared.header.Header.{Header}
 use Rattle.ken_record.specs.Spelling.{header_bytes}
 use Rattle.ken_log.specs.declared.log.Log.{Log}
 use Rattle.ken_log.specs.Mounts.{Unformatted, Whole, mount_of}
-use Rattle.ken_log.specs.Layout.{IsLogHeader}
 use Rattle.ken_log.specs.Seals.{MountsAs, Changes, as_seal}
 use Rattle.ken_log.specs.Opening.{IsClosedBehind, IsOpenBehind}
 

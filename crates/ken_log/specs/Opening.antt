@@ -1,5 +1,5 @@
 -- Bytes are written behind a closed gate, and then the gate is opened.
-use Rattle.std.specs.Prelude.{◌≡◌, ℕ, ◌+◌, List, ◌∷◌, ◌++◌, length, Option, Result, OnOk, IsErrOf}
+use Rattle.std.specs.Prelude.{◌≡◌, ℕ, List, ◌∷◌, ◌++◌, Option, Result, OnOk, IsErrOf}
 use Rattle.ken_disk.specs.declared.faults.DiskFault.{DiskFault}
 use Rattle.ken_disk.specs.declared.faults.DiskFault.TheVariants.{Memory}
 use Rattle.ken_disk.specs.Story.{DiskState, Story, IsAtRest}

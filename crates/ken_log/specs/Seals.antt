@@ -4,10 +4,9 @@ use Rattle.ken_disk.specs.declared.faults.DiskFault.{DiskFault}
 use Rattle.ken_disk.specs.declared.faults.DiskFault.TheVariants as disk
 use Rattle.ken_disk.specs.Causes.{Rose}
 use Rattle.ken_disk.specs.Story.{Story, Leaves, Through}
-use Rattle.ken_record.specs.declared.record.Record.{Record}
 use Rattle.ken_log.specs.declared.faults.SealFault.{SealFault}
 use Rattle.ken_log.specs.declared.faults.SealFault.TheVariants.{Disk, Memory}
-use Rattle.ken_log.specs.Mounts.{Mounted, mount_of, with_record}
+use Rattle.ken_log.specs.Mounts.{Mounted, mount_of}
 
 -- the fault of a log for that of its disk
 abbrev pub as_fault : DiskFault → SealFault

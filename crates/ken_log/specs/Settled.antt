@@ -1,5 +1,5 @@
 -- A log that takes seals.
-use Rattle.std.specs.Prelude.{◌≡◌, ℕ, ◌+◌, ◌≤◌, List, length, Option, Bool, false}
+use Rattle.std.specs.Prelude.{◌≡◌, ℕ, ◌+◌, ◌≤◌, List, length, Option, false}
 use Rattle.ken_disk.specs.Story.{Story, Tells, IsAtRest}
 use Rattle.ken_record.specs.declared.record.Record.{Record}
 use Rattle.ken_log.specs.declared.log.Log.{Log}

@@ -1,4 +1,4 @@
-use Rattle.std.proofs.Common.{◌∙◌, length, arith}
+use Rattle.std.proofs.Common.{◌∙◌, arith}
 use Rattle.std.proofs.lemmas.Result.{err_from_is_err_and}
 use Rattle.ken_log.proofs.Formatted.{closes_not, closes_by_none, closes_by_gate}
 use Rattle.ken_log.proofs.format.close_first_gate.Goals as goal

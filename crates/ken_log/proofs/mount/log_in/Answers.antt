@@ -1,4 +1,4 @@
-use Rattle.std.proofs.Common.{◌≡◌, ◌≤◌, ◌∙◌, ℕ, length, List, get_or, ap, subst, arith, length-append, length-drop, Err}
+use Rattle.std.proofs.Common.{◌≡◌, ◌∙◌, ℕ, length, List, get_or, ap, subst, arith, length-append, length-drop, Err}
 use Rattle.ken_record.specs.declared.faults.RecordFault.{RecordFault}
 use Rattle.ken_record.specs.Spelling.{header_bytes}
 use Rattle.ken_record.proofs.Sizes.{header_long}

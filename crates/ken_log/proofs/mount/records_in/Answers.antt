@@ -1,5 +1,5 @@
 use Rattle.std.proofs.Common.{arith}
-use Rattle.ken_log.proofs.Taken.{finds_none, finds_within, finds_next, finds_end, finds_all, finds_lies, next_some, next_none}
+use Rattle.ken_log.proofs.Taken.{finds_none, finds_within, finds_next, finds_end, finds_all, next_some, next_none}
 use Rattle.ken_log.proofs.mount.records_in.Goals as goal
 
 pub loop-init : goal.loop-init

@@ -1,4 +1,3 @@
-use Rattle.std.proofs.Common.{length}
 use Rattle.std.proofs.lemmas.Result.{err_from_is_err_and}
 use Rattle.ken_log.proofs.Openings.{not_staged, staged_and_opened}
 use Rattle.ken_log.proofs.opening.open_gate.Goals as goal
