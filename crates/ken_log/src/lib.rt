@@ -7,6 +7,8 @@ mod log;
 mod mount;
 mod opening;
 mod seal;
+#[cfg(test)]
+mod tests;
 
 pub use faults::{LogFault, SealFault};
 pub use log::Log;
