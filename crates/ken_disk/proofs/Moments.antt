@@ -1,5 +1,5 @@
 -- How the moments of one call join those of the next.
-use Rattle.std.proofs.Common.{ℕ, List, [], ◌∷◌, ◌++◌, refl, sym, ap, ◌∙◌, append_assoc}
+use Rattle.std.proofs.Common.{◌≡◌, ℕ, List, [], ◌∷◌, ◌++◌, refl, sym, ap, subst, ◌∙◌, append_assoc}
 use Rattle.std.specs.List.{AllByRecursion}
 use Rattle.ken_disk.specs.Story.{DiskState, Story, Leaves, Through}
 use Rattle.ken_disk.specs.Steps.{goes_to}
@@ -42,6 +42,14 @@ module _ (P : List ℕ → Type 0) where
       all : AllByRecursion (Leaves P) ((second.steps ++ first.steps) ++ old.now ∷ [])
       all =
           rw append_assoc (both (Leaves P) second.steps (first.steps ++ old.now ∷ []) (front_of (Leaves P) second.steps (mid.now ∷ []) second.each) first.each)
+
+  -- the last of the moments is now
+  pub leaves_now : (old new : Story) → Through P old new → Leaves P new.now
+  leaves_now old new through = newest through.steps through.grown through.each
+    where
+      newest : (steps : List DiskState) → new.now ∷ new.past ≡ steps ++ old.now ∷ old.past → AllByRecursion (Leaves P) (steps ++ old.now ∷ []) → Leaves P new.now
+      newest [] grown each = let is : new.now ≡ old.now = cc grown in subst (Leaves P) (sym is) each.0
+      newest (s ∷ steps) grown each = let is : new.now ≡ s = cc grown in subst (Leaves P) (sym is) each.0
 
   pub weaker : (Q : List ℕ → Type 0) (old new : Story) → ((image : List ℕ) → P image → Q image) → Through P old new → Through Q old new
   weaker Q old new so through = record {

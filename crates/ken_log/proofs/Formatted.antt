@@ -4,7 +4,7 @@ use Rattle.std.specs.Prelude.{OnOk}
 use Rattle.std.proofs.lemmas.List.{append-nil}
 use Rattle.ken_disk.specs.declared.faults.DiskFault.{DiskFault}
 use Rattle.ken_disk.specs.declared.faults.DiskFault.TheVariants.{Failed, Memory}
-use Rattle.ken_disk.specs.Story.{DiskState, Story, IsAtRest, Through, Tells}
+use Rattle.ken_disk.specs.Story.{DiskState, Story, IsAtRest, Through, Tells, empty}
 use Rattle.ken_disk.specs.Through.{Torn, IsWritten, WroteThrough}
 use Rattle.ken_disk.proofs.Images.{at_rest_leaves}
 use Rattle.ken_disk.proofs.Moments.{stays, weaker, joined}
@@ -21,6 +21,11 @@ use Rattle.ken_log.specs.Formats.{IsBlank, Closes, Formats}
 use Rattle.ken_log.specs.Settled.{Holds, IsSettled}
 use Rattle.ken_log.proofs.Sealed.{told_after}
 use Rattle.ken_log.proofs.LogMounts.{log_mounts, short_mounts, closed_mounts, open_is_short}
+
+-- a disk that was always empty has no log
+pub blank_is_blank : IsBlank empty
+unfolding mount_of
+blank_is_blank = record { rests = record { safe = refl; none = λ place within. within; within = omega arith }; blank = refl }
 
 -- the log that is made
 first_lies : (head : Header) (free : List ℕ) → IsLogHeader head → IsLogOf (165 ∷ ((header_bytes head ++ 0 ∷ []) ++ free)) head [] 32

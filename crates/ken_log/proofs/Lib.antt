@@ -4,3 +4,4 @@ pub mod Openings
 pub mod Sealed
 pub mod Formatted
 pub mod Taken
+pub mod Restarts

@@ -1,4 +1,4 @@
-use Rattle.std.proofs.Common.{rules, ◌≡◌, ◌≤◌, length, ℕ, ◌+◌, arith}
+use Rattle.std.proofs.Common.{arith}
 use Rattle.ken_log.proofs.tests.write_log.Goals as goal
 
 pub seal-sealed-requires-clause-room : goal.seal-sealed-requires-clause-room

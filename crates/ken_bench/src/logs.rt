@@ -1,0 +1,105 @@
+// Logs over disks in memory.
+ghost use Rattle.std.specs.Prelude.{◌≡◌, ◌+◌, ◌≤◌, true, IfOk};
+ghost use Rattle.ken_disk.specs.Story.{IsAtRest};
+ghost use Rattle.ken_record.specs.Grammar.{IsRecord};
+ghost use Rattle.ken_bench.specs.Logs.{TakesSeals};
+
+use crate::fault::Fault;
+use crate::sample;
+use ken_disk::{Disk, MAX_LEN};
+use ken_log::{Log, SealFault};
+use ken_memdisk::{Cut, MemDisk};
+use ken_record::{Header, MAX_FIELDS, Record, lengths};
+use std::alloc::Global;
+
+const HEADER: Header = Header {
+    node: 0,
+    nodes: 3,
+    pages: 16,
+    generation: 1,
+    turns: 0,
+    base_len: 0,
+};
+
+// A record, its length, its gate and the next gate end within the disk's limit from here on.
+const MAX_END: u64 = MAX_LEN - MAX_FIELDS as u64 - 6;
+
+/// A log, and how many of the seals that made it answered Ok.
+#[derive(Debug, Drop)]
+pub(crate) struct Sealed {
+    pub log: Log<MemDisk>,
+    pub acknowledged: u64,
+}
+
+/// A log with no records on a disk with these cuts.
+pub(crate) fn format(alloc: Global, cuts: &[Cut]) -> Result<Log<MemDisk>, Fault>
+    ensures settled { IfOk result (λ log. TakesSeals log) }
+    ensures none { IfOk result (λ log. log.records ≡ 0) }
+{
+    let disk = MemDisk::new(alloc, cuts)?;
+    Log::format(alloc, disk, &HEADER).map_err(|_| Fault::Format)
+}
+
+/// The log that the disk holds.
+pub(crate) fn mount(alloc: Global, disk: MemDisk) -> Result<Log<MemDisk>, Fault>
+    requires { IsAtRest disk.held.story.now }
+    ensures settled { IfOk result (λ log. TakesSeals log) }
+    ensures story { IfOk result (λ log. log.disk.held.story ≡ disk.held.story) }
+{
+    match Log::mount(alloc, disk) {
+        Ok((log, _)) => Ok(log),
+        Err((fault, _)) => Err(Fault::Mount(fault)),
+    }
+}
+
+// Seals a record, and says whether that answered Ok. Where the disk fails it is restarted, and the log is mounted anew.
+fn seal_next(alloc: Global, log: Log<MemDisk>, item: &Record) -> Result<(Log<MemDisk>, bool), Fault>
+    requires room { log.end ≤ MAX_END }
+    requires settled { TakesSeals log }
+    requires item { IsRecord item.now }
+    ensures settled { IfOk result (λ x. TakesSeals x.0) }
+    ensures kept { IfOk result (λ x. (log.records ≤ x.0.records) × (x.0.records ≤ log.records + 1)) }
+    ensures acknowledged { IfOk result (λ x. x.1 ≡ true → x.0.records ≡ log.records + 1) }
+{
+    let mut log = log;
+    lengths();
+    match log.seal(alloc, item) {
+        Ok(()) => Ok((log, true)),
+        Err(SealFault::Memory) => Err(Fault::Memory),
+        Err(SealFault::Disk) => {
+            let mut disk = log.release();
+            let pick = disk.hint();
+            disk.restart(pick)?;
+            Ok((mount(alloc, disk)?, false))
+        }
+    }
+}
+
+/// Seals a record so many times, whether or not the disk fails, each time as that of the next turn.
+pub(crate) fn seal_all(
+    alloc: Global,
+    log: Log<MemDisk>,
+    item: &mut Record,
+    count: u64,
+) -> Result<Sealed, Fault>
+    requires settled { TakesSeals log }
+    requires item { IsRecord item.old }
+    ensures settled { IfOk result (λ s. TakesSeals s.log) }
+    // At least one record more for each seal that answered Ok, and at most one for each that was tried.
+    ensures kept { IfOk result (λ s. (log.records + s.acknowledged ≤ s.log.records) × (s.log.records ≤ log.records + count)) }
+{
+    let mut log = log;
+    let mut acknowledged = 0;
+    for _ in 0..count {
+        if log.end() > MAX_END {
+            return Err(Fault::Full);
+        }
+        sample::number(item, log.records() + 1);
+        let (next, is_ok) = seal_next(alloc, log, item)?;
+        log = next;
+        if is_ok {
+            acknowledged += 1;
+        }
+    }
+    Ok(Sealed { log, acknowledged })
+}

@@ -1,0 +1,55 @@
+// A record that is sealed again and again.
+ghost use Rattle.std.specs.Prelude.{◌≤◌, IfOk};
+ghost use Rattle.ken_record.specs.Grammar.{IsRecord};
+
+use crate::fault::Fault;
+use ken_model::{Items, OUTSIDE, Octets, Out};
+use ken_record::{Page, Record, Sent};
+use std::alloc::Global;
+
+const PAGE: usize = 256;
+
+// A turn that took a message from the outside, sent one byte, put out one, and changed one page.
+pub(crate) fn record(alloc: Global) -> Result<Record, Fault>
+    ensures { IfOk result (λ item. IsRecord item) }
+{
+    let sent = Sent {
+        to: 1,
+        number: 1,
+        bytes: Octets::new(vec![in alloc; b'1']?),
+    };
+    let out = Out {
+        number: 1,
+        text: Octets::new(vec![in alloc; b'2']?),
+    };
+    let page = Page {
+        page: 0,
+        bytes: Octets::new(vec![in alloc; 0x5a; PAGE]?),
+    };
+    let item = Record {
+        turn: 1,
+        stamp: 1,
+        from: OUTSIDE,
+        number: 1,
+        draws: Items::new(Vec::new(alloc)),
+        sends: Items::new(vec![in alloc; sent]?),
+        outs: Items::new(vec![in alloc; out]?),
+        pages: Items::new(vec![in alloc; page]?),
+    };
+    if item.fits() {
+        Ok(item)
+    } else {
+        Err(Fault::Record)
+    }
+}
+
+// Makes it the record of this turn, whose message has that number too.
+pub(crate) fn number(item: &mut Record, turn: u64)
+    requires turn { 1 ≤ turn }
+    requires item { IsRecord item.old }
+    ensures { IsRecord item.new }
+{
+    item.turn = turn;
+    item.stamp = turn;
+    item.number = turn;
+}
