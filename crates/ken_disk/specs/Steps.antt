@@ -37,6 +37,12 @@ abbrev pub after_sync : {T : Type 0} → Result T DiskFault → Story → Story
 after_sync (Ok _) h = goes_to (made_safe h.now) h
 after_sync (Err _) h = h
 
+-- after a write with its sync, both of which answered Ok
+abbrev pub after_write_through : ℕ → List ℕ → Story → Story
+after_write_through at bytes h =
+    let wrote = goes_to (written at bytes h.now) h in
+    goes_to (made_safe wrote.now) wrote
+
 -- the disk holds one of its possible images, with nothing pending
 abbrev pub WentDown : Option Story → Option Story → Type 0
 WentDown (Some h) told = (image : List ℕ) × IsImage h.now image × (told ≡ Some (goes_to (restarted image h.now) h))

@@ -5,3 +5,4 @@ pub mod Opening
 pub mod Settled
 pub mod Formats
 pub mod Mounting
+pub mod Calls

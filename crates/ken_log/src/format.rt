@@ -6,6 +6,8 @@ ghost use Rattle.ken_record.specs.Spelling.{header_bytes};
 ghost use Rattle.ken_log.specs.Mounts.{Unformatted, Whole};
 ghost use Rattle.ken_log.specs.Layout.{IsLogHeader};
 ghost use Rattle.ken_log.specs.Seals.{Changes, HasLogCause};
+ghost use Rattle.ken_disk.specs.Steps.{went, after_write_through};
+ghost use Rattle.ken_log.specs.Calls.{closing, format_calls, gate_calls};
 ghost use Rattle.ken_log.specs.Settled.{IsSettled};
 ghost use Rattle.ken_log.specs.Formats.{IsBlank, Closes, Formats, disk_of, answer_of};
 
@@ -29,6 +31,7 @@ impl<D: Disk> Log<D> {
         requires blank { Tells (D.told disk) (λ h. IsBlank h.now) }
         ensures story { Tells (D.told disk) (λ h. Changes Unformatted (Whole header.now []) 3 (answer_of result) h (D.told (disk_of result))) }
         ensures settled { IfOk result (λ log. IsSettled D.told D.size log) }
+        ensures calls { IfOk result (λ log. D.told log.disk ≡ went (format_calls header.now) (D.told disk)) }
         ensures made { IfOk result (λ log. (log.header ≡ header.now) × (log.records ≡ 0) × (log.end ≡ 32)) }
         ensures rests { IsErrOf (answer_of result) SealFault.Memory → Tells (D.told (disk_of result)) (λ h. IsAtRest h.now) }
         ensures silent { D.told disk ≡ None → D.told (disk_of result) ≡ None }
@@ -66,6 +69,7 @@ fn staged(alloc: Global, header: &Header) -> Result<Vec<u8>, AllocError>
 fn make<D: Disk>(disk: &mut D, body: &[u8]) -> Result<(), DiskFault>
     requires { length body.now ≡ 32 }
     ensures story { Tells (D.told disk.old) (λ h. (head : Header) → IsLogHeader head → body.now ≡ header_bytes head ++ 0 ∷ [] → IsBlank h.now → Formats head result h (D.told disk.new)) }
+    ensures calls { OnOk result (D.told disk.new ≡ went (λ h. gate_calls 0 body.now (after_write_through 0 (closing h.now.seen) h)) (D.told disk.old)) }
     ensures silent { D.told disk.old ≡ None → D.told disk.new ≡ None }
     ensures size { OnOk result (33 ≤ D.size disk.new) }
     ensures cause { HasCause (D.faults disk.old) (D.faults disk.new) result }
@@ -77,6 +81,7 @@ fn make<D: Disk>(disk: &mut D, body: &[u8]) -> Result<(), DiskFault>
 // Makes the first gate a closed one, by a write of no bytes where it is.
 fn close_first_gate<D: Disk>(disk: &mut D) -> Result<(), DiskFault>
     ensures story { Tells (D.told disk.old) (λ h. IsBlank h.now → Closes result h (D.told disk.new)) }
+    ensures calls { OnOk result (D.told disk.new ≡ went (λ h. after_write_through 0 (closing h.now.seen) h) (D.told disk.old)) }
     ensures silent { D.told disk.old ≡ None → D.told disk.new ≡ None }
     ensures size { OnOk result (1 ≤ D.size disk.new) }
     ensures cause { HasCause (D.faults disk.old) (D.faults disk.new) result }

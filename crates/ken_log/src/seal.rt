@@ -4,6 +4,8 @@ ghost use Rattle.ken_record.specs.Grammar.{IsRecord};
 ghost use Rattle.ken_record.specs.Spelling.{record_bytes};
 ghost use Rattle.ken_log.specs.Mounts.{mount_of, with_record};
 ghost use Rattle.ken_log.specs.Seals.{Changes, HasLogCause};
+ghost use Rattle.ken_disk.specs.Steps.{went};
+ghost use Rattle.ken_log.specs.Calls.{seal_calls};
 ghost use Rattle.ken_log.specs.Settled.{IsSettled};
 
 use crate::SealFault;
@@ -23,6 +25,7 @@ impl<D: Disk> Log<D> {
         requires item { IsRecord item.now }
         requires room { self.old.end + (2 + length (record_bytes item.now)) ≤ MAX_LEN }
         ensures story { Tells (D.told self.old.disk) (λ h. Changes (mount_of h.now.seen) (with_record item.now (mount_of h.now.seen)) 2 result h (D.told self.new.disk)) }
+        ensures calls { OnOk result (D.told self.new.disk ≡ went (seal_calls self.old.end item.now) (D.told self.old.disk)) }
         ensures settled { OnOk result (IsSettled D.told D.size self.new) }
         ensures goes_on { IsErrOf result SealFault.Memory → IsSettled D.told D.size self.new }
         ensures spent { IsErrOf result SealFault.Disk → self.new.spent ≡ true }
