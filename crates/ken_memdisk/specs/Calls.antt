@@ -3,7 +3,7 @@ use Rattle.std.specs.Prelude.{ℕ, ◌||◌, ◌==◌, List, Bool, true, false, 
 use Rattle.std.specs.List.{find}
 use Rattle.std.specs.Option.{option_map, unwrap_or}
 use Rattle.ken_disk.specs.Causes.{risen}
-use Rattle.ken_memdisk.specs.declared.calls.Cut.{Cut}
+use Rattle.ken_memdisk.specs.declared.cut.Cut.{Cut}
 
 -- the cuts, and the writes and syncs so far
 pub record CallCounts : Type 0 where

@@ -1,23 +1,17 @@
-// The cuts of a disk, and its calls.
+// The calls of a disk, and its cuts.
 ghost use Rattle.std.specs.Prelude.{◌≡◌, true, false, OnOk, OnErr, IsErrOf, IfOk};
 ghost use Rattle.ken_disk.specs.Causes.{HasCause};
-ghost use Rattle.ken_memdisk.specs.Calls.{no_calls, pick_at, fails_next, after_call, after_cut, after_failed_read, after_restart};
+ghost use Rattle.ken_memdisk.specs.Calls.{no_calls, fails_next, after_call, after_cut, after_failed_read, after_restart};
 
+use crate::cut::Cut;
+use crate::cuts::Cuts;
 use ken_disk::DiskFault;
 use std::alloc::{AllocError, Global};
 use std::marker::Model;
 
-/// A call that fails. `call` counts the writes and syncs of a disk from 1, over restarts too. `pick` is the pick that the
-/// disk then proposes for its restart.
-#[derive(Clone, Copy, Debug, PartialEq, Eq)]
-pub struct Cut {
-    pub call: u64,
-    pub pick: u64,
-}
-
 #[derive(Debug, Drop)]
 pub(crate) struct Calls {
-    cuts: Vec<Cut>,
+    cuts: Cuts,
     made: u64,
     down: bool,
     hint: u64,
@@ -29,14 +23,7 @@ impl Model for Calls {
 
     ghost Value = { CallCounts };
 
-    ghost view = { λ c. record { cuts = c.cuts.items; made = c.made; down = c.down; hint = c.hint; faults = c.faults } };
-}
-
-// The pick of the first cut at this call.
-fn pick_at(cuts: &[Cut], call: u64) -> Option<u64>
-    ensures { result ≡ pick_at cuts.now call }
-{
-    cuts.iter().find(|cut| cut.call == call).map(|cut| cut.pick)
+    ghost view = { λ c. record { cuts = c.cuts; made = c.made; down = c.down; hint = c.hint; faults = c.faults } };
 }
 
 impl Calls {
@@ -44,7 +31,7 @@ impl Calls {
         ensures { IfOk result (λ c. c ≡ no_calls cuts.now) }
     {
         Ok(Calls {
-            cuts: cuts.to_vec(alloc)?,
+            cuts: Cuts::new(alloc, cuts)?,
             made: 0,
             down: false,
             hint: 0,
@@ -67,7 +54,7 @@ impl Calls {
         ensures cause { HasCause self.old.faults self.new.faults result }
     {
         self.made = self.made.saturating_add(1);
-        if let Some(pick) = pick_at(&self.cuts, self.made) {
+        if let Some(pick) = self.cuts.pick_at(self.made) {
             self.down = true;
             self.hint = pick;
         }

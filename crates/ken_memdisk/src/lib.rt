@@ -4,6 +4,8 @@
 
 mod bytes;
 mod calls;
+mod cut;
+mod cuts;
 mod mem_disk;
 mod picks;
 mod platter;
@@ -11,5 +13,5 @@ mod steps;
 #[cfg(test)]
 mod tests;
 
-pub use calls::Cut;
+pub use cut::Cut;
 pub use mem_disk::MemDisk;

@@ -1,4 +1,5 @@
-use crate::calls::{Calls, Cut};
+use crate::calls::Calls;
+use crate::cut::Cut;
 use crate::platter::Platter;
 use ken_disk::{Disk, DiskFault, MAX_LEN};
 use std::alloc::{AllocError, Global};

@@ -95,6 +95,22 @@ fn calls_are_counted_over_restarts(rt: HostRuntime) -> Result<(), Fail> {
     Ok(())
 }
 
+#[test]
+fn the_first_of_two_cuts_at_one_call_counts(rt: HostRuntime) -> Result<(), Fail> {
+    let cuts = [
+        Cut { call: 2, pick: 5 },
+        Cut { call: 1, pick: 7 },
+        Cut { call: 1, pick: 9 },
+    ];
+    let mut disk = MemDisk::new(rt.alloc(), &cuts)?;
+    assert_eq!(rt; disk.write(0, b"a"), Err(DiskFault::Failed));
+    assert_eq!(rt; disk.hint(), 7);
+    disk.restart(1)?;
+    assert_eq!(rt; disk.sync(), Err(DiskFault::Failed));
+    assert_eq!(rt; disk.hint(), 5);
+    Ok(())
+}
+
 // Takes what another thread may be given.
 fn take<T: Send + Drop>(_value: T) {}
 
