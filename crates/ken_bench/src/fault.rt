@@ -11,7 +11,7 @@ pub(crate) enum Fault {
     Record,
     #[error("the log is full")]
     Full,
-    #[error("no log was made")]
+    #[error("the disk failed before there was a log")]
     Format,
     #[error("no log was mounted: {0}")]
     Mount(LogFault),

@@ -37,7 +37,11 @@ pub(crate) fn format(alloc: Global, cuts: &[Cut]) -> Result<Log<MemDisk>, Fault>
     ensures none { IfOk result (λ log. log.records ≡ 0) }
 {
     let disk = MemDisk::new(alloc, cuts)?;
-    Log::format(alloc, disk, &HEADER).map_err(|_| Fault::Format)
+    match Log::format(alloc, disk, &HEADER) {
+        Ok(log) => Ok(log),
+        Err((SealFault::Memory, _)) => Err(Fault::Memory),
+        Err((SealFault::Disk, _)) => Err(Fault::Format),
+    }
 }
 
 /// The log that the disk holds.
