@@ -53,7 +53,7 @@ impl fmt::Display for Done {
     }
 }
 
-// Cuts at calls that lie evenly among those of the seals, at each of a seal's four calls in turn.
+// Cuts at calls that lie evenly among those of the seals.
 fn cuts(alloc: Global, plan: &Plan) -> Result<Vec<Cut>, AllocError>
     requires { IsPlan plan.now }
 {

@@ -42,8 +42,8 @@ type Mounted = Result<u64, LogFault>;
 
 const NONE: Mounted = Err(LogFault::Unformatted);
 
-// The first calls that are cut, and what is mounted after a restart with pick 0 and with pick 1. The others leave one of
-// the two.
+// A call that is cut, and what is mounted after a restart with pick 0 and with pick 1. Each other pick leaves one of the
+// two. There are ten calls.
 const CUTS: [(u64, Mounted, Mounted); 11] = [
     (1, NONE, NONE),
     (2, NONE, NONE),
@@ -203,7 +203,7 @@ fn a_log_is_written_and_mounted(rt: HostRuntime) -> Result<(), Fail> {
 
 #[test]
 fn damage_is_told_by_its_place(rt: HostRuntime) -> Result<(), Fail> {
-    // The first byte of the log that is changed, the byte that stands there then, and what is mounted.
+    // The place of the one byte that is changed, what it becomes, and what is mounted.
     let changes = [
         (0, 0, NONE),
         (1, b'k', Err(LogFault::Damaged { place: 0 })),
