@@ -25,7 +25,7 @@ items_of : (head other : Header) (items more : List Record) → Whole head items
 items_of head other items more e = cc e
 
 module _ {D : Type 0} (told : D → Option Story) (size : D → ℕ) (log new : Log D) (settled : IsSettled told size log) (again : IsSettled told size new) where
-  -- one that is mounted anew has its records
+  -- one that is mounted anew has as many records
   pub mounted_anew : (now : Story) → told log.disk ≡ Some now → told new.disk ≡ Some now → new.records ≡ log.records
   mounted_anew now is still =
       let k = settled.holds now is in
@@ -33,7 +33,7 @@ module _ {D : Type 0} (told : D → Option Story) (size : D → ℕ) (log new : 
       let same = ap length (items_of new.header log.header n.items k.items (sym (log_mounts now.now.seen new.header n.items new.end n.lies) ∙ log_mounts now.now.seen log.header k.items log.end k.lies)) in
       omega (arith, same, k.count, n.count)
 
-  -- and one that is mounted after a seal and a restart has them, and at most the new one with them
+  -- and one that is mounted after a seal and a restart has as many, or one more
   pub mounted_again : {T : Type 0} (r : Record) (count : ℕ) (result : Result T SealFault) (old now : Story) (left : Option Story) → told log.disk ≡ Some old → Changes (mount_of old.now.seen) (with_record r (mount_of old.now.seen)) count result old left → WentDown left (Some now) → told new.disk ≡ Some now → (log.records ≤ new.records) × (new.records ≤ log.records + 1)
   mounted_again r count result old now left is changes down still =
       let k = settled.holds old is in
