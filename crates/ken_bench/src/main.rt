@@ -1,6 +1,6 @@
 //! Makes logs over disks in memory, and mounts them, so that someone can take the time: `ken_bench WORK RECORDS CUTS ROUNDS`.
-//! Each round makes a log of RECORDS records on a disk of its own, which fails CUTS times meanwhile. WORK is `seal`, or
-//! `mount`, which mounts that log too, or `copy`, which copies as many bytes and makes no log.
+//! Each round makes a log by RECORDS seals on a disk of its own with CUTS cuts. WORK is `seal`, or `mount`, which mounts that
+//! log too, or `copy`, which copies the bytes of as many records and makes no log.
 #![tactic(auto)]
 
 mod copies;
