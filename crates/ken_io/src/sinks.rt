@@ -24,7 +24,7 @@ pub trait Sink {
         ensures cause { HasCause (faults self.old) (faults self.new) result };
 }
 
-/// Writes all of `bytes`. After an error a front of them is out, and the sink is not called again.
+/// Writes all of `bytes`. After an error a front of them is out.
 #[tactic(auto, using(crate::proofs::Moved::moved))]
 pub fn write_all<K: Sink>(sink: &mut K, bytes: &[u8]) -> Result<(), Failed>
     ensures ok { OnOk result (Appends (K.took sink.old) (K.took sink.new) bytes.now) }

@@ -1,4 +1,4 @@
-//! The printing of reports: the lines of a run's report as text, by one transfer a line.
+//! The printing of reports: the lines of a run's report as text.
 #![tactic(auto)]
 
 mod faults;

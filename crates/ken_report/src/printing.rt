@@ -12,7 +12,7 @@ use ken_io::{Sink, write_all};
 use ken_model::{Ending, Lines};
 use std::alloc::Global;
 
-/// Prints a report, by one transfer a line. After an error a front of its text is out.
+/// Prints a report. After an error a front of its text is out.
 pub fn print<K: Sink>(alloc: Global, sink: &mut K, lines: &Lines) -> Result<(), ReportFault>
     ensures written { OnOk result (Appends (K.took sink.old) (K.took sink.new) (text lines.now)) }
     ensures front { OnErr result (AppendsFront (K.took sink.old) (K.took sink.new) (text lines.now)) }
