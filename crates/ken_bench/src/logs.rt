@@ -2,6 +2,7 @@
 ghost use Rattle.std.specs.Prelude.{◌≡◌, ◌+◌, ◌≤◌, true, IfOk};
 ghost use Rattle.ken_disk.specs.Story.{IsAtRest};
 ghost use Rattle.ken_record.specs.Grammar.{IsRecord};
+ghost use Rattle.ken_record.specs.Versions.{One};
 ghost use Rattle.ken_bench.specs.Logs.{TakesSeals};
 
 use crate::fault::Fault;
@@ -60,7 +61,7 @@ pub(crate) fn mount(alloc: Global, disk: MemDisk) -> Result<Log<MemDisk>, Fault>
 fn seal_next(alloc: Global, log: Log<MemDisk>, item: &Record) -> Result<(Log<MemDisk>, bool), Fault>
     requires room { log.end ≤ MAX_END }
     requires settled { TakesSeals log }
-    requires item { IsRecord item.now }
+    requires item { IsRecord One item.now }
     ensures settled { IfOk result (λ x. TakesSeals x.0) }
     ensures kept { IfOk result (λ x. (log.records ≤ x.0.records) × (x.0.records ≤ log.records + 1)) }
     ensures acknowledged { IfOk result (λ x. x.1 ≡ true → x.0.records ≡ log.records + 1) }
@@ -87,7 +88,7 @@ pub(crate) fn seal_all(
     count: u64,
 ) -> Result<Sealed, Fault>
     requires settled { TakesSeals log }
-    requires item { IsRecord item.old }
+    requires item { IsRecord One item.old }
     ensures settled { IfOk result (λ s. TakesSeals s.log) }
     // At least one record more for each seal that answered Ok, and at most one for each that was tried.
     ensures kept { IfOk result (λ s. (log.records + s.acknowledged ≤ s.log.records) × (s.log.records ≤ log.records + count)) }

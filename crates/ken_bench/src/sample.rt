@@ -1,6 +1,7 @@
 // A record that is sealed again and again.
 ghost use Rattle.std.specs.Prelude.{◌≤◌, IfOk};
 ghost use Rattle.ken_record.specs.Grammar.{IsRecord};
+ghost use Rattle.ken_record.specs.Versions.{One};
 
 use crate::fault::Fault;
 use ken_model::{Items, OUTSIDE, Octets, Out};
@@ -11,7 +12,7 @@ const PAGE: usize = 256;
 
 // A turn that took a message from the outside, sent one byte, put out one, and changed one page.
 pub(crate) fn record(alloc: Global) -> Result<Record, Fault>
-    ensures { IfOk result (λ item. IsRecord item) }
+    ensures { IfOk result (λ item. IsRecord One item) }
 {
     let sent = Sent {
         to: 1,
@@ -46,8 +47,8 @@ pub(crate) fn record(alloc: Global) -> Result<Record, Fault>
 // Makes it the record of this turn, whose message has that number too.
 pub(crate) fn number(item: &mut Record, turn: u64)
     requires turn { 1 ≤ turn }
-    requires item { IsRecord item.old }
-    ensures { IsRecord item.new }
+    requires item { IsRecord One item.old }
+    ensures { IsRecord One item.new }
 {
     item.turn = turn;
     item.stamp = turn;

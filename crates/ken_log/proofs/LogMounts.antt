@@ -12,6 +12,7 @@ use Rattle.ken_record.specs.Grammar.{IsRecord}
 use Rattle.ken_record.specs.Reading.{header_at, record_at}
 use Rattle.ken_record.proofs.Members.{header_form, record_form}
 use Rattle.ken_record.proofs.Sizes.{header_long}
+use Rattle.ken_record.specs.Versions.{One}
 use Rattle.ken_log.specs.Mounts.{Mounted, Unformatted, Damaged, Whole, is_open, records_from, after_header, mount_of}
 use Rattle.ken_log.specs.Layout.{opened, IsLogHeader, IsLogOf}
 
@@ -24,14 +25,14 @@ module _ (most : ℕ) (head : Header) (found : List Record) (place : ℕ) where
   unfolding records_from
   next o = elim o [
     | None ↦ Damaged place
-    | Some x ↦ records_from most head (found ++ x.0 ∷ []) (place + (1 + length (record_bytes x.0))) x.1
+    | Some x ↦ records_from most head (found ++ x.0 ∷ []) (place + (1 + length (record_bytes One x.0))) x.1
   ]
 
-  pub one_read : (r : Record) (rest : List ℕ) → IsRecord r → records_from (suc most) head found place (165 ∷ (record_bytes r ++ rest)) ≡ records_from most head (found ++ r ∷ []) (place + (1 + length (record_bytes r))) rest
+  pub one_read : (r : Record) (rest : List ℕ) → IsRecord One r → records_from (suc most) head found place (165 ∷ (record_bytes One r ++ rest)) ≡ records_from most head (found ++ r ∷ []) (place + (1 + length (record_bytes One r))) rest
   unfolding next records_from
-  one_read r rest fits = ap next (record_form.again r rest fits)
+  one_read r rest fits = ap next ((record_form One).again r rest fits)
 
-  pub bad_read : (bytes : List ℕ) → record_at bytes ≡ None → records_from (suc most) head found place (165 ∷ bytes) ≡ Damaged place
+  pub bad_read : (bytes : List ℕ) → record_at One bytes ≡ None → records_from (suc most) head found place (165 ∷ bytes) ≡ Damaged place
   unfolding next records_from
   bad_read bytes none = ap next none
 
@@ -40,14 +41,14 @@ module _ (most : ℕ) (head : Header) (found : List Record) (place : ℕ) where
   none_read gate rest closed = rw (closed_gate gate closed) refl
 
 -- the records, up to a closed gate
-pub records_read : (items : List Record) (most : ℕ) (head : Header) (found : List Record) (place gate : ℕ) (free : List ℕ) → (gate ≡ 165 → ⊥) → AllByRecursion IsRecord items → length items < most
+pub records_read : (items : List Record) (most : ℕ) (head : Header) (found : List Record) (place gate : ℕ) (free : List ℕ) → (gate ≡ 165 → ⊥) → AllByRecursion (IsRecord One) items → length items < most
     → records_from most head found place (flat_map opened items ++ gate ∷ free) ≡ Whole head (found ++ items)
 records_read items zero head found place gate free closed fits enough = absurd (omega (arith, enough))
 records_read [] (suc most) head found place gate free closed fits enough = none_read most head found place gate free closed ∙ ap (Whole head) (sym (append-nil found))
 records_read (r ∷ items) (suc most) head found place gate free closed fits enough =
-    let parts : flat_map opened (r ∷ items) ++ gate ∷ free ≡ 165 ∷ (record_bytes r ++ (flat_map opened items ++ gate ∷ free)) = ap (λ (l : List ℕ). l ++ gate ∷ free) (flat_map-cons opened r items) ∙ append_assoc (opened r) (flat_map opened items) (gate ∷ free) in
+    let parts : flat_map opened (r ∷ items) ++ gate ∷ free ≡ 165 ∷ (record_bytes One r ++ (flat_map opened items ++ gate ∷ free)) = ap (λ (l : List ℕ). l ++ gate ∷ free) (flat_map-cons opened r items) ∙ append_assoc (opened r) (flat_map opened items) (gate ∷ free) in
     let less : length items < most = omega (arith, enough) in
-    let on = records_read items most head (found ++ r ∷ []) (place + (1 + length (record_bytes r))) gate free closed fits.1 less in
+    let on = records_read items most head (found ++ r ∷ []) (place + (1 + length (record_bytes One r))) gate free closed fits.1 less in
     ap (records_from (suc most) head found place) parts ∙ one_read most head found place r (flat_map opened items ++ gate ∷ free) fits.0 ∙ on ∙ ap (Whole head) (append_assoc found (r ∷ []) items)
 
 -- each record takes a byte and more
@@ -100,14 +101,14 @@ found_cond false x y first second e = second e
 found_next : (most : ℕ) (head : Header) (found : List Record) (place : ℕ) → ((f : List Record) (p : ℕ) (b : List ℕ) → records_from most head f p b ≡ Unformatted → ⊥) → (o : Option (Record × List ℕ)) → next most head found place o ≡ Unformatted → ⊥
 unfolding next
 found_next most head found place more None e = absurd (let no : ⊥ = cc in no)
-found_next most head found place more (Some x) e = more (found ++ x.0 ∷ []) (place + (1 + length (record_bytes x.0))) x.1 e
+found_next most head found place more (Some x) e = more (found ++ x.0 ∷ []) (place + (1 + length (record_bytes One x.0))) x.1 e
 
 records_found : (most : ℕ) (head : Header) (found : List Record) (place : ℕ) (bytes : List ℕ) → records_from most head found place bytes ≡ Unformatted → ⊥
 unfolding records_from next
 records_found zero head found place bytes e = absurd (let no : ⊥ = cc in no)
 records_found (suc most) head found place [] e = absurd (let no : ⊥ = cc in no)
 records_found (suc most) head found place (gate ∷ bytes) e =
-    found_cond (is_open gate) (next most head found place (record_at bytes)) (Whole head found) (found_next most head found place (λ f p b. records_found most head f p b) (record_at bytes)) (λ w. absurd (let no : ⊥ = cc in no)) e
+    found_cond (is_open gate) (next most head found place (record_at One bytes)) (Whole head found) (found_next most head found place (λ f p b. records_found most head f p b) (record_at One bytes)) (λ w. absurd (let no : ⊥ = cc in no)) e
 
 header_found : (most : ℕ) (o : Option (Header × List ℕ)) → after_header most o ≡ Unformatted → ⊥
 header_found most None e = absurd (let no : ⊥ = cc in no)

@@ -14,6 +14,7 @@ use Rattle.ken_record.specs.declared.record.Record.{Record}
 use Rattle.ken_record.specs.Spelling.{header_bytes, record_bytes}
 use Rattle.ken_record.specs.Grammar.{IsRecord}
 use Rattle.ken_record.proofs.Forms.{some_is}
+use Rattle.ken_record.specs.Versions.{One}
 use Rattle.ken_log.specs.declared.faults.SealFault.TheVariants as seals
 use Rattle.ken_log.specs.declared.log.Log.{Log}
 use Rattle.ken_log.specs.Mounts.{Mounted, Whole, mount_of, with_record}
@@ -33,32 +34,32 @@ log_grown head items r =
     let more : flat_map opened (items ++ r ∷ []) ≡ flat_map opened items ++ opened r = flat_map-append opened items (r ∷ []) ∙ ap (λ (l : List ℕ). flat_map opened items ++ l) last in
     ap (λ (l : List ℕ). (165 ∷ header_bytes head) ++ l) more ∙ sym (append_assoc (165 ∷ header_bytes head) (flat_map opened items) (opened r))
 
-module _ (head : Header) (items : List Record) (r : Record) (end : ℕ) (header : IsLogHeader head) (fits : AllByRecursion IsRecord items) (fit : IsRecord r) (place : length (log_bytes head items) ≡ end) where
+module _ (head : Header) (items : List Record) (r : Record) (end : ℕ) (header : IsLogHeader head) (fits : AllByRecursion (IsRecord One) items) (fit : IsRecord One r) (place : length (log_bytes head items) ≡ end) where
   abbrev body : List ℕ
-  body = record_bytes r ++ 0 ∷ []
+  body = record_bytes One r ++ 0 ∷ []
 
   -- with a closed gate the log is as before, and with an open one the record is in it
   closed_lies : (gate : ℕ) (free : List ℕ) → (gate ≡ 165 → ⊥) → IsLogOf (log_bytes head items ++ gate ∷ free) head items end
   closed_lies gate free closed = record { gate = gate; free = free; parts = refl; closed = closed; header = header; items = fits; place = place }
 
-  opened_lies : (free : List ℕ) → IsLogOf (log_bytes head items ++ 165 ∷ (body ++ free)) head (items ++ r ∷ []) (end + (1 + length (record_bytes r)))
+  opened_lies : (free : List ℕ) → IsLogOf (log_bytes head items ++ 165 ∷ (body ++ free)) head (items ++ r ∷ []) (end + (1 + length (record_bytes One r)))
   opened_lies free =
-      let inner : body ++ free ≡ record_bytes r ++ 0 ∷ free = append_assoc (record_bytes r) (0 ∷ []) free in
-      let grown : log_bytes head (items ++ r ∷ []) ++ 0 ∷ free ≡ log_bytes head items ++ 165 ∷ (record_bytes r ++ 0 ∷ free) = ap (λ (l : List ℕ). l ++ 0 ∷ free) (log_grown head items r) ∙ append_assoc (log_bytes head items) (opened r) (0 ∷ free) in
+      let inner : body ++ free ≡ record_bytes One r ++ 0 ∷ free = append_assoc (record_bytes One r) (0 ∷ []) free in
+      let grown : log_bytes head (items ++ r ∷ []) ++ 0 ∷ free ≡ log_bytes head items ++ 165 ∷ (record_bytes One r ++ 0 ∷ free) = ap (λ (l : List ℕ). l ++ 0 ∷ free) (log_grown head items r) ∙ append_assoc (log_bytes head items) (opened r) (0 ∷ free) in
       record {
         gate = 0;
         free = free;
         parts = ap (λ (l : List ℕ). log_bytes head items ++ 165 ∷ l) inner ∙ sym grown;
         closed = λ e. absurd (let no : ⊥ = omega (arith, e) in no);
         header = header;
-        items = all_and IsRecord items r fits fit;
+        items = all_and (IsRecord One) items r fits fit;
         place = omega (arith, ap length (log_grown head items r), length-append (log_bytes head items) (opened r), place);
       }
 
   record_gate : IsGateOf (log_bytes head items) body (Whole head items) (Whole head (items ++ r ∷ []))
   record_gate = record {
     closed = λ gate free closed. log_mounts _ head items end (closed_lies gate free closed);
-    opened = λ free. log_mounts _ head (items ++ r ∷ []) (end + (1 + length (record_bytes r))) (opened_lies free);
+    opened = λ free. log_mounts _ head (items ++ r ∷ []) (end + (1 + length (record_bytes One r))) (opened_lies free);
   }
 
 -- no call of the disk was made
@@ -80,7 +81,7 @@ told_after (Some o) new P silent story h is =
     let s = story o refl in
     subst P (some_is s.0 h (sym s.1 ∙ is)) s.2
 
-module _ {D T : Type 0} (told : D → Option Story) (size : D → ℕ) (log new : Log D) (r : Record) (bytes : List ℕ) (result : Result T DiskFault) (settled : IsSettled told size log) (fit : IsRecord r) (spells : bytes ≡ record_bytes r ++ 0 ∷ [])
+module _ {D T : Type 0} (told : D → Option Story) (size : D → ℕ) (log new : Log D) (r : Record) (bytes : List ℕ) (result : Result T DiskFault) (settled : IsSettled told size log) (fit : IsRecord One r) (spells : bytes ≡ record_bytes One r ++ 0 ∷ [])
     (story : Tells (told log.disk) (λ h. (front : List ℕ) (before after : Mounted) → length front ≡ log.end → IsClosedBehind front h.now → IsGateOf front bytes before after → Opens front bytes before after result h (told new.disk))) where
   -- what the opening of the gate did
   abbrev Did : Story → Type 0
@@ -117,20 +118,20 @@ module _ {D T : Type 0} (told : D → Option Story) (size : D → ℕ) (log new 
     }
 
     -- after Ok
-    pub seal_settled : (x : T) → result ≡ Ok x → new.records ≡ log.records + 1 → new.end ≡ log.end + (1 + length (record_bytes r)) → log.end + (1 + length bytes) ≤ size new.disk → IsSettled told size new
+    pub seal_settled : (x : T) → result ≡ Ok x → new.records ≡ log.records + 1 → new.end ≡ log.end + (1 + length (record_bytes One r)) → log.end + (1 + length bytes) ≤ size new.disk → IsSettled told size new
     unfolding did
     seal_settled x ok records end room = record {
       sound = sound;
       few = omega (arith, settled.few, records, end);
-      room = omega (arith, room, end, ap length spells, length-append (record_bytes r) (0 ∷ []));
+      room = omega (arith, room, end, ap length spells, length-append (record_bytes One r) (0 ∷ []));
       rests = told_after (told log.disk) (told new.disk) (λ h. IsAtRest h.now) silent (λ h is. let d = did h is in (d.1.changes.new, d.1.changes.tells, (subst_ok d.1.changes.new.now d.0.items d.1.ok).rests));
       holds = told_after (told log.disk) (told new.disk) (λ h. Holds new h.now.seen) silent (λ h is.
           let d = did h is in
           let m = subst_ok d.1.changes.new.now d.0.items d.1.ok in
           let l = d.0.lies in
-          let at : IsLogOf (log_bytes log.header d.0.items ++ 165 ∷ ((record_bytes r ++ 0 ∷ []) ++ m.free)) log.header (d.0.items ++ r ∷ []) (log.end + (1 + length (record_bytes r))) = opened_lies log.header d.0.items r log.end l.header l.items fit l.place m.free in
-          let parts : d.1.changes.new.now.seen ≡ log_bytes log.header d.0.items ++ 165 ∷ ((record_bytes r ++ 0 ∷ []) ++ m.free) = m.parts ∙ ap (λ (b : List ℕ). log_bytes log.header d.0.items ++ 165 ∷ (b ++ m.free)) spells in
-          let lies : IsLogOf d.1.changes.new.now.seen log.header (d.0.items ++ r ∷ []) (log.end + (1 + length (record_bytes r))) = subst (λ (b : List ℕ). IsLogOf b log.header (d.0.items ++ r ∷ []) (log.end + (1 + length (record_bytes r)))) (sym parts) at in
+          let at : IsLogOf (log_bytes log.header d.0.items ++ 165 ∷ ((record_bytes One r ++ 0 ∷ []) ++ m.free)) log.header (d.0.items ++ r ∷ []) (log.end + (1 + length (record_bytes One r))) = opened_lies log.header d.0.items r log.end l.header l.items fit l.place m.free in
+          let parts : d.1.changes.new.now.seen ≡ log_bytes log.header d.0.items ++ 165 ∷ ((record_bytes One r ++ 0 ∷ []) ++ m.free) = m.parts ∙ ap (λ (b : List ℕ). log_bytes log.header d.0.items ++ 165 ∷ (b ++ m.free)) spells in
+          let lies : IsLogOf d.1.changes.new.now.seen log.header (d.0.items ++ r ∷ []) (log.end + (1 + length (record_bytes One r))) = subst (λ (b : List ℕ). IsLogOf b log.header (d.0.items ++ r ∷ []) (log.end + (1 + length (record_bytes One r)))) (sym parts) at in
           let held : Holds new d.1.changes.new.now.seen = record { items = d.0.items ++ r ∷ []; lies = rw (header, end) lies; count = omega (arith, records, d.0.count, length-append d.0.items (r ∷ [])) } in
           (d.1.changes.new, d.1.changes.tells, held));
     }

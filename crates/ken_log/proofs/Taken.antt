@@ -17,6 +17,7 @@ use Rattle.ken_record.specs.Grammar.{IsHeader, IsRecord}
 use Rattle.ken_record.specs.Reading.{◌>>=◌, Fails, header_at, record_at, item_at}
 use Rattle.ken_record.proofs.Sizes.{header_long}
 use Rattle.ken_record.proofs.Members.{header_form}
+use Rattle.ken_record.specs.Versions.{One}
 use Rattle.ken_disk.specs.Story.{Story, Tells, IsAtRest}
 use Rattle.ken_log.specs.declared.log.Log.{Log}
 use Rattle.ken_log.specs.Settled.{IsSettled}
@@ -31,11 +32,11 @@ none_of None f e = refl
 none_of (Some x) f e = absurd (let no : ⊥ = cc in no)
 
 -- no header, and one with a base
-no_header : (bytes : List ℕ) → item_at kinds.Header bytes ≡ None → (most : ℕ) → after_header most (header_at bytes) ≡ Damaged 0
+no_header : (bytes : List ℕ) → item_at One kinds.Header bytes ≡ None → (most : ℕ) → after_header most (header_at bytes) ≡ Damaged 0
 unfolding item_at
 no_header bytes e most = ap (after_header most) (none_of (header_at bytes) (λ x. (items.Header x.0, x.1)) e)
 
-pub header_fails : {X : Type 0} (bytes : List ℕ) (e : RecordFault) → Fails e (item_at kinds.Header bytes) → IsErrOf {T = X} (Err e) reads.Bad → (most : ℕ) → after_header most (header_at bytes) ≡ Damaged 0
+pub header_fails : {X : Type 0} (bytes : List ℕ) (e : RecordFault) → Fails e (item_at One kinds.Header bytes) → IsErrOf {T = X} (Err e) reads.Bad → (most : ℕ) → after_header most (header_at bytes) ≡ Damaged 0
 header_fails bytes reads.Bad fails bad = no_header bytes fails
 header_fails bytes reads.Memory fails bad = absurd (let no : ⊥ = cc in no)
 
@@ -46,12 +47,12 @@ header_has_base bytes rest h parts fits base most =
     ap (after_header most) read ∙ rw no refl
 
 -- no record
-no_record : (bytes : List ℕ) → item_at kinds.Record bytes ≡ None → IsDamaged (165 ∷ bytes)
+no_record : (bytes : List ℕ) → item_at One kinds.Record bytes ≡ None → IsDamaged (165 ∷ bytes)
 unfolding item_at records_from
 no_record bytes e zero head found place = refl
-no_record bytes e (suc most) head found place = bad_read most head found place bytes (none_of (record_at bytes) (λ x. (items.Record x.0, x.1)) e)
+no_record bytes e (suc most) head found place = bad_read most head found place bytes (none_of (record_at One bytes) (λ x. (items.Record x.0, x.1)) e)
 
-pub record_fails : {X : Type 0} (bytes : List ℕ) (e : RecordFault) → Fails e (item_at kinds.Record bytes) → IsErrOf {T = X} (Err e) reads.Bad → IsDamaged (165 ∷ bytes)
+pub record_fails : {X : Type 0} (bytes : List ℕ) (e : RecordFault) → Fails e (item_at One kinds.Record bytes) → IsErrOf {T = X} (Err e) reads.Bad → IsDamaged (165 ∷ bytes)
 record_fails bytes reads.Bad fails bad = no_record bytes fails
 record_fails bytes reads.Memory fails bad = absurd (let no : ⊥ = cc in no)
 
@@ -70,23 +71,23 @@ no_more head found place bytes = refl
 pub record Finds (head : Header) (bytes : List ℕ) (most count : ℕ) (found : List Record) (end : ℕ) (rest : List ℕ) : Type 0 where
   pub mounts : records_from (most - count) head found end rest ≡ records_from most head [] 32 bytes
   pub parts : (165 ∷ header_bytes head) ++ bytes ≡ log_bytes head found ++ rest
-  pub fits : AllByRecursion IsRecord found
+  pub fits : AllByRecursion (IsRecord One) found
   pub place : length (log_bytes head found) ≡ end
 
 -- of a header and a record that were read
-pub header_is : (bytes rest : List ℕ) (item : Item) (h : Header) → item ≡ items.Header h → Spells bytes item rest → h.base_len ≡ 0 → IsFirst bytes h rest
+pub header_is : (bytes rest : List ℕ) (item : Item) (h : Header) → item ≡ items.Header h → Spells One bytes item rest → h.base_len ≡ 0 → IsFirst bytes h rest
 header_is bytes rest item h is s base =
-    let t : Spells bytes (items.Header h) rest = subst (λ (i : Item). Spells bytes i rest) is s in
+    let t : Spells One bytes (items.Header h) rest = subst (λ (i : Item). Spells One bytes i rest) is s in
     record { is = record { fits = t.fits; no_base = base }; parts = t.parts }
 
-pub header_based : (bytes rest : List ℕ) (item : Item) (h : Header) → item ≡ items.Header h → Spells bytes item rest → (h.base_len ≡ 0 → ⊥) → (most : ℕ) → after_header most (header_at bytes) ≡ Damaged 0
+pub header_based : (bytes rest : List ℕ) (item : Item) (h : Header) → item ≡ items.Header h → Spells One bytes item rest → (h.base_len ≡ 0 → ⊥) → (most : ℕ) → after_header most (header_at bytes) ≡ Damaged 0
 header_based bytes rest item h is s base =
-    let t : Spells bytes (items.Header h) rest = subst (λ (i : Item). Spells bytes i rest) is s in
+    let t : Spells One bytes (items.Header h) rest = subst (λ (i : Item). Spells One bytes i rest) is s in
     header_has_base bytes rest h t.parts t.fits base
 
-pub record_is : (bytes rest : List ℕ) (item : Item) (r : Record) → item ≡ items.Record r → Spells bytes item rest → IsNext (165 ∷ bytes) r rest
+pub record_is : (bytes rest : List ℕ) (item : Item) (r : Record) → item ≡ items.Record r → Spells One bytes item rest → IsNext (165 ∷ bytes) r rest
 record_is bytes rest item r is s =
-    let t : Spells bytes (items.Record r) rest = subst (λ (i : Item). Spells bytes i rest) is s in
+    let t : Spells One bytes (items.Record r) rest = subst (λ (i : Item). Spells One bytes i rest) is s in
     record { is = t.fits; parts = ap (λ (l : List ℕ). 165 ∷ l) t.parts }
 
 pub lies_room : (bytes : List ℕ) (head : Header) (found : List Record) (end : ℕ) → IsLogOf bytes head found end → (end + 1 ≤ length bytes) × (length found ≤ end)
@@ -135,11 +136,11 @@ module _ (head : Header) (bytes : List ℕ) (most count : ℕ) (found : List Rec
         ∙ none_read (most - (count + 1)) head found end shut.gate shut.free shut.closed
 
     module _ (item : Record) (after : List ℕ) (n : IsNext rest item after) where
-      step : length rest - length after ≡ 1 + length (record_bytes item)
-      step = omega (arith, ap length n.parts, length-append (record_bytes item) after)
+      step : length rest - length after ≡ 1 + length (record_bytes One item)
+      step = omega (arith, ap length n.parts, length-append (record_bytes One item) after)
 
       pub finds_within : end + (length rest - length after) ≤ 32 + length bytes
-      finds_within = omega (arith, step, ap length n.parts, length-append (record_bytes item) after, ap length f.parts, f.place, length-append (log_bytes head found) rest, length-append (165 ∷ header_bytes head) bytes, header_long head)
+      finds_within = omega (arith, step, ap length n.parts, length-append (record_bytes One item) after, ap length f.parts, f.place, length-append (log_bytes head found) rest, length-append (165 ∷ header_bytes head) bytes, header_long head)
 
       pub finds_next : Finds head bytes most (count + 1) (found ++ item ∷ []) (end + (length rest - length after)) after
       finds_next = record {
@@ -153,7 +154,7 @@ module _ (head : Header) (bytes : List ℕ) (most count : ℕ) (found : List Rec
             f.parts ∙ ap (λ (l : List ℕ). log_bytes head found ++ l) n.parts
             ∙ sym (append_assoc (log_bytes head found) (opened item) after)
             ∙ ap (λ (l : List ℕ). l ++ after) (sym (log_grown head found item));
-        fits = all_and IsRecord found item f.fits n.is;
+        fits = all_and (IsRecord One) found item f.fits n.is;
         place = omega (arith, step, ap length (log_grown head found item), length-append (log_bytes head found) (opened item), f.place);
       }
 

@@ -5,6 +5,7 @@ use Rattle.ken_disk.specs.Steps.{after_write_through}
 use Rattle.ken_record.specs.declared.header.Header.{Header}
 use Rattle.ken_record.specs.declared.record.Record.{Record}
 use Rattle.ken_record.specs.Spelling.{header_bytes, record_bytes}
+use Rattle.ken_record.specs.Versions.{One}
 use Rattle.ken_log.specs.Mounts.{is_open}
 
 -- bytes behind a closed gate, and then the gate, open
@@ -21,4 +22,4 @@ format_calls head h = gate_calls 0 (header_bytes head ++ 0 ∷ []) (after_write_
 
 -- two writes and two syncs, from the gate's place on
 abbrev pub seal_calls : ℕ → Record → Story → Story
-seal_calls place item h = gate_calls place (record_bytes item ++ 0 ∷ []) h
+seal_calls place item h = gate_calls place (record_bytes One item ++ 0 ∷ []) h

@@ -5,10 +5,11 @@ use Rattle.ken_record.specs.declared.header.Header.{Header}
 use Rattle.ken_record.specs.declared.record.Record.{Record}
 use Rattle.ken_record.specs.Spelling.{header_bytes, record_bytes}
 use Rattle.ken_record.specs.Grammar.{IsHeader, IsRecord}
+use Rattle.ken_record.specs.Versions.{One}
 
 -- a record behind its open gate
 abbrev pub opened : Record → List ℕ
-opened r = 165 ∷ record_bytes r
+opened r = 165 ∷ record_bytes One r
 
 -- a header and records, each behind an open gate
 abbrev pub log_bytes : Header → List Record → List ℕ
@@ -26,5 +27,5 @@ pub record IsLogOf (bytes : List ℕ) (head : Header) (records : List Record) (e
   pub parts : bytes ≡ log_bytes head records ++ gate ∷ free
   pub closed : gate ≡ 165 → ⊥
   pub header : IsLogHeader head
-  pub items : AllByRecursion IsRecord records
+  pub items : AllByRecursion (IsRecord One) records
   pub place : length (log_bytes head records) ≡ end

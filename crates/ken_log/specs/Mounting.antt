@@ -5,6 +5,7 @@ use Rattle.ken_record.specs.declared.header.Header.{Header}
 use Rattle.ken_record.specs.declared.record.Record.{Record}
 use Rattle.ken_record.specs.Spelling.{header_bytes, record_bytes}
 use Rattle.ken_record.specs.Grammar.{IsRecord}
+use Rattle.ken_record.specs.Versions.{One}
 use Rattle.ken_log.specs.declared.faults.LogFault.{LogFault}
 use Rattle.ken_log.specs.declared.faults.LogFault.TheVariants as faults
 use Rattle.ken_log.specs.declared.log.Log.{Log}
@@ -43,8 +44,8 @@ pub record IsFirst (bytes : List ℕ) (head : Header) (rest : List ℕ) : Type 0
 
 -- what stands behind a gate at the front of the bytes: a record, nothing behind a closed gate, or what is damaged
 pub record IsNext (bytes : List ℕ) (item : Record) (rest : List ℕ) : Type 0 where
-  pub is : IsRecord item
-  pub parts : bytes ≡ 165 ∷ (record_bytes item ++ rest)
+  pub is : IsRecord One item
+  pub parts : bytes ≡ 165 ∷ (record_bytes One item ++ rest)
 
 -- at any place these bytes begin with a damaged item
 abbrev pub IsDamaged : List ℕ → Type 0

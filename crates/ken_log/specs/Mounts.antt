@@ -4,6 +4,7 @@ use Rattle.ken_record.specs.declared.header.Header.{Header}
 use Rattle.ken_record.specs.declared.record.Record.{Record}
 use Rattle.ken_record.specs.Spelling.{record_bytes}
 use Rattle.ken_record.specs.Reading.{header_at, record_at}
+use Rattle.ken_record.specs.Versions.{One}
 
 pub data Mounted : Type 0 where
   -- there is no log
@@ -23,9 +24,9 @@ records_from zero head found place bytes = Damaged place
 records_from (suc most) head found place [] = Damaged place
 records_from (suc most) head found place (gate ∷ bytes) =
     if is_open gate
-    then elim (record_at bytes) [
+    then elim (record_at One bytes) [
       | None ↦ Damaged place
-      | Some x ↦ records_from most head (found ++ x.0 ∷ []) (place + (1 + length (record_bytes x.0))) x.1
+      | Some x ↦ records_from most head (found ++ x.0 ∷ []) (place + (1 + length (record_bytes One x.0))) x.1
     ]
     else Whole head found
 

@@ -117,7 +117,7 @@ fn header_front(alloc: Global, bytes: &[u8]) -> Result<(Header, &[u8]), RecordFa
             }
             Ok((header, &bytes[len..]))
         }
-        Item::Record(_) => Err(RecordFault::Bad),
+        Item::Base(_) | Item::Record(_) => Err(RecordFault::Bad),
     }
 }
 
@@ -130,6 +130,7 @@ fn record_front(alloc: Global, bytes: &[u8]) -> Result<(Record, &[u8]), RecordFa
     match item {
         Item::Record(record) => Ok((record, &bytes[len..])),
         Item::Header(_) => Err(RecordFault::Bad),
+        Item::Base(_base) => Err(RecordFault::Bad),
     }
 }
 

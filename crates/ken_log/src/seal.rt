@@ -2,6 +2,7 @@ ghost use Rattle.std.specs.Prelude.{◌≡◌, ◌+◌, ◌≤◌, ◌∷◌, �
 ghost use Rattle.ken_disk.specs.Story.{Tells};
 ghost use Rattle.ken_record.specs.Grammar.{IsRecord};
 ghost use Rattle.ken_record.specs.Spelling.{record_bytes};
+ghost use Rattle.ken_record.specs.Versions.{One};
 ghost use Rattle.ken_log.specs.Mounts.{mount_of, with_record};
 ghost use Rattle.ken_log.specs.Seals.{Changes, HasLogCause};
 ghost use Rattle.ken_disk.specs.Steps.{went};
@@ -22,14 +23,14 @@ impl<D: Disk> Log<D> {
     /// spent: which of the two a crash leaves is in doubt, and it takes no more seals.
     pub fn seal(&mut self, alloc: Global, item: &Record) -> Result<(), SealFault>
         requires settled { IsSettled D.told D.size self.old }
-        requires item { IsRecord item.now }
-        requires room { self.old.end + (2 + length (record_bytes item.now)) ≤ MAX_LEN }
+        requires item { IsRecord One item.now }
+        requires room { self.old.end + (2 + length (record_bytes One item.now)) ≤ MAX_LEN }
         ensures story { Tells (D.told self.old.disk) (λ h. Changes (mount_of h.now.seen) (with_record item.now (mount_of h.now.seen)) 2 result h (D.told self.new.disk)) }
         ensures calls { OnOk result (D.told self.new.disk ≡ went (seal_calls self.old.end item.now) (D.told self.old.disk)) }
         ensures settled { OnOk result (IsSettled D.told D.size self.new) }
         ensures goes_on { IsErrOf result SealFault.Memory → IsSettled D.told D.size self.new }
         ensures spent { IsErrOf result SealFault.Disk → self.new.spent ≡ true }
-        ensures grown { OnOk result ((self.new.records ≡ self.old.records + 1) × (self.new.end ≡ self.old.end + (1 + length (record_bytes item.now)))) }
+        ensures grown { OnOk result ((self.new.records ≡ self.old.records + 1) × (self.new.end ≡ self.old.end + (1 + length (record_bytes One item.now)))) }
         ensures same { OnErr result ((self.new.records ≡ self.old.records) × (self.new.end ≡ self.old.end)) }
         ensures header { self.new.header ≡ self.old.header }
         ensures silent { D.told self.old.disk ≡ None → D.told self.new.disk ≡ None }
@@ -53,8 +54,8 @@ impl<D: Disk> Log<D> {
 
 // What is written behind the closed gate: the record, and the next gate.
 fn staged(alloc: Global, item: &Record) -> Result<Vec<u8>, AllocError>
-    requires { IsRecord item.now }
-    ensures { IfOk result (λ body. body.items ≡ record_bytes item.now ++ 0 ∷ []) }
+    requires { IsRecord One item.now }
+    ensures { IfOk result (λ body. body.items ≡ record_bytes One item.now ++ 0 ∷ []) }
 {
     let mut body = Vec::new(alloc);
     item.put(&mut body)?;

@@ -2,6 +2,7 @@
 ghost use Rattle.std.specs.Prelude.{◌≡◌, ◌≤◌, length, IfOk};
 ghost use Rattle.ken_disk.specs.Story.{IsAtRest};
 ghost use Rattle.ken_record.specs.Grammar.{IsRecord};
+ghost use Rattle.ken_record.specs.Versions.{One};
 
 use super::*;
 use ken_disk::{Disk, write_through};
@@ -60,7 +61,7 @@ const CUTS: [(u64, Mounted, Mounted); 11] = [
 
 // The first turn of node 0: it took `2` from the outside, sent `1` to node 1, put out `2`, and changed page 0.
 fn first_record(alloc: Global) -> Result<Record, Fail>
-    ensures { IfOk result (λ r. IsRecord r) }
+    ensures { IfOk result (λ r. IsRecord One r) }
 {
     let mut page = Vec::from_slice(alloc, &LOG[PAGE..])?;
     page.resize(256, 0)?;

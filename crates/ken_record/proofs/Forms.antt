@@ -1,9 +1,9 @@
 -- A form: a spelling, what fits it, and a reader of it. What is read fits and stands there as it is spelled, and what
 -- fits is read again, whatever follows it.
-use Rattle.std.proofs.Common.{◌≡◌, ℕ, zero, suc, ◌+◌, ◌≤◌, ◌<◌, ◌^◌, Bool, true, false, cond, ltb, List, [], ◌∷◌, ◌++◌, length, get_or, take, drop, Option, Some, None, refl, sym, ap, subst, ◌∙◌, append_assoc, arith, inl, inr}
+use Rattle.std.proofs.Common.{◌≡◌, ℕ, zero, suc, ◌+◌, ◌≤◌, ◌<◌, ◌^◌, Bool, true, false, cond, ltb, ◌==◌, List, [], ◌∷◌, ◌++◌, length, get_or, take, drop, Option, Some, None, refl, sym, ap, subst, ◌∙◌, append_assoc, arith, inl, inr}
 use Rattle.std.specs.List.{flat_map, AllByRecursion}
-use Rattle.std.proofs.lemmas.Bool.{cases_lt, ltb-false, le-ltb}
-use Rattle.std.proofs.lemmas.List.{take_at, drop_at, take-append-drop, length-append, length-take, get_or-drop, get_or-take, get_or_past}
+use Rattle.std.proofs.lemmas.Bool.{cases_lt, ltb-false, le-ltb, eqb-true}
+use Rattle.std.proofs.lemmas.List.{append-nil, nil_from_length, take_at, drop_at, take-append-drop, length-append, length-take, get_or-drop, get_or-take, get_or_past}
 use Rattle.std.proofs.lemmas.List.Concat.{flat_map-cons}
 use Rattle.std.proofs.lemmas.List.{length-take-le}
 use Rattle.std.specs.Int.{byte_at}
@@ -11,7 +11,7 @@ use Rattle.byteorder.specs.Endian.{big_number, big_bytes}
 use Rattle.byteorder.specs.Numbers.{big_from-lt, big_from-take, big_number-reads_back, length-bytes_high_first}
 use Rattle.ken_num.proofs.Again.{again_2, again_4, again_8}
 use Rattle.ken_record.specs.Spelling.{number}
-use Rattle.ken_record.specs.Reading.{◌>>=◌, number_at, part_at, seq, made, sized, items_at}
+use Rattle.ken_record.specs.Reading.{◌>>=◌, number_at, part_at, seq, made, sized, items_at, within}
 
 abbrev pub IsBytes : List ℕ → Type 0
 IsBytes bytes = (i : ℕ) → get_or bytes i 0 < 256
@@ -246,3 +246,35 @@ module _ {A : Type 0} {spell : A → List ℕ} {fits : A → Type 0} {reads : �
 
   pub sized_form : IsForm (λ x. number w (measure x) ++ spell x) (λ x. (measure x ≤ most) × fits x) (sized w most reads)
   sized_form = record { takes = sized_takes; again = sized_again }
+
+-- ---- so many bytes, which are just what is read
+
+module _ {A : Type 0} {spell : A → List ℕ} {fits : A → Type 0} {reads : List ℕ → Option (A × List ℕ)} (form : IsForm spell fits reads) where
+  part_are : (bytes x rest : List ℕ) → IsBytes bytes → bytes ≡ x ++ rest → IsBytes x
+  part_are bytes x rest are e = subst IsBytes (ap (take (length x)) e ∙ take_at x rest (length x) refl) (IsBytes-take (length x) bytes are)
+
+  within_takes : (n : ℕ) (bytes : List ℕ) (x : A) (rest : List ℕ) → IsBytes bytes → within reads n bytes ≡ Some (x, rest) → Took spell (λ x. fits x × (length (spell x) ≡ n)) bytes x rest
+  unfolding within
+  within_takes n bytes x rest are e =
+      let a = bind_some (part_at n bytes) (λ part. reads part.0 >>= λ x. cond (length x.1 == 0) (Some (x.0, part.1)) None) (x, rest) e in
+      let b = bind_some (reads a.0.0) (λ x. cond (length x.1 == 0) (Some (x.0, a.0.1)) None) (x, rest) a.2 in
+      let t = if_some (length b.0.1 == 0) (Some (b.0.0, a.0.1)) (x, rest) b.2 in
+      let p = (part_form n).takes bytes a.0.0 a.0.1 are a.1 in
+      let q = form.takes a.0.0 b.0.0 b.0.1 (part_are bytes a.0.0 a.0.1 are p.parts) b.1 in
+      let none : b.0.1 ≡ [] = nil_from_length b.0.1 (eqb-true _ _ t.0) in
+      let all : a.0.0 ≡ spell b.0.0 = q.parts ∙ ap (λ (t : List ℕ). spell b.0.0 ++ t) none ∙ append-nil (spell b.0.0) in
+      let whole : Took spell (λ x. fits x × (length (spell x) ≡ n)) bytes b.0.0 a.0.1 = record {
+        fit = (q.fit, sym (ap length all) ∙ p.fit);
+        parts = p.parts ∙ ap (λ (t : List ℕ). t ++ a.0.1) all;
+        rest_bytes = p.rest_bytes;
+      } in
+      subst (λ (y : A × List ℕ). Took spell (λ x. fits x × (length (spell x) ≡ n)) bytes y.0 y.1) (some_is (b.0.0, a.0.1) (x, rest) t.1) whole
+
+  within_again : (x : A) (rest : List ℕ) → fits x → within reads (length (spell x)) (spell x ++ rest) ≡ Some (x, rest)
+  unfolding within
+  within_again x rest fit =
+      let whole : reads (spell x) ≡ Some (x, []) = ap reads (sym (append-nil (spell x))) ∙ form.again x [] fit in
+      rw ((part_form (length (spell x))).again (spell x) rest refl, whole) refl
+
+  pub within_form : (n : ℕ) → IsForm spell (λ x. fits x × (length (spell x) ≡ n)) (within reads n)
+  within_form n = record { takes = within_takes n; again = λ x rest fit. ap (λ (k : ℕ). within reads k (spell x ++ rest)) (sym fit.1) ∙ within_again x rest fit.0 }

@@ -4,3 +4,4 @@ pub mod Sizes
 pub mod Forms
 pub mod Members
 pub mod Fronts
+pub mod Appended

@@ -1,24 +1,23 @@
 -- How long spellings are.
-use Rattle.std.proofs.Common.{◌≡◌, ℕ, ◌+◌, ◌*◌, ◌≤◌, List, [], ◌∷◌, ◌++◌, length, ap, ◌∙◌, arith, length-append}
+use Rattle.std.proofs.Common.{◌≡◌, ℕ, ◌+◌, ◌*◌, ◌≤◌, List, [], ◌∷◌, ◌++◌, length, refl, ap, ◌∙◌, arith, length-append}
 use Rattle.std.specs.List.{flat_map, AllByRecursion}
 use Rattle.std.proofs.lemmas.List.Concat.{flat_map-cons}
 use Rattle.std.proofs.Math.Nat.{mul-suc}
 use Rattle.byteorder.specs.Numbers.{length-bytes_high_first}
 use Rattle.ken_model.specs.declared.messages.Out.{Out}
+use Rattle.ken_record.specs.declared.due.Due.{Due}
 use Rattle.ken_record.specs.declared.sent.Sent.{Sent}
 use Rattle.ken_record.specs.declared.page.Page.{Page}
 use Rattle.ken_record.specs.declared.header.Header.{Header}
+use Rattle.ken_record.specs.declared.base.Base.{Base}
 use Rattle.ken_record.specs.declared.record.Record.{Record}
-use Rattle.ken_record.specs.Spelling.{number, text, counted, sent, out, page, origin, lists, fields, header_bytes}
-use Rattle.ken_record.specs.Grammar.{IsDraw, IsText, IsSent, IsOut, IsPage, AtMost, IsRecord}
+use Rattle.ken_record.specs.Versions.{Version, One, most_fields}
+use Rattle.ken_record.specs.Spelling.{number, text, counted, sent, due, out, page, origin, lists, fields, counts, kept, header_bytes, base_bytes}
+use Rattle.ken_record.specs.Grammar.{IsWord, IsText, IsSent, IsOut, IsPage, AtMost, Exactly, IsRecord, IsBase}
 
 pub number_long : (w n : ℕ) → length (number w n) ≡ w
 unfolding number
 number_long w n = length-bytes_high_first w n
-
--- lengths of two and of four parts
-long_2 : (a b : List ℕ) (m n : ℕ) → length a ≤ m → length b ≤ n → length (a ++ b) ≤ m + n
-long_2 a b m n ha hb = omega (arith, length-append a b)
 
 module _ {A : Type 0} (spell : A → List ℕ) (fits : A → Type 0) (m : ℕ) (short : (x : A) → fits x → length (spell x) ≤ m) where
   items_short : (xs : List A) → AllByRecursion fits xs → length (flat_map spell xs) ≤ m * length xs
@@ -30,54 +29,96 @@ module _ {A : Type 0} (spell : A → List ℕ) (fits : A → Type 0) (m : ℕ) (
       let grown = mul-suc m (length xs) in
       omega arith
 
-text_short : (bytes : List ℕ) → IsText bytes → length (text bytes) ≤ 514
-text_short bytes fit = omega (arith, length-append (number 2 (length bytes)) bytes, number_long 2 (length bytes))
+text_long : (bytes : List ℕ) → length (text bytes) ≡ 2 + length bytes
+text_long bytes = simp (length-append, number_long)
+
+pub sent_long : (s : Sent) → length (sent s) ≡ 11 + length s.bytes
+sent_long s = omega (arith, length-append (number 1 s.to) (number 8 s.number ++ text s.bytes), length-append (number 8 s.number) (text s.bytes), number_long 1 s.to, number_long 8 s.number, text_long s.bytes)
+
+pub due_long : (m : Due) → length (due m) ≡ 19 + length m.bytes
+due_long m =
+    omega (arith, length-append (number 1 m.to) (number 8 m.number ++ (number 8 m.stamp ++ text m.bytes)), length-append (number 8 m.number) (number 8 m.stamp ++ text m.bytes), length-append (number 8 m.stamp) (text m.bytes), number_long 1 m.to, number_long 8 m.number, number_long 8 m.stamp, text_long m.bytes)
+
+pub out_long : (o : Out) → length (out o) ≡ 10 + length o.text
+out_long o = omega (arith, length-append (number 8 o.number) (text o.text), number_long 8 o.number, text_long o.text)
+
+pub page_long : (p : Page) → IsPage p → length (page p) ≡ 260
+page_long p is = omega (arith, length-append (number 4 p.page) p.bytes, number_long 4 p.page, is.bytes)
+
+pub counted_long : {A : Type 0} (w : ℕ) (spell : A → List ℕ) (xs : List A) → length (counted w spell xs) ≡ w + length (flat_map spell xs)
+counted_long w spell xs = omega (arith, length-append (number w (length xs)) (flat_map spell xs), number_long w (length xs))
 
 sent_short : (s : Sent) → IsSent s → length (sent s) ≤ 523
-sent_short s fit = long_2 (number 1 s.to) (number 8 s.number ++ text s.bytes) 1 522 (omega (arith, number_long 1 s.to)) (long_2 (number 8 s.number) (text s.bytes) 8 514 (omega (arith, number_long 8 s.number)) (text_short s.bytes fit.bytes))
+sent_short s fit = omega (arith, sent_long s, fit.bytes)
 
 out_short : (o : Out) → IsOut o → length (out o) ≤ 522
-out_short o fit = long_2 (number 8 o.number) (text o.text) 8 514 (omega (arith, number_long 8 o.number)) (text_short o.text fit.text)
+out_short o fit = omega (arith, out_long o, fit.text)
 
 page_short : (p : Page) → IsPage p → length (page p) ≤ 260
-page_short p fit = long_2 (number 4 p.page) p.bytes 4 256 (omega (arith, number_long 4 p.page)) (omega (arith, fit.bytes))
+page_short p fit = omega (arith, page_long p fit)
 
-draws_short : (ds : List ℕ) → AtMost 16 IsDraw ds → length (counted 1 (number 8) ds) ≤ 129
+draws_short : (ds : List ℕ) → AtMost 16 IsWord ds → length (counted 1 (number 8) ds) ≤ 129
 draws_short ds fit =
-    let each : length (flat_map (number 8) ds) ≤ 8 * length ds = items_short (number 8) IsDraw 8 (λ n _. omega (arith, number_long 8 n)) ds fit.1 in
-    long_2 (number 1 (length ds)) (flat_map (number 8) ds) 1 128 (omega (arith, number_long 1 (length ds))) (omega (arith, each, fit.0))
+    let each : length (flat_map (number 8) ds) ≤ 8 * length ds = items_short (number 8) IsWord 8 (λ n _. omega (arith, number_long 8 n)) ds fit.1 in
+    omega (arith, counted_long 1 (number 8) ds, each, fit.0)
 
 sends_short : (ss : List Sent) → AtMost 16 IsSent ss → length (counted 1 sent ss) ≤ 8369
 sends_short ss fit =
     let each : length (flat_map sent ss) ≤ 523 * length ss = items_short sent IsSent 523 sent_short ss fit.1 in
-    long_2 (number 1 (length ss)) (flat_map sent ss) 1 8368 (omega (arith, number_long 1 (length ss))) (omega (arith, each, fit.0))
+    omega (arith, counted_long 1 sent ss, each, fit.0)
 
 outs_short : (os : List Out) → AtMost 16 IsOut os → length (counted 1 out os) ≤ 8353
 outs_short os fit =
     let each : length (flat_map out os) ≤ 522 * length os = items_short out IsOut 522 out_short os fit.1 in
-    long_2 (number 1 (length os)) (flat_map out os) 1 8352 (omega (arith, number_long 1 (length os))) (omega (arith, each, fit.0))
+    omega (arith, counted_long 1 out os, each, fit.0)
 
 pages_short : (ps : List Page) → AtMost 4096 IsPage ps → length (counted 2 page ps) ≤ 1064962
 pages_short ps fit =
     let each : length (flat_map page ps) ≤ 260 * length ps = items_short page IsPage 260 page_short ps fit.1 in
-    long_2 (number 2 (length ps)) (flat_map page ps) 2 1064960 (omega (arith, number_long 2 (length ps))) (omega (arith, each, fit.0))
+    omega (arith, counted_long 2 page ps, each, fit.0)
 
-origin_short : (r : Record) → length (origin r) ≤ 25
-origin_short r =
-    long_2 (number 8 r.turn) (number 8 r.stamp ++ (number 1 r.from ++ number 8 r.number)) 8 17 (omega (arith, number_long 8 r.turn))
-    (long_2 (number 8 r.stamp) (number 1 r.from ++ number 8 r.number) 8 9 (omega (arith, number_long 8 r.stamp))
-    (long_2 (number 1 r.from) (number 8 r.number) 1 8 (omega (arith, number_long 1 r.from)) (omega (arith, number_long 8 r.number))))
+pub origin_long : (r : Record) → length (origin r) ≡ 25
+origin_long r = simp (length-append, number_long)
 
-pub fields_short : (r : Record) → IsRecord r → length (fields r) ≤ 1081838
-fields_short r is =
-    let draws = draws_short r.draws is.lists.0 in
-    let sends = sends_short r.sends is.lists.1 in
-    let outs = outs_short r.outs is.lists.2 in
-    let pages = pages_short r.pages is.lists.3 in
-    long_2 (origin r) (lists r) 25 1081813 (origin_short r)
-    (long_2 (counted 1 (number 8) r.draws) (counted 1 sent r.sends ++ (counted 1 out r.outs ++ counted 2 page r.pages)) 129 1081684 draws
-    (long_2 (counted 1 sent r.sends) (counted 1 out r.outs ++ counted 2 page r.pages) 8369 1073315 sends
-    (long_2 (counted 1 out r.outs) (counted 2 page r.pages) 8353 1064962 outs pages)))
+-- the lengths of the lists of a record, with its other fields
+pub fields_long : (r : Record) → length (fields One r) ≡ 25 + length (counted 1 (number 8) r.draws) + length (counted 1 sent r.sends) + length (counted 1 out r.outs) + length (counted 2 page r.pages)
+fields_long r =
+    let d : List ℕ = counted 1 (number 8) r.draws in
+    let s : List ℕ = counted 1 sent r.sends in
+    let o : List ℕ = counted 1 out r.outs in
+    let p : List ℕ = counted 2 page r.pages in
+    omega (arith, length-append (origin r) (d ++ (s ++ (o ++ p))), origin_long r, length-append d (s ++ (o ++ p)), length-append s (o ++ p), length-append o p)
+
+pub fields_fit : (r : Record) → IsRecord One r → length (fields One r) ≤ 1081838
+fields_fit r is = omega (arith, fields_long r, draws_short r.draws is.lists.0, sends_short r.sends is.lists.1, outs_short r.outs is.lists.2, pages_short r.pages is.lists.3)
+
+pub fields_short : (v : Version) (r : Record) → IsRecord v r → length (fields v r) ≤ most_fields v
+fields_short One r is = fields_fit r is
+
+-- so many numbers
+words_long : (ns : List ℕ) → length (flat_map (number 8) ns) ≡ 8 * length ns
+words_long [] = refl
+words_long (n ∷ ns) =
+    let parts = ap length (flat_map-cons (number 8) n ns) ∙ length-append (number 8 n) (flat_map (number 8) ns) in
+    omega (arith, parts, number_long 8 n, words_long ns, mul-suc 8 (length ns))
+
+pub counts_long : (b : Base) → IsBase One b → length (counts b) ≡ 152
+counts_long b is =
+    let consumed : length b.consumed ≡ 9 = is.counts.0.1 in
+    let sent : length b.sent ≡ 8 = is.counts.1.1 in
+    simp (length-append, number_long, words_long, consumed, sent)
+
+-- the lengths of the lists of a base, with its other fields
+pub base_fields_long : (b : Base) → IsBase One b → length (base_bytes One b) ≡ 152 + length (counted 4 due b.messages) + length (counted 4 out b.outs) + length (counted 2 page b.pages)
+base_fields_long b is =
+    let m : List ℕ = counted 4 due b.messages in
+    let o : List ℕ = counted 4 out b.outs in
+    let p : List ℕ = counted 2 page b.pages in
+    omega (arith, length-append (counts b) (m ++ (o ++ p)), counts_long b is, length-append m (o ++ p), length-append o p)
+
+-- its lists have three counts at least
+pub base_long : (v : Version) (b : Base) → IsBase v b → 162 ≤ length (base_bytes v b)
+base_long One b is = omega (arith, base_fields_long b is, counted_long 4 due b.messages, counted_long 4 out b.outs, counted_long 2 page b.pages)
 
 pub header_long : (h : Header) → length (header_bytes h) ≡ 31
 header_long h =

@@ -1,18 +1,22 @@
 -- Which parts and items have a spelling.
-use Rattle.std.specs.Prelude.{◌≡◌, ℕ, ◌+◌, ◌≤◌, ◌<◌, ◌^◌, ◌⊎◌, List, [], ◌∷◌, length, Bool, true, ◌&&◌, nat_le, IsTrue}
+use Rattle.std.specs.Prelude.{◌≡◌, ℕ, ◌+◌, ◌*◌, ◌≤◌, ◌<◌, ◌^◌, ◌⊎◌, List, [], ◌∷◌, length, Bool, true, ◌&&◌, nat_lt, nat_le, IsTrue}
 use Rattle.std.specs.List.{AllByRecursion}
 use Rattle.ken_model.specs.declared.messages.Out.{Out}
+use Rattle.ken_record.specs.declared.due.Due.{Due}
 use Rattle.ken_record.specs.declared.sent.Sent.{Sent}
 use Rattle.ken_record.specs.declared.page.Page.{Page}
 use Rattle.ken_record.specs.declared.header.Header.{Header}
+use Rattle.ken_record.specs.declared.base.Base.{Base}
 use Rattle.ken_record.specs.declared.record.Record.{Record}
+use Rattle.ken_record.specs.Versions.{Version, One, senders}
 
 -- turns, stamps and messages are numbered from 1
 abbrev pub IsCount : ℕ → Type 0
 IsCount n = (1 ≤ n) × (n < 2 ^ 64)
 
-abbrev pub IsDraw : ℕ → Type 0
-IsDraw n = n < 2 ^ 64
+-- any number of eight bytes
+abbrev pub IsWord : ℕ → Type 0
+IsWord n = n < 2 ^ 64
 
 abbrev pub IsText : List ℕ → Type 0
 IsText bytes = length bytes ≤ 512
@@ -22,8 +26,14 @@ pub record IsSent (s : Sent) : Type 0 where
   pub number : IsCount s.number
   pub bytes : IsText s.bytes
 
+pub record IsDue (m : Due) : Type 0 where
+  pub to : m.to < 2 ^ 8
+  pub number : IsWord m.number
+  pub stamp : IsWord m.stamp
+  pub bytes : IsText m.bytes
+
 pub record IsOut (o : Out) : Type 0 where
-  pub number : IsCount o.number
+  pub number : IsWord o.number
   pub text : IsText o.text
 
 pub record IsPage (p : Page) : Type 0 where
@@ -34,28 +44,67 @@ pub record IsPage (p : Page) : Type 0 where
 abbrev pub AtMost : {A : Type 0} → ℕ → (A → Type 0) → List A → Type 0
 AtMost most Is items = (length items ≤ most) × AllByRecursion Is items
 
--- whether the pages rise strictly, the first from low on
-abbrev pub rise_from : ℕ → List Page → Bool
-rise_from low [] = true
-rise_from low (p ∷ ps) = nat_le low p.page && rise_from (p.page + 1) ps
+-- a list of just so many
+abbrev pub Exactly : {A : Type 0} → ℕ → (A → Type 0) → List A → Type 0
+Exactly count Is items = AllByRecursion Is items × (length items ≡ count)
+
+-- whether the ranks of the items rise strictly, the first from low on
+abbrev pub rise_from : {A : Type 0} → (A → ℕ) → ℕ → List A → Bool
+rise_from rank low [] = true
+rise_from rank low (x ∷ xs) = nat_le low (rank x) && rise_from rank (rank x + 1) xs
+
+abbrev pub page_rank : Page → ℕ
+page_rank p = p.page
+
+abbrev pub out_rank : Out → ℕ
+out_rank o = o.number
+
+-- by the node that it goes to, then by its number
+abbrev pub due_rank : Due → ℕ
+due_rank m = m.to * 2 ^ 64 + m.number
+
+-- whether each output is numbered from 1
+abbrev pub are_numbered : List Out → Bool
+are_numbered [] = true
+are_numbered (o ∷ os) = nat_lt 0 o.number && are_numbered os
 
 -- what is in the lists of a record
-abbrev pub HasLists : Record → Type 0
-HasLists r = AtMost 16 IsDraw r.draws × AtMost 16 IsSent r.sends × AtMost 16 IsOut r.outs × AtMost 4096 IsPage r.pages
+abbrev pub HasLists : Version → Record → Type 0
+HasLists One r = AtMost 16 IsWord r.draws × AtMost 16 IsSent r.sends × AtMost 16 IsOut r.outs × AtMost 4096 IsPage r.pages
 
-pub record IsRecord (r : Record) : Type 0 where
+pub record IsRecord (v : Version) (r : Record) : Type 0 where
   pub turn : IsCount r.turn
   pub stamp : IsCount r.stamp
   pub from : (r.from < 8) ⊎ (r.from ≡ 255)
   pub number : IsCount r.number
-  pub lists : HasLists r
-  pub rising : IsTrue (rise_from 0 r.pages)
+  pub lists : HasLists v r
+  pub numbered : IsTrue (are_numbered r.outs)
+  pub rising : IsTrue (rise_from page_rank 0 r.pages)
+
+-- what a base tells of each sender and each node, whether of the run or not
+abbrev pub HasCounts : Version → Base → Type 0
+HasCounts v b = Exactly (senders v) IsWord b.consumed × Exactly 8 IsWord b.sent
+
+-- what is in the lists of a base
+abbrev pub HasKept : Base → Type 0
+HasKept b = AtMost 0xffff_ffff IsDue b.messages × AtMost 0xffff_ffff IsOut b.outs × AtMost 4096 IsPage b.pages
+
+-- whether its messages, outputs and pages rise
+abbrev pub base_rises : Base → Bool
+base_rises b = rise_from due_rank 0 b.messages && rise_from out_rank 0 b.outs && rise_from page_rank 0 b.pages
+
+pub record IsBase (v : Version) (b : Base) : Type 0 where
+  pub stamp : IsWord b.stamp
+  pub outputs : IsWord b.outputs
+  pub counts : HasCounts v b
+  pub kept : HasKept b
+  pub rising : IsTrue (base_rises b)
 
 -- the first log of a node follows no turns and has no base
 pub record IsHeader (h : Header) : Type 0 where
-  pub node : h.node < h.nodes
-  pub nodes : h.nodes ≤ 8
-  pub pages : (1 ≤ h.pages) × (h.pages ≤ 4096)
+  pub node : h.node < 2 ^ 8
+  pub nodes : h.nodes < 2 ^ 8
+  pub pages : h.pages < 2 ^ 32
   pub generation : (1 ≤ h.generation) × (h.generation < 2 ^ 32)
   pub turns : h.turns < 2 ^ 64
   pub base_len : h.base_len < 2 ^ 32

@@ -1,4 +1,6 @@
+pub mod Versions
 pub mod Spelling
 pub mod Grammar
 pub mod Reading
 pub mod Items
+pub mod Appending

@@ -4,15 +4,18 @@ use Rattle.byteorder.specs.Endian.{big_number}
 use Rattle.ken_model.specs.declared.messages.Out.{Out}
 use Rattle.ken_record.specs.declared.faults.RecordFault.{RecordFault}
 use Rattle.ken_record.specs.declared.faults.RecordFault.TheVariants.{Bad, Memory}
+use Rattle.ken_record.specs.declared.due.Due.{Due}
 use Rattle.ken_record.specs.declared.sent.Sent.{Sent}
 use Rattle.ken_record.specs.declared.page.Page.{Page}
 use Rattle.ken_record.specs.declared.header.Header.{Header}
+use Rattle.ken_record.specs.declared.base.Base.{Base}
 use Rattle.ken_record.specs.declared.record.Record.{Record}
 use Rattle.ken_record.specs.declared.item.Item.{Item}
 use Rattle.ken_record.specs.declared.item.Item.TheVariants as items
 use Rattle.ken_record.specs.declared.item.ItemKind.{ItemKind}
 use Rattle.ken_record.specs.declared.item.ItemKind.TheVariants as kinds
-use Rattle.ken_record.specs.Grammar.{rise_from}
+use Rattle.ken_record.specs.Versions.{Version, One, version_byte, most_fields, senders}
+use Rattle.ken_record.specs.Grammar.{rise_from, page_rank, are_numbered, base_rises}
 
 -- What a function returned, seen by view, is what reading gives, unless memory ran out.
 abbrev pub Fails : {Y : Type 0} → RecordFault → Option Y → Type 0
@@ -63,6 +66,13 @@ items_at reads (suc n) bytes = do
   others ← items_at reads n first.1
   Some (first.0 ∷ others.0, others.1)
 
+-- so many bytes, which are just what a reader takes
+unfoldable pub within : {A : Type 0} → (List ℕ → Option (A × List ℕ)) → ℕ → List ℕ → Option (A × List ℕ)
+within reads n bytes = do
+  part ← part_at n bytes
+  x ← reads part.0
+  if length x.1 == 0 then Some (x.0, part.1) else None
+
 -- two bytes of length, at most 512, and so many bytes
 unfoldable pub text_at : List ℕ → Option (List ℕ × List ℕ)
 text_at bytes = sized 2 512 part_at bytes
@@ -71,8 +81,12 @@ text_at bytes = sized 2 512 part_at bytes
 unfoldable pub sent_at : List ℕ → Option (Sent × List ℕ)
 sent_at bytes = made (λ x. nat_lt x.0 8 && nat_lt 0 x.1.0) (λ x. record { to = x.0; number = x.1.0; bytes = x.1.1 }) (seq (number_at 1) (seq (number_at 8) text_at)) bytes
 
+-- the same with a stamp
+unfoldable pub due_at : List ℕ → Option (Due × List ℕ)
+due_at bytes = made (λ x. true) (λ x. record { to = x.0; number = x.1.0; stamp = x.1.1.0; bytes = x.1.1.1 }) (seq (number_at 1) (seq (number_at 8) (seq (number_at 8) text_at))) bytes
+
 unfoldable pub out_at : List ℕ → Option (Out × List ℕ)
-out_at bytes = made (λ x. nat_lt 0 x.0) (λ x. record { number = x.0; text = x.1 }) (seq (number_at 8) text_at) bytes
+out_at bytes = made (λ x. true) (λ x. record { number = x.0; text = x.1 }) (seq (number_at 8) text_at) bytes
 
 unfoldable pub page_at : List ℕ → Option (Page × List ℕ)
 page_at bytes = made (λ x. true) (λ x. record { page = x.0; bytes = x.1 }) (seq (number_at 4) (part_at 256)) bytes
@@ -85,29 +99,37 @@ origin_at bytes = seq (number_at 8) (seq (number_at 8) (seq (number_at 1) (numbe
 unfoldable pub lists_at : List ℕ → Option ((List ℕ × (List Sent × (List Out × List Page))) × List ℕ)
 lists_at bytes = seq (sized 1 16 (items_at (number_at 8))) (seq (sized 1 16 (items_at sent_at)) (seq (sized 1 16 (items_at out_at)) (sized 2 4096 (items_at page_at)))) bytes
 
--- whether its fields are in range and its pages rise, where the items of its lists are
+-- whether its fields are in range, its outputs numbered and its pages rise, where the items of its lists are in range
 abbrev pub is_sound : Record → Bool
-is_sound r = nat_lt 0 r.turn && nat_lt 0 r.stamp && (nat_lt r.from 8 || r.from == 255) && nat_lt 0 r.number && rise_from 0 r.pages
+is_sound r = nat_lt 0 r.turn && nat_lt 0 r.stamp && (nat_lt r.from 8 || r.from == 255) && nat_lt 0 r.number && are_numbered r.outs && rise_from page_rank 0 r.pages
 
 abbrev pub record_of : (ℕ × (ℕ × (ℕ × ℕ))) × (List ℕ × (List Sent × (List Out × List Page))) → Record
 record_of x = record { turn = x.0.0; stamp = x.0.1.0; from = x.0.1.1.0; number = x.0.1.1.1; draws = x.1.0; sends = x.1.1.0; outs = x.1.1.1.0; pages = x.1.1.1.1 }
 
-unfoldable pub fields_at : List ℕ → Option (Record × List ℕ)
-fields_at bytes = made (λ x. is_sound (record_of x)) record_of (seq origin_at lists_at) bytes
+unfoldable pub fields_at : Version → List ℕ → Option (Record × List ℕ)
+fields_at One bytes = made (λ x. is_sound (record_of x)) record_of (seq origin_at lists_at) bytes
 
--- the fields in so many bytes, and nothing after them there
-unfoldable pub within : ℕ → List ℕ → Option (Record × List ℕ)
-within n bytes = do
-  part ← part_at n bytes
-  r ← fields_at part.0
-  if length r.1 == 0 then Some (r.0, part.1) else None
+-- a length, and just so many bytes of fields
+unfoldable pub record_at : Version → List ℕ → Option (Record × List ℕ)
+record_at v bytes = sized 4 (most_fields v) (within (fields_at v)) bytes
 
-unfoldable pub record_at : List ℕ → Option (Record × List ℕ)
-record_at bytes = sized 4 1081838 within bytes
+-- the stamp of a base, and what was consumed, sent and output
+unfoldable pub counts_at : Version → List ℕ → Option ((ℕ × (List ℕ × (List ℕ × ℕ))) × List ℕ)
+counts_at v bytes = seq (number_at 8) (seq (items_at (number_at 8) (senders v)) (seq (items_at (number_at 8) 8) (number_at 8))) bytes
+
+-- its messages, outputs and pages
+unfoldable pub kept_at : List ℕ → Option ((List Due × (List Out × List Page)) × List ℕ)
+kept_at bytes = seq (sized 4 0xffff_ffff (items_at due_at)) (seq (sized 4 0xffff_ffff (items_at out_at)) (sized 2 4096 (items_at page_at))) bytes
+
+abbrev pub base_of : (ℕ × (List ℕ × (List ℕ × ℕ))) × (List Due × (List Out × List Page)) → Base
+base_of x = record { stamp = x.0.0; consumed = x.0.1.0; sent = x.0.1.1.0; outputs = x.0.1.1.1; messages = x.1.0; outs = x.1.1.0; pages = x.1.1.1 }
+
+unfoldable pub base_at : Version → List ℕ → Option (Base × List ℕ)
+base_at One bytes = made (λ x. base_rises (base_of x)) base_of (seq (counts_at One) kept_at) bytes
 
 -- whether the fields of a header are in range
 abbrev pub is_sound_header : Header → Bool
-is_sound_header h = nat_lt h.node h.nodes && nat_le h.nodes 8 && nat_lt 0 h.pages && nat_le h.pages 4096 && nat_lt 0 h.generation && (not (h.generation == 1) || (h.turns == 0 && h.base_len == 0))
+is_sound_header h = nat_lt 0 h.generation && (not (h.generation == 1) || (h.turns == 0 && h.base_len == 0))
 
 -- the name and the version
 unfoldable pub mark_at : List ℕ → Option ((ℕ × ℕ) × List ℕ)
@@ -124,11 +146,12 @@ past_at bytes = seq (number_at 8) (seq (number_at 4) (number_at 4)) bytes
 abbrev pub header_of : (ℕ × ℕ) × ((ℕ × (ℕ × (ℕ × ℕ))) × (ℕ × (ℕ × ℕ))) → Header
 header_of x = record { node = x.1.0.0; nodes = x.1.0.1.0; pages = x.1.0.1.1.0; generation = x.1.0.1.1.1; turns = x.1.1.0; base_len = x.1.1.1.0 }
 
--- the name KENL, version 1, fields in range, and a zero
+-- the name KENL, a version that there is, fields in range, and a zero
 unfoldable pub header_at : List ℕ → Option (Header × List ℕ)
-header_at bytes = made (λ x. x.0.0 == 0x4b45_4e4c && x.0.1 == 1 && x.1.1.1.1 == 0 && is_sound_header (header_of x)) header_of (seq mark_at (seq place_at past_at)) bytes
+header_at bytes = made (λ x. x.0.0 == 0x4b45_4e4c && x.0.1 == version_byte One && x.1.1.1.1 == 0 && is_sound_header (header_of x)) header_of (seq mark_at (seq place_at past_at)) bytes
 
 -- the item of a kind at the front of bytes
-unfoldable pub item_at : ItemKind → List ℕ → Option (Item × List ℕ)
-item_at kinds.Header bytes = header_at bytes >>= λ x. Some (items.Header x.0, x.1)
-item_at kinds.Record bytes = record_at bytes >>= λ x. Some (items.Record x.0, x.1)
+unfoldable pub item_at : Version → ItemKind → List ℕ → Option (Item × List ℕ)
+item_at v kinds.Header bytes = header_at bytes >>= λ x. Some (items.Header x.0, x.1)
+item_at v kinds.Base bytes = base_at v bytes >>= λ x. Some (items.Base x.0, x.1)
+item_at v kinds.Record bytes = record_at v bytes >>= λ x. Some (items.Record x.0, x.1)

@@ -1,11 +1,11 @@
-// Numbers and byte strings at the front of bytes.
-ghost use Rattle.std.specs.Prelude.{◌≡◌, ◌++◌, ◌≤◌, ◌+◌, length, take, drop, OnOk};
+// Numbers and byte strings at the front of bytes. What appends one leaves a front of its spelling where memory runs out.
+ghost use Rattle.std.specs.Prelude.{◌≡◌, ◌++◌, OnOk, OnErr};
 ghost use Rattle.ken_record.specs.Spelling.{number, text};
 ghost use Rattle.ken_record.specs.Grammar.{IsText};
+ghost use Rattle.ken_record.specs.Appending.{HasFront};
 ghost use Rattle.ken_record.specs.Reading.{Gives, number_at, part_at, text_at};
 
 use crate::RecordFault;
-use byteorder::{BigEndian, ByteOrder};
 use ken_model::{MAX_TEXT, Octets};
 use ken_num::{put_u8, put_u16, put_u32, put_u64, u8_at, u16_at, u32_at, u64_at};
 use std::alloc::{AllocError, Global};
@@ -76,45 +76,50 @@ pub(crate) fn text_front(alloc: Global, bytes: &[u8]) -> Result<(Octets, &[u8]),
 
 #[tactic(auto, unfolding(crate::specs::Spelling::number))]
 pub(crate) fn put_1(out: &mut Vec<u8>, n: u8) -> Result<(), AllocError>
-    ensures { OnOk result (out.new.items ≡ out.old.items ++ number 1 n) }
+    ensures ok { OnOk result (out.new.items ≡ out.old.items ++ number 1 n) }
+    ensures err { OnErr result (HasFront out.old.items (number 1 n) out.new.items) }
 {
     put_u8(out, n)
 }
 
 #[tactic(auto, unfolding(crate::specs::Spelling::number))]
 pub(crate) fn put_2(out: &mut Vec<u8>, n: u16) -> Result<(), AllocError>
-    ensures { OnOk result (out.new.items ≡ out.old.items ++ number 2 n) }
+    ensures ok { OnOk result (out.new.items ≡ out.old.items ++ number 2 n) }
+    ensures err { OnErr result (HasFront out.old.items (number 2 n) out.new.items) }
 {
     put_u16(out, n)
 }
 
 #[tactic(auto, unfolding(crate::specs::Spelling::number))]
 pub(crate) fn put_4(out: &mut Vec<u8>, n: u32) -> Result<(), AllocError>
-    ensures { OnOk result (out.new.items ≡ out.old.items ++ number 4 n) }
+    ensures ok { OnOk result (out.new.items ≡ out.old.items ++ number 4 n) }
+    ensures err { OnErr result (HasFront out.old.items (number 4 n) out.new.items) }
 {
     put_u32(out, n)
 }
 
 #[tactic(auto, unfolding(crate::specs::Spelling::number))]
 pub(crate) fn put_8(out: &mut Vec<u8>, n: u64) -> Result<(), AllocError>
-    ensures { OnOk result (out.new.items ≡ out.old.items ++ number 8 n) }
+    ensures ok { OnOk result (out.new.items ≡ out.old.items ++ number 8 n) }
+    ensures err { OnErr result (HasFront out.old.items (number 8 n) out.new.items) }
 {
     put_u64(out, n)
 }
 
-// Writes a number over the four bytes at a place.
-#[tactic(auto, unfolding(crate::specs::Spelling::number))]
-pub(crate) fn write_4(bytes: &mut [u8], at: usize, n: u32)
-    requires { at + 4 ≤ length bytes.old }
-    ensures { bytes.new ≡ (take at bytes.old ++ number 4 n) ++ drop (at + 4) bytes.old }
+// Appends bytes as they are.
+pub(crate) fn put_part(out: &mut Vec<u8>, bytes: &[u8]) -> Result<(), AllocError>
+    ensures ok { OnOk result (out.new.items ≡ out.old.items ++ bytes.now) }
+    ensures err { OnErr result (HasFront out.old.items bytes.now out.new.items) }
 {
-    BigEndian::write_u32(&mut bytes[at..], n);
+    out.extend_from_slice(bytes)
 }
 
+#[tactic(auto, using(crate::proofs::Appended::appended))]
 pub(crate) fn put_text(out: &mut Vec<u8>, bytes: &[u8]) -> Result<(), AllocError>
     requires { IsText bytes.now }
-    ensures { OnOk result (out.new.items ≡ out.old.items ++ text bytes.now) }
+    ensures ok { OnOk result (out.new.items ≡ out.old.items ++ text bytes.now) }
+    ensures err { OnErr result (HasFront out.old.items (text bytes.now) out.new.items) }
 {
     put_2(out, bytes.len() as u16)?;
-    out.extend_from_slice(bytes)
+    put_part(out, bytes)
 }

@@ -1,12 +1,13 @@
 // Lists of items of one kind, each with a spelling of its own.
-ghost use Rattle.std.specs.Prelude.{◌≡◌, ℕ, ◌++◌, ◌≤◌, ◌<◌, ◌^◌, ◌↔◌, List, length, Option, IsTrue, OnOk};
+ghost use Rattle.std.specs.Prelude.{◌≡◌, ℕ, ◌+◌, ◌*◌, ◌++◌, ◌≤◌, ◌<◌, ◌^◌, ◌↔◌, List, length, Option, IsTrue, OnOk, OnErr};
 ghost use Rattle.std.specs.List.{AllByRecursion, flat_map};
 ghost use Rattle.ken_record.specs.Spelling.{number, counted};
-ghost use Rattle.ken_record.specs.Grammar.{IsDraw, AtMost};
+ghost use Rattle.ken_record.specs.Grammar.{IsWord, AtMost, Exactly};
+ghost use Rattle.ken_record.specs.Appending.{HasFront};
 ghost use Rattle.ken_record.specs.Reading.{Gives, number_at, items_at, sized};
 
 use crate::RecordFault;
-use crate::bytes::{put_1, put_2, put_8, u8_front, u16_front, u64_front};
+use crate::bytes::{put_1, put_2, put_4, put_8, u8_front, u16_front, u32_front, u64_front};
 use ken_model::Items;
 use std::alloc::{AllocError, Global};
 
@@ -23,17 +24,24 @@ pub(crate) trait Field: Drop + Sized {
     fn fits(&self) -> bool
         ensures { IsTrue result ↔ is self.now };
 
-    // Appends its spelling.
+    // The length of its spelling, at most 1,024 bytes.
+    fn len(&self) -> usize
+        requires { is self.now }
+        ensures len { result ≡ length (spell self.now) }
+        ensures short { result ≤ 1024 };
+
+    // Appends its spelling. After an error a front of it may stand behind the old bytes.
     fn put(&self, out: &mut Vec<u8>) -> Result<(), AllocError>
         requires { is self.now }
-        ensures { OnOk result (out.new.items ≡ out.old.items ++ spell self.now) };
+        ensures ok { OnOk result (out.new.items ≡ out.old.items ++ spell self.now) }
+        ensures err { OnErr result (HasFront out.old.items (spell self.now) out.new.items) };
 
     fn read(alloc: Global, bytes: &[u8]) -> Result<(Self, &[u8]), RecordFault>
         ensures { Gives (λ x. (x.0, x.1.now)) result (reads bytes.now) };
 }
 
 impl Field for u64 {
-    ghost is = { IsDraw };
+    ghost is = { IsWord };
 
     ghost spell = { number 8 };
 
@@ -42,6 +50,11 @@ impl Field for u64 {
     fn fits(&self) -> bool {
         let _any = *self;
         true
+    }
+
+    #[tactic(auto, using(crate::proofs::Sizes::number_long))]
+    fn len(&self) -> usize {
+        8
     }
 
     fn put(&self, out: &mut Vec<u8>) -> Result<(), AllocError> {
@@ -72,10 +85,44 @@ pub(crate) fn at_most<T: Field>(most: usize, items: &[T]) -> bool
     items.len() <= most && all_fit(items)
 }
 
+// Whether they are just so many, each with a spelling.
+pub(crate) fn exactly<T: Field>(count: usize, items: &[T]) -> bool
+    ensures { IsTrue result ↔ Exactly count T.is items.now }
+{
+    items.len() == count && all_fit(items)
+}
+
+// The length of their spellings together.
+fn len_all<T: Field>(items: &[T]) -> usize
+    requires few { length items.now < 2 ^ 32 }
+    requires fit { AllByRecursion T.is items.now }
+    ensures len { result ≡ length (flat_map T.spell items.now) }
+    ensures short { result ≤ 1024 * length items.now }
+{
+    let mut len = 0;
+    for item in items {
+        len += item.len();
+    }
+    len
+}
+
+// The same, with a count of `width` bytes before them.
+#[tactic(auto, using(crate::proofs::Sizes::counted_long))]
+pub(crate) fn counted_len<T: Field>(width: usize, items: &[T]) -> usize
+    requires width { width ≤ 4 }
+    requires few { length items.now < 2 ^ 32 }
+    requires fit { AllByRecursion T.is items.now }
+    ensures len { result ≡ length (counted width T.spell items.now) }
+    ensures short { result ≤ 4 + 1024 * length items.now }
+{
+    width + len_all(items)
+}
+
 // Appends the items, one after the other.
 pub(crate) fn put_all<T: Field>(out: &mut Vec<u8>, items: &[T]) -> Result<(), AllocError>
     requires { AllByRecursion T.is items.now }
-    ensures { OnOk result (out.new.items ≡ out.old.items ++ flat_map T.spell items.now) }
+    ensures ok { OnOk result (out.new.items ≡ out.old.items ++ flat_map T.spell items.now) }
+    ensures err { OnErr result (HasFront out.old.items (flat_map T.spell items.now) out.new.items) }
 {
     for item in items {
         item.put(out)?;
@@ -133,20 +180,46 @@ pub(crate) fn many_front<T: Field>(
     some(alloc, count, rest)
 }
 
+// A count of four bytes, and the items.
+pub(crate) fn most_front<T: Field>(
+    alloc: Global,
+    bytes: &[u8],
+) -> Result<(Items<T>, &[u8]), RecordFault>
+    ensures { Gives (λ x. (x.0, x.1.now)) result (sized 4 0xffff_ffff (items_at T.reads) bytes.now) }
+{
+    let (count, rest) = u32_front(bytes)?;
+    some(alloc, count as usize, rest)
+}
+
+#[tactic(auto, using(crate::proofs::Appended::appended))]
 pub(crate) fn put_few<T: Field>(out: &mut Vec<u8>, items: &[T]) -> Result<(), AllocError>
     requires few { length items.now < 256 }
     requires fit { AllByRecursion T.is items.now }
-    ensures { OnOk result (out.new.items ≡ out.old.items ++ counted 1 T.spell items.now) }
+    ensures ok { OnOk result (out.new.items ≡ out.old.items ++ counted 1 T.spell items.now) }
+    ensures err { OnErr result (HasFront out.old.items (counted 1 T.spell items.now) out.new.items) }
 {
     put_1(out, items.len() as u8)?;
     put_all(out, items)
 }
 
+#[tactic(auto, using(crate::proofs::Appended::appended))]
 pub(crate) fn put_many<T: Field>(out: &mut Vec<u8>, items: &[T]) -> Result<(), AllocError>
     requires few { length items.now < 2 ^ 16 }
     requires fit { AllByRecursion T.is items.now }
-    ensures { OnOk result (out.new.items ≡ out.old.items ++ counted 2 T.spell items.now) }
+    ensures ok { OnOk result (out.new.items ≡ out.old.items ++ counted 2 T.spell items.now) }
+    ensures err { OnErr result (HasFront out.old.items (counted 2 T.spell items.now) out.new.items) }
 {
     put_2(out, items.len() as u16)?;
+    put_all(out, items)
+}
+
+#[tactic(auto, using(crate::proofs::Appended::appended))]
+pub(crate) fn put_most<T: Field>(out: &mut Vec<u8>, items: &[T]) -> Result<(), AllocError>
+    requires few { length items.now < 2 ^ 32 }
+    requires fit { AllByRecursion T.is items.now }
+    ensures ok { OnOk result (out.new.items ≡ out.old.items ++ counted 4 T.spell items.now) }
+    ensures err { OnErr result (HasFront out.old.items (counted 4 T.spell items.now) out.new.items) }
+{
+    put_4(out, items.len() as u32)?;
     put_all(out, items)
 }

@@ -1,11 +1,12 @@
-ghost use Rattle.std.specs.Prelude.{◌≡◌, ◌++◌, ◌↔◌, IsTrue, OnOk};
+ghost use Rattle.std.specs.Prelude.{◌≡◌, ◌++◌, ◌↔◌, IsTrue, OnOk, OnErr};
+ghost use Rattle.ken_record.specs.Versions.{One};
 ghost use Rattle.ken_record.specs.Spelling.{mark, place, past, header_bytes};
+ghost use Rattle.ken_record.specs.Appending.{HasFront};
 ghost use Rattle.ken_record.specs.Grammar.{IsHeader};
 ghost use Rattle.ken_record.specs.Reading.{Gives, mark_at, place_at, past_at, header_at, is_sound_header};
 
 use crate::RecordFault;
 use crate::bytes::{put_1, put_4, put_8, u8_front, u32_front, u64_front};
-use ken_model::{MAX_NODES, MAX_PAGES};
 use std::alloc::AllocError;
 
 // `KENL`.
@@ -23,9 +24,9 @@ pub struct Header {
     pub pages: u32,
     /// Which of the node's logs this is, from 1.
     pub generation: u32,
-    /// The turns before this log.
+    /// The turns before this log: none in generation 1.
     pub turns: u64,
-    /// The length of the base that follows, in bytes.
+    /// The length of the base that follows, in bytes: 0 in generation 1.
     pub base_len: u32,
 }
 
@@ -35,34 +36,37 @@ impl Header {
         ensures { IsTrue result ↔ IsHeader self.now }
     {
         // What is read is in its type's range.
+        let _node = self.node;
+        let _nodes = self.nodes;
+        let _pages = self.pages;
         let _generation = self.generation;
         let _turns = self.turns;
         let _base_len = self.base_len;
         self.is_sound()
     }
 
-    pub(crate) fn is_sound(&self) -> bool
+    fn is_sound(&self) -> bool
         ensures { result ≡ is_sound_header self.now }
     {
-        let placed = self.node < self.nodes && self.nodes <= MAX_NODES;
-        let paged = self.pages > 0 && u64::from(self.pages) <= MAX_PAGES;
-        let counted = self.generation > 0
-            && (self.generation != 1 || (self.turns == 0 && self.base_len == 0));
-        placed && paged && counted
+        self.generation > 0 && (self.generation != 1 || (self.turns == 0 && self.base_len == 0))
     }
 
-    /// Appends its one spelling, 31 bytes. After an error `out` may hold a part of it after the bytes that it had.
+    /// Appends its one spelling, 31 bytes. After an error a front of it may stand behind the bytes that `out` had.
+    #[tactic(auto, using(crate::proofs::Appended::appended))]
     pub fn put(&self, out: &mut Vec<u8>) -> Result<(), AllocError>
         requires { IsHeader self.now }
-        ensures { OnOk result (out.new.items ≡ out.old.items ++ header_bytes self.now) }
+        ensures ok { OnOk result (out.new.items ≡ out.old.items ++ header_bytes self.now) }
+        ensures err { OnErr result (HasFront out.old.items (header_bytes self.now) out.new.items) }
     {
         put_mark(out)?;
         self.put_place(out)?;
         self.put_past(out)
     }
 
+    #[tactic(auto, using(crate::proofs::Appended::appended))]
     fn put_place(&self, out: &mut Vec<u8>) -> Result<(), AllocError>
-        ensures { OnOk result (out.new.items ≡ out.old.items ++ place self.now) }
+        ensures ok { OnOk result (out.new.items ≡ out.old.items ++ place self.now) }
+        ensures err { OnErr result (HasFront out.old.items (place self.now) out.new.items) }
     {
         put_1(out, self.node)?;
         put_1(out, self.nodes)?;
@@ -70,8 +74,10 @@ impl Header {
         put_4(out, self.generation)
     }
 
+    #[tactic(auto, using(crate::proofs::Appended::appended))]
     fn put_past(&self, out: &mut Vec<u8>) -> Result<(), AllocError>
-        ensures { OnOk result (out.new.items ≡ out.old.items ++ past self.now) }
+        ensures ok { OnOk result (out.new.items ≡ out.old.items ++ past self.now) }
+        ensures err { OnErr result (HasFront out.old.items (past self.now) out.new.items) }
     {
         put_8(out, self.turns)?;
         put_4(out, self.base_len)?;
@@ -79,8 +85,10 @@ impl Header {
     }
 }
 
+#[tactic(auto, using(crate::proofs::Appended::appended))]
 fn put_mark(out: &mut Vec<u8>) -> Result<(), AllocError>
-    ensures { OnOk result (out.new.items ≡ out.old.items ++ mark) }
+    ensures ok { OnOk result (out.new.items ≡ out.old.items ++ mark One) }
+    ensures err { OnErr result (HasFront out.old.items (mark One) out.new.items) }
 {
     put_4(out, NAME)?;
     put_1(out, VERSION)

@@ -1,9 +1,12 @@
-ghost use Rattle.std.specs.Prelude.{◌≡◌, ◌++◌, List, ℕ, length, drop, IfOk, IsErrOf, OnOk, IsTrue, ◌↔◌};
+ghost use Rattle.std.specs.Prelude.{◌≡◌, ◌++◌, List, ℕ, length, drop, IfOk, IsErrOf, OnOk, OnErr, IsTrue, ◌↔◌};
 ghost use Rattle.ken_record.specs.declared.item.Item.{Item};
+ghost use Rattle.ken_record.specs.Versions.{One};
+ghost use Rattle.ken_record.specs.Appending.{HasFront};
 ghost use Rattle.ken_record.specs.Items.{IsItem, kind_of, spelling, Spells, Reads};
 ghost use Rattle.ken_record.specs.Reading.{Gives, item_at};
 
 use crate::RecordFault;
+use crate::base::{Base, base_front};
 use crate::header::{Header, header_front};
 use crate::record::{Record, record_front};
 use ken_model::Octets;
@@ -13,6 +16,7 @@ use std::alloc::{AllocError, Global};
 #[derive(Debug, Drop)]
 pub enum Item {
     Header(Header),
+    Base(Base),
     Record(Record),
 }
 
@@ -20,27 +24,31 @@ pub enum Item {
 #[derive(Clone, Copy, Debug, PartialEq, Eq)]
 pub enum ItemKind {
     Header,
+    Base,
     Record,
 }
 
 impl Item {
     /// Whether it has a spelling.
     pub fn fits(&self) -> bool
-        ensures { IsTrue result ↔ IsItem self.now }
+        ensures { IsTrue result ↔ IsItem One self.now }
     {
         match self {
             Item::Header(header) => header.fits(),
+            Item::Base(base) => base.fits(),
             Item::Record(record) => record.fits(),
         }
     }
 
-    /// Appends its one spelling. After an error `out` may hold a part of it after the bytes that it had.
+    /// Appends its one spelling. After an error a front of it may stand behind the bytes that `out` had.
     pub fn put(&self, out: &mut Vec<u8>) -> Result<(), AllocError>
-        requires { IsItem self.now }
-        ensures { OnOk result (out.new.items ≡ out.old.items ++ spelling self.now) }
+        requires { IsItem One self.now }
+        ensures ok { OnOk result (out.new.items ≡ out.old.items ++ spelling One self.now) }
+        ensures err { OnErr result (HasFront out.old.items (spelling One self.now) out.new.items) }
     {
         match self {
             Item::Header(header) => header.put(out),
+            Item::Base(base) => base.put(out),
             Item::Record(record) => record.put(out),
         }
     }
@@ -48,8 +56,8 @@ impl Item {
 
 /// The one spelling of an item.
 pub fn encode(alloc: Global, item: &Item) -> Result<Octets, AllocError>
-    requires { IsItem item.now }
-    ensures { IfOk result (λ bytes. bytes ≡ spelling item.now) }
+    requires { IsItem One item.now }
+    ensures { IfOk result (λ bytes. bytes ≡ spelling One item.now) }
 {
     let mut out = Vec::new(alloc);
     item.put(&mut out)?;
@@ -59,12 +67,16 @@ pub fn encode(alloc: Global, item: &Item) -> Result<Octets, AllocError>
 // The item at the front of bytes, and the bytes after it.
 #[tactic(auto, unfolding(crate::specs::Reading::item_at))]
 fn item_front(alloc: Global, kind: ItemKind, bytes: &[u8]) -> Result<(Item, &[u8]), RecordFault>
-    ensures { Gives (λ x. (x.0, x.1.now)) result (item_at kind bytes.now) }
+    ensures { Gives (λ x. (x.0, x.1.now)) result (item_at One kind bytes.now) }
 {
     match kind {
         ItemKind::Header => {
             let (header, rest) = header_front(bytes)?;
             Ok((Item::Header(header), rest))
+        }
+        ItemKind::Base => {
+            let (base, rest) = base_front(alloc, bytes)?;
+            Ok((Item::Base(base), rest))
         }
         ItemKind::Record => {
             let (record, rest) = record_front(alloc, bytes)?;
@@ -78,13 +90,13 @@ fn item_front(alloc: Global, kind: ItemKind, bytes: &[u8]) -> Result<(Item, &[u8
 pub fn decode(alloc: Global, kind: ItemKind, bytes: &[u8]) -> Result<(Item, usize), RecordFault>
     // What is read is of the kind, and stands at the front as it is spelled.
     ensures kind { IfOk result (λ x. kind_of x.0 ≡ kind) }
-    ensures length { IfOk result (λ x. x.1 ≡ length (spelling x.0)) }
-    ensures found { IfOk result (λ x. Spells bytes.now x.0 (drop x.1 bytes.now)) }
+    ensures length { IfOk result (λ x. x.1 ≡ length (spelling One x.0)) }
+    ensures found { IfOk result (λ x. Spells One bytes.now x.0 (drop x.1 bytes.now)) }
     // What stands at the front is read, unless memory runs out.
-    ensures only { (item : Item) (rest : List ℕ) → kind_of item ≡ kind → Spells bytes.now item rest → Reads result item }
+    ensures only { (item : Item) (rest : List ℕ) → kind_of item ≡ kind → Spells One bytes.now item rest → Reads One result item }
     // The same as one definition.
-    ensures exact { Gives (λ x. (x.0, drop x.1 bytes.now)) result (item_at kind bytes.now) }
-    ensures bad { IsErrOf result RecordFault.Bad → (item : Item) (rest : List ℕ) → kind_of item ≡ kind → Spells bytes.now item rest → ⊥ }
+    ensures exact { Gives (λ x. (x.0, drop x.1 bytes.now)) result (item_at One kind bytes.now) }
+    ensures bad { IsErrOf result RecordFault.Bad → (item : Item) (rest : List ℕ) → kind_of item ≡ kind → Spells One bytes.now item rest → ⊥ }
 {
     let (item, rest) = item_front(alloc, kind, bytes)?;
     Ok((item, bytes.len() - rest.len()))

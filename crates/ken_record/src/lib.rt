@@ -1,7 +1,9 @@
 //! The items of a log in bytes: what is one, its one spelling, and how it is read back.
 #![tactic(auto)]
 
+mod base;
 mod bytes;
+mod due;
 mod faults;
 mod field;
 mod header;
@@ -10,10 +12,13 @@ mod laws;
 mod out;
 mod page;
 mod record;
+mod rising;
 mod sent;
 #[cfg(test)]
 mod tests;
 
+pub use base::{Base, SENDERS, decode_base};
+pub use due::Due;
 pub use faults::RecordFault;
 pub use header::Header;
 pub use item::{Item, ItemKind, decode, encode};

@@ -1,11 +1,12 @@
 ghost use Rattle.std.specs.Prelude.{◌≡◌};
 ghost use Rattle.ken_record.specs.Spelling.{page};
-ghost use Rattle.ken_record.specs.Grammar.{IsPage, rise_from};
+ghost use Rattle.ken_record.specs.Grammar.{IsPage, page_rank};
 ghost use Rattle.ken_record.specs.Reading.{page_at};
 
 use crate::RecordFault;
-use crate::bytes::{part_front, put_4, u32_front};
+use crate::bytes::{part_front, put_4, put_part, u32_front};
 use crate::field::Field;
+use crate::rising::Ranked;
 use ken_model::{Octets, PAGE};
 use std::alloc::{AllocError, Global};
 
@@ -29,9 +30,15 @@ impl Field for Page {
         self.bytes.len() as u64 == PAGE
     }
 
+    #[tactic(auto, using(crate::proofs::Sizes::page_long))]
+    fn len(&self) -> usize {
+        260
+    }
+
+    #[tactic(auto, using(crate::proofs::Appended::appended))]
     fn put(&self, out: &mut Vec<u8>) -> Result<(), AllocError> {
         put_4(out, self.page)?;
-        out.extend_from_slice(self.bytes.as_slice())
+        put_part(out, self.bytes.as_slice())
     }
 
     #[tactic(auto, unfolding(crate::specs::Reading::page_at))]
@@ -43,16 +50,10 @@ impl Field for Page {
     }
 }
 
-// Whether the pages rise strictly.
-pub(crate) fn rise(pages: &[Page]) -> bool
-    ensures { result ≡ rise_from 0 pages.now }
-{
-    let mut low = 0;
-    for page in pages {
-        if u64::from(page.page) < low {
-            return false;
-        }
-        low = u64::from(page.page) + 1;
+impl Ranked for Page {
+    ghost place = { page_rank };
+
+    fn rank(&self) -> u128 {
+        u128::from(self.page)
     }
-    true
 }

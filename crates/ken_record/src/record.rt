@@ -1,12 +1,16 @@
-ghost use Rattle.std.specs.Prelude.{◌≡◌, ◌++◌, ◌≤◌, ◌↔◌, length, IsTrue, OnOk};
+ghost use Rattle.std.specs.Prelude.{◌≡◌, ◌++◌, ◌↔◌, length, IsTrue, OnOk, OnErr};
+ghost use Rattle.ken_record.specs.Versions.{One};
 ghost use Rattle.ken_record.specs.Spelling.{origin, lists, fields, record_bytes};
+ghost use Rattle.ken_record.specs.Appending.{HasFront};
 ghost use Rattle.ken_record.specs.Grammar.{IsRecord, HasLists};
 ghost use Rattle.ken_record.specs.Reading.{Gives, origin_at, lists_at, fields_at, within, record_at, is_sound};
 
 use crate::RecordFault;
-use crate::bytes::{part_front, put_1, put_4, put_8, u8_front, u32_front, u64_front, write_4};
-use crate::field::{at_most, few_front, many_front, put_few, put_many};
-use crate::page::{Page, rise};
+use crate::bytes::{part_front, put_1, put_4, put_8, u8_front, u32_front, u64_front};
+use crate::field::{at_most, counted_len, few_front, many_front, put_few, put_many};
+use crate::out::are_numbered;
+use crate::page::Page;
+use crate::rising::rise;
 use crate::sent::Sent;
 use ken_model::{Items, MAX_NODES, MAX_PAGES, OUTSIDE, Out};
 use std::alloc::{AllocError, Global};
@@ -22,6 +26,9 @@ pub const MAX_OUTS: usize = 16;
 
 /// The most bytes of a record after its length.
 pub const MAX_FIELDS: usize = 1_081_838;
+
+// The bytes of the fields before the lists.
+const ORIGIN_LEN: usize = 25;
 
 /// What a turn did.
 #[derive(Debug, Drop)]
@@ -44,7 +51,7 @@ pub struct Record {
 impl Record {
     /// Whether it has a spelling.
     pub fn fits(&self) -> bool
-        ensures { IsTrue result ↔ IsRecord self.now }
+        ensures { IsTrue result ↔ IsRecord One self.now }
     {
         // What is read is in its type's range.
         let _turn = self.turn;
@@ -59,11 +66,12 @@ impl Record {
     {
         let turned = self.turn > 0 && self.stamp > 0;
         let sender = self.from < MAX_NODES || self.from == OUTSIDE;
-        turned && sender && self.number > 0 && rise(self.pages.as_slice())
+        let numbered = self.number > 0 && are_numbered(self.outs.as_slice());
+        turned && sender && numbered && rise(self.pages.as_slice())
     }
 
     fn lists_fit(&self) -> bool
-        ensures { IsTrue result ↔ HasLists self.now }
+        ensures { IsTrue result ↔ HasLists One self.now }
     {
         at_most(MAX_DRAWS, self.draws.as_slice())
             && at_most(MAX_SENDS, self.sends.as_slice())
@@ -71,30 +79,45 @@ impl Record {
             && at_most(MAX_PAGES as usize, self.pages.as_slice())
     }
 
-    /// Appends its one spelling: the length in four bytes, and so many bytes. After an error `out` may hold a part of it
-    /// after the bytes that it had.
+    /// Appends its one spelling: the length in four bytes, and so many bytes. After an error a front of it may stand behind
+    /// the bytes that `out` had.
+    #[tactic(auto, using(crate::proofs::Appended::appended, crate::proofs::Sizes::fields_fit))]
     pub fn put(&self, out: &mut Vec<u8>) -> Result<(), AllocError>
-        requires { IsRecord self.now }
-        ensures { OnOk result (out.new.items ≡ out.old.items ++ record_bytes self.now) }
+        requires { IsRecord One self.now }
+        ensures ok { OnOk result (out.new.items ≡ out.old.items ++ record_bytes One self.now) }
+        ensures err { OnErr result (HasFront out.old.items (record_bytes One self.now) out.new.items) }
     {
-        let at = out.len();
-        put_4(out, 0)?;
-        self.put_fields(out)?;
-        let len = (out.len() - at - 4) as u32;
-        write_4(out, at, len);
-        Ok(())
+        put_4(out, self.fields_len() as u32)?;
+        self.put_fields(out)
     }
 
+    // The bytes of its fields.
+    #[tactic(auto, using(crate::proofs::Sizes::fields_long))]
+    fn fields_len(&self) -> usize
+        requires { IsRecord One self.now }
+        ensures { result ≡ length (fields One self.now) }
+    {
+        let draws = counted_len(1, self.draws.as_slice());
+        let sends = counted_len(1, self.sends.as_slice());
+        let outs = counted_len(1, self.outs.as_slice());
+        let pages = counted_len(2, self.pages.as_slice());
+        ORIGIN_LEN + draws + sends + outs + pages
+    }
+
+    #[tactic(auto, using(crate::proofs::Appended::appended))]
     fn put_fields(&self, out: &mut Vec<u8>) -> Result<(), AllocError>
-        requires { IsRecord self.now }
-        ensures { OnOk result (out.new.items ≡ out.old.items ++ fields self.now) }
+        requires { IsRecord One self.now }
+        ensures ok { OnOk result (out.new.items ≡ out.old.items ++ fields One self.now) }
+        ensures err { OnErr result (HasFront out.old.items (fields One self.now) out.new.items) }
     {
         self.put_origin(out)?;
         self.put_lists(out)
     }
 
+    #[tactic(auto, using(crate::proofs::Appended::appended))]
     fn put_origin(&self, out: &mut Vec<u8>) -> Result<(), AllocError>
-        ensures { OnOk result (out.new.items ≡ out.old.items ++ origin self.now) }
+        ensures ok { OnOk result (out.new.items ≡ out.old.items ++ origin self.now) }
+        ensures err { OnErr result (HasFront out.old.items (origin self.now) out.new.items) }
     {
         put_8(out, self.turn)?;
         put_8(out, self.stamp)?;
@@ -102,9 +125,11 @@ impl Record {
         put_8(out, self.number)
     }
 
+    #[tactic(auto, using(crate::proofs::Appended::appended))]
     fn put_lists(&self, out: &mut Vec<u8>) -> Result<(), AllocError>
-        requires { HasLists self.now }
-        ensures { OnOk result (out.new.items ≡ out.old.items ++ lists self.now) }
+        requires { HasLists One self.now }
+        ensures ok { OnOk result (out.new.items ≡ out.old.items ++ lists self.now) }
+        ensures err { OnErr result (HasFront out.old.items (lists self.now) out.new.items) }
     {
         put_few(out, self.draws.as_slice())?;
         put_few(out, self.sends.as_slice())?;
@@ -139,7 +164,7 @@ fn lists_front(alloc: Global, bytes: &[u8]) -> Result<(Lists, &[u8]), RecordFaul
 
 #[tactic(auto, unfolding(crate::specs::Reading::fields_at))]
 fn fields_front(alloc: Global, bytes: &[u8]) -> Result<(Record, &[u8]), RecordFault>
-    ensures { Gives (λ x. (x.0, x.1.now)) result (fields_at bytes.now) }
+    ensures { Gives (λ x. (x.0, x.1.now)) result (fields_at One bytes.now) }
 {
     let ((turn, (stamp, (from, number))), rest) = origin_front(bytes)?;
     let ((draws, (sends, (outs, pages))), rest) = lists_front(alloc, rest)?;
@@ -163,7 +188,7 @@ fn fields_front(alloc: Global, bytes: &[u8]) -> Result<(Record, &[u8]), RecordFa
 // The fields in so many bytes, with nothing after them there.
 #[tactic(auto, unfolding(crate::specs::Reading::within))]
 fn fields_within(alloc: Global, len: usize, bytes: &[u8]) -> Result<(Record, &[u8]), RecordFault>
-    ensures { Gives (λ x. (x.0, x.1.now)) result (within len bytes.now) }
+    ensures { Gives (λ x. (x.0, x.1.now)) result (within (fields_at One) len bytes.now) }
 {
     let (part, rest) = part_front(bytes, len)?;
     let (read, after) = fields_front(alloc, part)?;
@@ -177,7 +202,7 @@ fn fields_within(alloc: Global, len: usize, bytes: &[u8]) -> Result<(Record, &[u
 // The record at the front of bytes.
 #[tactic(auto, unfolding(crate::specs::Reading::record_at))]
 pub(crate) fn record_front(alloc: Global, bytes: &[u8]) -> Result<(Record, &[u8]), RecordFault>
-    ensures { Gives (λ x. (x.0, x.1.now)) result (record_at bytes.now) }
+    ensures { Gives (λ x. (x.0, x.1.now)) result (record_at One bytes.now) }
 {
     let (len, rest) = u32_front(bytes)?;
     let len = len as usize;

@@ -29,6 +29,12 @@ impl Field for Sent {
         self.to < MAX_NODES && self.number > 0 && self.bytes.len() <= MAX_TEXT
     }
 
+    #[tactic(auto, using(crate::proofs::Sizes::sent_long))]
+    fn len(&self) -> usize {
+        11 + self.bytes.len()
+    }
+
+    #[tactic(auto, using(crate::proofs::Appended::appended))]
     fn put(&self, out: &mut Vec<u8>) -> Result<(), AllocError> {
         put_1(out, self.to)?;
         put_8(out, self.number)?;

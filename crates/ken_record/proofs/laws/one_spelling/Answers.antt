@@ -1,5 +1,8 @@
-use Rattle.ken_record.proofs.Fronts.{one_item}
+use Rattle.ken_record.proofs.Fronts.{one_item, two_kinds}
 use Rattle.ken_record.proofs.laws.one_spelling.Goals as goal
 
-pub returns : goal.returns
-returns c = one_item
+pub returns-clause-one : goal.returns-clause-one
+returns-clause-one c = one_item
+
+pub returns-clause-apart : goal.returns-clause-apart
+returns-clause-apart c = two_kinds

@@ -3,6 +3,7 @@ use Rattle.std.proofs.lemmas.Result.{err_from_is_err_and}
 use Rattle.ken_disk.specs.declared.faults.DiskFault.{DiskFault}
 use Rattle.ken_disk.specs.declared.faults.DiskFault.TheVariants.{Failed, Memory}
 use Rattle.ken_record.specs.Spelling.{record_bytes}
+use Rattle.ken_record.specs.Versions.{One}
 use Rattle.ken_log.proofs.Sealed.{nothing_done, seal_changes, seal_goes_on, seal_settled}
 use Rattle.ken_log.proofs.log.Log.seal.Goals as goal
 
@@ -19,7 +20,7 @@ pub returns-in-Ok-clause-settled : goal.returns-in-Ok-clause-settled
 returns-in-Ok-clause-settled g c =
     let long = ap length c.in_ok-body.ensures in
     seal_settled {T = Unit {0}} g.D.Disk.told g.D.Disk.size c.args.self.now _ c.args.item.now c.deref.result.now (Ok c.in-Ok.field-0) c.requires.settled c.requires.item (c.deref.ensures.value ∙ c.in_ok-body.ensures) c.in-Ok.ensures.story c.open_gate.ensures.silent refl c.requires.settled.sound tt refl refl
-    (omega (arith, c.len.ensures, long, length-append (record_bytes c.args.item.now) (0 ∷ []))) c.in-Ok.ensures.size
+    (omega (arith, c.len.ensures, long, length-append (record_bytes One c.args.item.now) (0 ∷ []))) c.in-Ok.ensures.size
 
 pub returns-in-Err-Memory-clause-story : goal.returns-in-Err-Memory-clause-story
 returns-in-Err-Memory-clause-story g c =
