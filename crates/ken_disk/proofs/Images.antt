@@ -3,8 +3,9 @@ use Rattle.std.proofs.Common.{◌≡◌, inl, inr, ⊎_elim, ℕ, ◌+◌, ◌<�
 use Rattle.std.proofs.lemmas.List.{ext_get_or, get_or-take, get_or-drop}
 use Rattle.std.proofs.lemmas.Bool.{cases_lt}
 use Rattle.ken_disk.specs.Bytes.{overwrite, IsIn, furthest}
-use Rattle.ken_disk.specs.Story.{DiskState, IsImage, IsAtRest, Leaves}
-use Rattle.ken_disk.specs.Steps.{written, made_safe, restarted}
+use Rattle.ken_disk.specs.Story.{DiskState, Story, IsImage, IsAtRest, Leaves}
+use Rattle.ken_disk.specs.Moments.{WentOn}
+use Rattle.ken_disk.specs.Steps.{written, made_safe, restarted, WentDown}
 use Rattle.ken_disk.specs.Through.{Torn}
 use Rattle.ken_disk.proofs.Overwrites.{length-overwrite, get_or-overwrite_before, get_or-overwrite_behind}
 
@@ -19,6 +20,12 @@ rests-made_safe s = record { safe = refl; none = λ place within. within; within
 
 pub rests-restarted : (image : List ℕ) (s : DiskState) → IsAtRest (restarted image s)
 rests-restarted image s = record { safe = refl; none = λ place within. within; within = omega arith }
+
+-- the disk after a restart
+pub came_up : (old new : Story) → WentDown old new → IsImage old.now new.now.seen × IsAtRest new.now × WentOn old new
+came_up old new went =
+    subst (λ (h : Story). IsImage old.now h.now.seen × IsAtRest h.now × WentOn old h) (sym went.left)
+    (went.is, rests-restarted went.image old.now, record { steps = restarted went.image old.now ∷ []; grown = refl })
 
 -- of a disk at rest a crash leaves what a read gives
 pub image_at_rest : (s : DiskState) → IsAtRest s → (image : List ℕ) → IsImage s image → image ≡ s.seen

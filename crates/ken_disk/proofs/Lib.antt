@@ -1,5 +1,6 @@
 pub mod Overwrites
 pub mod Images
-pub mod Moments
-pub mod Wrote
-pub mod Onward
+pub mod Told
+pub mod Since
+pub mod Made
+pub mod Fates

@@ -1,5 +1,9 @@
 -- Bytes, and ranges of their places.
-use Rattle.std.specs.Prelude.{ℕ, ◌+◌, ◌<◌, ◌≤◌, ◌⊎◌, max, List, [], ◌∷◌, ◌++◌, length, take, drop}
+use Rattle.std.specs.Prelude.{ℕ, ◌+◌, ◌<◌, ◌≤◌, ◌⊎◌, max, List, [], ◌∷◌, ◌++◌, length, take, drop, get_or}
+
+-- each of these numbers is a byte
+abbrev pub IsBytes : List ℕ → Type 0
+IsBytes bytes = (place : ℕ) → get_or bytes place 0 < 256
 
 -- the old bytes with others over them from a place on
 abbrev pub overwrite : ℕ → List ℕ → List ℕ → List ℕ

@@ -1,6 +1,5 @@
 -- What a disk holds now, what a crash may leave of it, and all that it held before.
-use Rattle.std.specs.Prelude.{◌≡◌, ℕ, ◌<◌, ◌≤◌, List, [], ◌∷◌, ◌++◌, length, get_or, Option, Some}
-use Rattle.std.specs.List.{AllByRecursion}
+use Rattle.std.specs.Prelude.{◌≡◌, ℕ, ◌<◌, ◌≤◌, List, [], length, get_or, Option, Some, None}
 use Rattle.ken_disk.specs.Bytes.{IsIn, furthest}
 
 -- a disk between two calls
@@ -44,12 +43,11 @@ pub record Story : Type 0 where
 abbrev pub blank : Story
 blank = record { now = empty; past = [] }
 
--- P holds of the story, where the disk tells it
-abbrev pub Tells : Option Story → (Story → Type 0) → Type 0
-Tells told P = (h : Story) → told ≡ Some h → P h
+-- P holds of what is told, where it is told
+abbrev pub Tells : {X : Type 0} → Option X → (X → Type 0) → Type 0
+Tells {X} told P = (x : X) → told ≡ Some x → P x
 
--- a crash at any moment from old to new, during a call or between two, leaves what has P
-pub record Through (P : List ℕ → Type 0) (old new : Story) : Type 0 where
-  pub steps : List DiskState
-  pub grown : new.now ∷ new.past ≡ steps ++ old.now ∷ old.past
-  pub each : AllByRecursion (Leaves P) (steps ++ old.now ∷ [])
+-- where something was told, it is told still, and R holds of the old and the new; where nothing was told, nothing is
+abbrev pub Follows : {X : Type 0} → (X → X → Type 0) → Option X → Option X → Type 0
+Follows {X} R (Some old) told = (new : X) × (told ≡ Some new) × R old new
+Follows R None told = told ≡ None

@@ -1,9 +1,9 @@
--- A write with its sync.
-use Rattle.std.specs.Prelude.{◌≡◌, ℕ, ◌+◌, ◌≤◌, max, List, length, take, drop, Option, Some, Result, OnOk, OnErr, IsErrOf}
+-- A write with its sync, on a disk at rest.
+use Rattle.std.specs.Prelude.{◌≡◌, ℕ, ◌+◌, ◌≤◌, max, List, length, take, drop, Result, OnOk}
 use Rattle.ken_disk.specs.declared.faults.DiskFault.{DiskFault}
-use Rattle.ken_disk.specs.declared.faults.DiskFault.TheVariants.{Memory}
 use Rattle.ken_disk.specs.Bytes.{overwrite}
-use Rattle.ken_disk.specs.Story.{DiskState, Story, IsAtRest, Through}
+use Rattle.ken_disk.specs.Story.{DiskState, Story, IsAtRest}
+use Rattle.ken_disk.specs.Moments.{Through}
 
 -- a write of n bytes that a crash cuts short: any bytes in its range and past the old end, the old ones elsewhere
 pub record Torn (at n : ℕ) (old new : List ℕ) : Type 0 where
@@ -17,13 +17,7 @@ pub record IsWritten (at : ℕ) (bytes : List ℕ) (old new : DiskState) : Type 
   pub seen : new.seen ≡ overwrite at bytes old.seen
   pub rests : IsAtRest new
 
--- a write with its sync on a disk at rest
-pub record WroteThrough {T : Type 0} (at : ℕ) (bytes : List ℕ) (result : Result T DiskFault) (old : Story) (told : Option Story) : Type 0 where
-  pub new : Story
-  pub tells : told ≡ Some new
-  -- a crash at any moment leaves the old bytes, but for a torn write
+-- a crash at any moment leaves the old bytes, but for a torn write; after Ok the bytes are written and safe
+pub record WroteThrough {T : Type 0} (at : ℕ) (bytes : List ℕ) (result : Result T DiskFault) (old new : Story) : Type 0 where
   pub any_moment : Through (Torn at (length bytes) old.now.seen) old new
   pub ok : OnOk result (IsWritten at bytes old.now new.now)
-  pub memory : IsErrOf result Memory → new ≡ old
-  pub synced : OnOk result (new.now.syncs ≡ old.now.syncs + 1)
-  pub not_synced : OnErr result (new.now.syncs ≡ old.now.syncs)

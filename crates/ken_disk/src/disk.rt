@@ -3,7 +3,8 @@ ghost use Rattle.std.specs.declared.option.Option.{Option};
 ghost use Rattle.std.specs.declared.option.Option.TheVariants.{Some};
 ghost use Rattle.ken_disk.specs.declared.faults.DiskFault.TheVariants.{Memory};
 ghost use Rattle.ken_disk.specs.Causes.{HasCause};
-ghost use Rattle.ken_disk.specs.Story.{Story, Tells};
+ghost use Rattle.ken_disk.specs.Fates.{Fate, Suffers, Raised};
+ghost use Rattle.ken_disk.specs.Story.{Story, Tells, Follows};
 ghost use Rattle.ken_disk.specs.Steps.{went, after_write, after_sync, WentDown, SizeAfter};
 
 use crate::DiskFault;
@@ -21,6 +22,10 @@ pub trait Disk {
     /// How long it is, in bytes. Every disk tells this.
     ghost size: { Self → ℕ };
 
+    /// Whether it is down and how many falls it has left, where it tells this: it then fails only at its falls, and from
+    /// each of them on until a restart.
+    ghost fate: { Self → Option Fate };
+
     /// How many calls have failed. An implementation may let the count stand at 2^64 - 1.
     ghost faults: { Self → ℕ };
 
@@ -37,7 +42,8 @@ pub trait Disk {
         ensures bytes { Tells (told self.old) (λ h. OnOk result (buf.new ≡ take (length buf.old) (drop at h.now.seen))) }
         ensures story { told self.new ≡ told self.old }
         ensures size { size self.new ≡ size self.old }
-        ensures cause { HasCause (faults self.old) (faults self.new) result };
+        ensures cause { HasCause (faults self.old) (faults self.new) result }
+        ensures fate { Follows (Suffers result) (fate self.old) (fate self.new) };
 
     /// Writes `bytes` from the place `at` on, past the end too. It takes the memory that its sync will need. A write that
     /// fails counts as written, since a crash may leave its bytes. After Memory nothing is written.
@@ -47,7 +53,8 @@ pub trait Disk {
         ensures story { told self.new ≡ went (after_write at bytes.now result) (told self.old) }
         ensures size { SizeAfter at (length bytes.now) result (size self.old) (size self.new) }
         ensures ready { OnOk result (ready self.new) }
-        ensures cause { HasCause (faults self.old) (faults self.new) result };
+        ensures cause { HasCause (faults self.old) (faults self.new) result }
+        ensures fate { Follows (Suffers result) (fate self.old) (fate self.new) };
 
     /// Makes safe what a read gives. After an error nothing more is safe than before. A sync straight after a write that
     /// answered Ok wants no memory.
@@ -55,13 +62,16 @@ pub trait Disk {
         ensures story { told self.new ≡ went (after_sync result) (told self.old) }
         ensures size { size self.new ≡ size self.old }
         ensures ready { ready self.old → IsErrOf result Memory → ⊥ }
-        ensures cause { HasCause (faults self.old) (faults self.new) result };
+        ensures cause { HasCause (faults self.old) (faults self.new) result }
+        ensures fate { Follows (Suffers result) (fate self.old) (fate self.new) };
 
-    /// Crashes. The disk then holds one of its possible images, which `pick` may choose, and nothing is pending. After an
-    /// error it is as before.
+    /// Crashes. The disk then holds one of its possible images, which `pick` may choose, nothing is pending, and it is up.
+    /// After an error it is as before.
     fn restart(&mut self, pick: u64) -> Result<(), AllocError>
-        ensures story { OnOk result (WentDown (told self.old) (told self.new)) }
+        ensures story { OnOk result (Follows WentDown (told self.old) (told self.new)) }
+        ensures fate { OnOk result (Follows Raised (fate self.old) (fate self.new)) }
         ensures memory { OnErr result (told self.new ≡ told self.old) }
+        ensures no_fall { OnErr result (fate self.new ≡ fate self.old) }
         ensures size { OnErr result (size self.new ≡ size self.old) }
         ensures faults { faults self.new ≡ faults self.old };
 

@@ -3,10 +3,12 @@
 
 mod disk;
 mod faults;
+mod laws;
 #[cfg(test)]
 mod tests;
 mod writes;
 
 pub use disk::{Disk, MAX_LEN};
 pub use faults::DiskFault;
+pub use laws::{crashes, falls, moments, synced_writes};
 pub use writes::write_through;

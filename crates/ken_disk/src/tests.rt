@@ -34,6 +34,8 @@ impl Disk for Quiet {
 
     ghost size = { λ d. d.len };
 
+    ghost fate = { λ d. None };
+
     ghost faults = { λ d. d.faults };
 
     ghost ready = { λ d. Unit {0} };
@@ -91,4 +93,13 @@ fn a_write_is_synced_once_unless_the_disk_fails(rt: HostRuntime) {
         assert_eq!(rt; disk.len, len, "of {text:?}");
         assert_eq!(rt; disk.syncs, syncs, "of {text:?}");
     }
+}
+
+// The laws do nothing: what they say is their contracts.
+#[test]
+fn laws_return(_rt: HostRuntime) {
+    moments();
+    crashes();
+    falls();
+    synced_writes();
 }

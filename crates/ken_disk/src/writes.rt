@@ -1,8 +1,10 @@
-ghost use Rattle.std.specs.Prelude.{◌≡◌, ◌+◌, ◌≤◌, length, None, OnOk};
+ghost use Rattle.std.specs.Prelude.{◌+◌, ◌≤◌, ◌∷◌, [], length};
 ghost use Rattle.ken_disk.specs.Causes.{HasCause};
-ghost use Rattle.ken_disk.specs.Story.{Tells, IsAtRest};
-ghost use Rattle.ken_disk.specs.Steps.{SizeAfter, went, after_write_through};
+ghost use Rattle.ken_disk.specs.Fates.{Suffers};
+ghost use Rattle.ken_disk.specs.Story.{IsAtRest, Follows};
+ghost use Rattle.ken_disk.specs.Steps.{SizeAfter};
 ghost use Rattle.ken_disk.specs.Through.{WroteThrough};
+ghost use Rattle.ken_disk.specs.Writes.{Made};
 
 use crate::{Disk, DiskFault, MAX_LEN};
 
@@ -11,11 +13,11 @@ use crate::{Disk, DiskFault, MAX_LEN};
 pub fn write_through<D: Disk>(disk: &mut D, at: u64, bytes: &[u8]) -> Result<(), DiskFault>
     requires place { at ≤ D.size disk.old }
     requires end { at + length bytes.now ≤ MAX_LEN }
-    ensures story { Tells (D.told disk.old) (λ h. IsAtRest h.now → WroteThrough at bytes.now result h (D.told disk.new)) }
-    ensures calls { OnOk result (D.told disk.new ≡ went (after_write_through at bytes.now) (D.told disk.old)) }
-    ensures silent { D.told disk.old ≡ None → D.told disk.new ≡ None }
+    ensures calls { Follows (Made result ((at, bytes.now) ∷ [])) (D.told disk.old) (D.told disk.new) }
+    ensures story { Follows (λ h s. IsAtRest h.now → WroteThrough at bytes.now result h s) (D.told disk.old) (D.told disk.new) }
     ensures size { SizeAfter at (length bytes.now) result (D.size disk.old) (D.size disk.new) }
     ensures cause { HasCause (D.faults disk.old) (D.faults disk.new) result }
+    ensures fate { Follows (Suffers result) (D.fate disk.old) (D.fate disk.new) }
 {
     disk.write(at, bytes)?;
     disk.sync()

@@ -1,7 +1,7 @@
 -- The kept bytes and ranges stay those of the disk.
 use Rattle.std.proofs.Common.{◌≡◌, ℕ, ◌+◌, ◌^◌, ◌≤◌, List, [], ◌∷◌, ◌++◌, length, get_or, reverse, refl, sym, ap, subst, ◌∙◌, arith}
 use Rattle.std.proofs.lemmas.List.{reverse-append}
-use Rattle.ken_disk.specs.Bytes.{overwrite, IsIn, furthest}
+use Rattle.ken_disk.specs.Bytes.{IsBytes, overwrite, IsIn, furthest}
 use Rattle.ken_disk.specs.Story.{DiskState}
 use Rattle.ken_disk.specs.Steps.{written, made_safe, restarted}
 use Rattle.ken_disk.proofs.Overwrites.{length-overwrite}
@@ -65,6 +65,9 @@ module _ (seen synced : List ℕ) (ranges : List (ℕ × ℕ)) (s : DiskState) (
 
   pub kept-picked : (pick : ℕ) → image_of seen synced (reverse ranges) pick ≡ picked pick s
   kept-picked pick = rw (kept.seen_is, kept.synced_is, kept.pending_is) refl
+
+  pub bytes-picked : (pick : ℕ) (image : List ℕ) → image ≡ image_of seen synced (reverse ranges) pick → IsBytes image → IsBytes (picked pick s)
+  bytes-picked pick image is bytes = subst IsBytes (is ∙ kept-picked pick) bytes
 
 -- after a write, after a sync and after a restart, by what each left
 pub kept_by_write : (seen synced new kept_synced : List ℕ) (ranges more : List (ℕ × ℕ)) (steps more_steps : List Step) (at : ℕ) (bytes : List ℕ) (v : Vec ℕ Global) → IsKept seen synced ranges (story_of steps).now

@@ -2,3 +2,4 @@ pub mod Ranges
 pub mod Images
 pub mod Kept
 pub mod Caught
+pub mod Inserted

@@ -1,13 +1,18 @@
 -- Which calls of a disk in memory fail.
-use Rattle.std.specs.Prelude.{ℕ, ◌||◌, ◌==◌, List, Bool, true, false, Option, is_some}
+use Rattle.std.specs.Prelude.{ℕ, ◌||◌, ◌==◌, List, [], ◌∷◌, length, Bool, true, false, Option, is_some}
 use Rattle.std.specs.List.{find}
 use Rattle.std.specs.Option.{option_map, unwrap_or}
+use Rattle.std.specs.Map.{lookup, remove_entry}
+use Rattle.std.specs.BTreeMap.{is_at, insert_entry}
+use Rattle.std.specs.Ordering.{nat_cmp}
 use Rattle.ken_disk.specs.Causes.{risen}
+use Rattle.ken_disk.specs.Fates.{Fate}
 use Rattle.ken_memdisk.specs.declared.cut.Cut.{Cut}
 
--- the cuts, and the writes and syncs so far
+-- the cuts ahead, and the writes and syncs so far
 pub record CallCounts : Type 0 where
-  pub cuts : List Cut
+  -- the call and the pick of each cut that no call has met, calls rising
+  pub cuts : List (ℕ × ℕ)
   -- how many writes and syncs were made, failed ones too
   pub made : ℕ
   -- a cut was met since the last restart
@@ -17,13 +22,25 @@ pub record CallCounts : Type 0 where
   -- how many reads, writes and syncs failed
   pub faults : ℕ
 
+-- the pick of the first cut on the list that is at this call; calls are numbered from 1
+abbrev pub first_pick : List Cut → ℕ → Option ℕ
+first_pick cuts call = option_map (λ cut. cut.pick) (find (λ cut. cut.call == call) cuts)
+
+-- the cuts of a list by their calls, of several at one call the first
+abbrev pub by_call : List Cut → List (ℕ × ℕ)
+by_call [] = []
+by_call (cut ∷ cuts) = insert_entry nat_cmp (by_call cuts) cut.call cut.pick
+
 -- before the first call
 abbrev pub no_calls : List Cut → CallCounts
-no_calls cuts = record { cuts = cuts; made = 0; down = false; hint = 0; faults = 0 }
+no_calls cuts = record { cuts = by_call cuts; made = 0; down = false; hint = 0; faults = 0 }
 
--- the pick of the first cut on the list that is at this call; calls are numbered from 1
-abbrev pub pick_at : List Cut → ℕ → Option ℕ
-pick_at cuts call = option_map (λ cut. cut.pick) (find (λ cut. cut.call == call) cuts)
+-- the pick of the cut at this call, and the other cuts
+abbrev pub pick_at : List (ℕ × ℕ) → ℕ → Option ℕ
+pick_at cuts call = lookup (is_at (nat_cmp call)) cuts
+
+abbrev pub without : List (ℕ × ℕ) → ℕ → List (ℕ × ℕ)
+without cuts call = remove_entry (is_at (nat_cmp call)) cuts
 
 -- whether the next write or sync fails: it is at a cut, or comes after one with no restart between
 abbrev pub fails_next : CallCounts → Bool
@@ -36,6 +53,7 @@ after_call c = record c { made = risen c.made }
 -- one failed
 abbrev pub after_cut : CallCounts → CallCounts
 after_cut c = record c {
+  cuts = without c.cuts (risen c.made);
   made = risen c.made;
   down = true;
   hint = unwrap_or (pick_at c.cuts (risen c.made)) c.hint;
@@ -49,3 +67,7 @@ after_failed_read c = record c { faults = risen c.faults }
 -- a restart
 abbrev pub after_restart : CallCounts → CallCounts
 after_restart c = record c { down = false }
+
+-- its falls are the cuts ahead
+abbrev pub fate_of : CallCounts → Fate
+fate_of c = record { down = c.down; falls = length c.cuts }

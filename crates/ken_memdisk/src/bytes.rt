@@ -1,7 +1,9 @@
 // Bytes written over others.
-ghost use Rattle.std.specs.Prelude.{◌≡◌, ◌+◌, ◌≤◌, length, take, drop, vec_len, vec_capacity};
-ghost use Rattle.ken_disk.specs.Bytes.{overwrite};
+ghost use Rattle.std.specs.Prelude.{◌≡◌, ◌+◌, ◌≤◌, length, take, drop, vec_len, vec_capacity, IfOk};
+ghost use Rattle.ken_disk.specs.Bytes.{IsBytes, overwrite};
 ghost use Rattle.ken_memdisk.specs.Platters.{Differ};
+
+use std::alloc::{AllocError, Global};
 
 // Writes `bytes` from the place `at` on, past the end too. There is room for them.
 pub(crate) fn lay_over(old: &mut Vec<u8>, at: usize, bytes: &[u8])
@@ -12,6 +14,14 @@ pub(crate) fn lay_over(old: &mut Vec<u8>, at: usize, bytes: &[u8])
     let over = bytes.len().min(old.len() - at);
     old[at..at + over].copy_from_slice(&bytes[..over]);
     old.extend_from_slice(&bytes[over..]).unwrap();
+}
+
+// A copy of bytes.
+pub(crate) fn copied(alloc: Global, bytes: &[u8]) -> Result<Vec<u8>, AllocError>
+    ensures same { IfOk result (λ copy. copy.items ≡ bytes.now) }
+    ensures bytes { IsBytes bytes.now }
+{
+    bytes.to_vec(alloc)
 }
 
 // Copies a range of `from` into the same place of `to`.

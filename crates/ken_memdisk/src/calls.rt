@@ -1,17 +1,20 @@
 // The calls of a disk, and its cuts.
-ghost use Rattle.std.specs.Prelude.{◌≡◌, true, false, OnOk, OnErr, IsErrOf, IfOk};
+ghost use Rattle.std.specs.Prelude.{◌≡◌, ◌≤◌, ℕ, length, true, false, OnOk, OnErr, IsErrOf, IfOk};
 ghost use Rattle.ken_disk.specs.Causes.{HasCause};
-ghost use Rattle.ken_memdisk.specs.Calls.{no_calls, fails_next, after_call, after_cut, after_failed_read, after_restart};
+ghost use Rattle.ken_disk.specs.Fates.{Suffers};
+ghost use Rattle.ken_memdisk.specs.Calls.{no_calls, first_pick, pick_at, fails_next, after_call, after_cut, after_failed_read, after_restart, fate_of};
 
 use crate::cut::Cut;
-use crate::cuts::Cuts;
+use crate::cuts::by_call;
 use ken_disk::DiskFault;
 use std::alloc::{AllocError, Global};
+use std::collections::BTreeMap;
 use std::marker::Model;
 
 #[derive(Debug, Drop)]
 pub(crate) struct Calls {
-    cuts: Cuts,
+    // The picks of the cuts ahead, by their calls.
+    cuts: BTreeMap<u64, u64>,
     made: u64,
     down: bool,
     hint: u64,
@@ -23,15 +26,17 @@ impl Model for Calls {
 
     ghost Value = { CallCounts };
 
-    ghost view = { λ c. record { cuts = c.cuts; made = c.made; down = c.down; hint = c.hint; faults = c.faults } };
+    ghost view = { λ c. record { cuts = c.cuts.entries; made = c.made; down = c.down; hint = c.hint; faults = c.faults } };
 }
 
 impl Calls {
     pub(crate) fn new(alloc: Global, cuts: &[Cut]) -> Result<Self, AllocError>
-        ensures { IfOk result (λ c. c ≡ no_calls cuts.now) }
+        ensures none { IfOk result (λ c. c ≡ no_calls cuts.now) }
+        ensures first { IfOk result (λ c. (call : ℕ) → pick_at c.cuts call ≡ first_pick cuts.now call) }
+        ensures few { IfOk result (λ c. length c.cuts ≤ length cuts.now) }
     {
         Ok(Calls {
-            cuts: Cuts::new(alloc, cuts)?,
+            cuts: by_call(alloc, cuts)?,
             made: 0,
             down: false,
             hint: 0,
@@ -52,9 +57,10 @@ impl Calls {
         ensures err { OnErr result ((fails_next self.old ≡ true) × (self.new ≡ after_cut self.old)) }
         ensures no_memory { IsErrOf result DiskFault.Memory → ⊥ }
         ensures cause { HasCause self.old.faults self.new.faults result }
+        ensures fate { Suffers result (fate_of self.old) (fate_of self.new) }
     {
         self.made = self.made.saturating_add(1);
-        if let Some(pick) = self.cuts.pick_at(self.made) {
+        if let Some(pick) = self.cuts.remove(&self.made) {
             self.down = true;
             self.hint = pick;
         }
@@ -67,6 +73,7 @@ impl Calls {
         ensures err { OnErr result ((self.old.down ≡ true) × (self.new ≡ after_failed_read self.old)) }
         ensures no_memory { IsErrOf result DiskFault.Memory → ⊥ }
         ensures cause { HasCause self.old.faults self.new.faults result }
+        ensures fate { Suffers result (fate_of self.old) (fate_of self.new) }
     {
         if self.down {
             self.faults = self.faults.saturating_add(1);

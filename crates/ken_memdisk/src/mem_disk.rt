@@ -23,14 +23,17 @@ impl Model for MemDisk {
 }
 
 impl MemDisk {
-    ghost use Rattle.std.specs.Prelude.{◌≡◌, IfOk};
+    ghost use Rattle.std.specs.Prelude.{◌≡◌, ◌≤◌, ℕ, length, IfOk};
     ghost use Rattle.ken_disk.specs.Story.{blank};
-    ghost use Rattle.ken_memdisk.specs.Calls.{no_calls};
+    ghost use Rattle.ken_memdisk.specs.Calls.{no_calls, first_pick, pick_at, fate_of};
 
-    /// A disk with no bytes, no faults and no calls. Of two cuts at one call the first counts. An error wants memory.
+    /// A disk with no bytes, no faults and no calls, and a fall for each call at which a cut stands. Of two cuts at one call
+    /// the first counts. An error wants memory.
     pub fn new(alloc: Global, cuts: &[Cut]) -> Result<Self, AllocError>
         ensures story { IfOk result (λ d. d.held.story ≡ blank) }
         ensures calls { IfOk result (λ d. d.calls ≡ no_calls cuts.now) }
+        ensures first { IfOk result (λ d. (call : ℕ) → pick_at d.calls.cuts call ≡ first_pick cuts.now call) }
+        ensures falls { IfOk result (λ d. (fate_of d.calls).falls ≤ length cuts.now) }
     {
         Ok(MemDisk {
             platter: Platter::new(alloc),
@@ -45,13 +48,17 @@ impl Disk for MemDisk {
     ghost use Rattle.std.specs.Option.{unwrap_or};
     ghost use Rattle.ken_disk.specs.declared.faults.DiskFault.TheVariants.{Failed, Memory};
     ghost use Rattle.ken_disk.specs.Causes.{HasCause};
+    ghost use Rattle.ken_disk.specs.Fates.{Suffers, Raised};
+    ghost use Rattle.ken_disk.specs.Story.{Follows};
     ghost use Rattle.ken_disk.specs.Steps.{went, after_write, after_sync, WentDown, SizeAfter};
-    ghost use Rattle.ken_memdisk.specs.Calls.{fails_next, after_call, after_cut, after_failed_read, after_restart};
+    ghost use Rattle.ken_memdisk.specs.Calls.{fails_next, after_call, after_cut, after_failed_read, after_restart, fate_of};
     ghost use Rattle.ken_memdisk.specs.Platters.{restart_at};
 
     ghost told = { λ d. Some d.held.story };
 
     ghost size = { λ d. length d.held.story.now.seen };
+
+    ghost fate = { λ d. Some (fate_of d.calls) };
 
     ghost faults = { λ d. d.calls.faults };
 
@@ -68,6 +75,7 @@ impl Disk for MemDisk {
         ensures bytes { OnOk result (buf.new ≡ take (length buf.old) (drop at self.old.held.story.now.seen)) }
         ensures held { self.new.held ≡ self.old.held }
         ensures cause { HasCause self.old.calls.faults self.new.calls.faults result }
+        ensures fate { Follows (Suffers result) (Some (fate_of self.old.calls)) (Some (fate_of self.new.calls)) }
 
         // It fails just where the disk is down, and then gives nothing.
         ensures ok { OnOk result ((self.old.calls.down ≡ false) × (self.new.calls ≡ self.old.calls)) }
@@ -87,6 +95,7 @@ impl Disk for MemDisk {
         ensures size { SizeAfter at (length bytes.now) result (length self.old.held.story.now.seen) (length self.new.held.story.now.seen) }
         ensures ready { OnOk result (self.new.held.ready ≡ true) }
         ensures cause { HasCause self.old.calls.faults self.new.calls.faults result }
+        ensures fate { Follows (Suffers result) (Some (fate_of self.old.calls)) (Some (fate_of self.new.calls)) }
 
         // It fails just at a cut, and from there until a restart. One that answers Memory is no call.
         ensures ok { OnOk result ((fails_next self.old.calls ≡ false) × (self.new.calls ≡ after_call self.old.calls)) }
@@ -102,6 +111,7 @@ impl Disk for MemDisk {
         ensures size { length self.new.held.story.now.seen ≡ length self.old.held.story.now.seen }
         ensures ready { self.old.held.ready ≡ true → IsErrOf result Memory → ⊥ }
         ensures cause { HasCause self.old.calls.faults self.new.calls.faults result }
+        ensures fate { Follows (Suffers result) (Some (fate_of self.old.calls)) (Some (fate_of self.new.calls)) }
 
         // It fails as a write does.
         ensures ok { OnOk result ((fails_next self.old.calls ≡ false) × (self.new.calls ≡ after_call self.old.calls)) }
@@ -115,8 +125,10 @@ impl Disk for MemDisk {
     }
 
     fn restart(&mut self, pick: u64) -> Result<(), AllocError>
-        ensures story { OnOk result (WentDown (Some self.old.held.story) (Some self.new.held.story)) }
+        ensures story { OnOk result (Follows WentDown (Some self.old.held.story) (Some self.new.held.story)) }
+        ensures fate { OnOk result (Follows Raised (Some (fate_of self.old.calls)) (Some (fate_of self.new.calls))) }
         ensures memory { OnErr result (Some self.new.held.story ≡ Some self.old.held.story) }
+        ensures no_fall { OnErr result (Some (fate_of self.new.calls) ≡ Some (fate_of self.old.calls)) }
         ensures size { OnErr result (length self.new.held.story.now.seen ≡ length self.old.held.story.now.seen) }
         ensures faults { self.new.calls.faults ≡ self.old.calls.faults }
 

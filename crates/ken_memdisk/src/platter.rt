@@ -1,5 +1,6 @@
 // The bytes of a disk in memory, with all that was done to them.
 ghost use Rattle.std.specs.Prelude.{◌≡◌, ◌+◌, ◌<◌, ◌≤◌, vec_capacity, length, take, drop, true, false, OnOk, OnErr};
+ghost use Rattle.ken_disk.specs.Bytes.{IsBytes};
 ghost use Rattle.ken_disk.specs.Story.{IsImage, blank};
 ghost use Rattle.ken_disk.specs.Steps.{written, made_safe, goes_to};
 ghost use Rattle.ken_memdisk.specs.Picks.{picked};
@@ -115,11 +116,12 @@ impl Platter {
     pub(crate) fn restart(&mut self, pick: u64) -> Result<(), AllocError>
         ensures ok { OnOk result (self.new.story ≡ restart_at pick self.old.story) }
         ensures image { OnOk result (IsImage self.old.story.now (picked pick self.old.story.now)) }
+        ensures bytes { OnOk result (IsBytes (picked pick self.old.story.now)) }
         ensures err { OnErr result (self.new.story ≡ self.old.story) }
     {
         self.steps.reserve(1)?;
         let image = picks::image(self.alloc, pick, &self.seen, &self.synced, &self.ranges)?;
-        let copy = image.to_vec(self.alloc)?;
+        let copy = bytes::copied(self.alloc, &image)?;
         self.seen = image;
         self.synced = copy;
         self.ranges = Vec::new(self.alloc);
