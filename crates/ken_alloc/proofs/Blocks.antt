@@ -8,13 +8,14 @@ use Rattle.ken_model.specs.declared.values.Block.{Block}
 use Rattle.ken_model.specs.Heap.{rounded, end_of, block_at, place_past, first_gap_from}
 use Rattle.ken_alloc.specs.declared.walk.Gap.{Gap}
 use Rattle.ken_alloc.specs.declared.walk.Found.{Found}
-use Rattle.ken_alloc.specs.Layout.{part, HasHead, IsLaid, AreCells}
+use Rattle.ken_model.specs.Layout.{part, HasHead, IsLaid, AreCells}
 use Rattle.ken_alloc.specs.Objects.{rewritten}
 use Rattle.ken_alloc.specs.Kept.{KeepsOutside}
 use Rattle.ken_alloc.specs.Walk.{start_of, first_of, fit_from, hole_from}
 use Rattle.ken_alloc.proofs.Kept.{KeepsOutside-written, part-written_within}
-use Rattle.ken_alloc.proofs.Heads.{HasHead-below}
-use Rattle.ken_alloc.proofs.Cells.{lt_cases, at_true, at_false, is_true, is_false, AreCells-le, AreCells-above, IsGap-below, IsLaid-below}
+use Rattle.ken_model.proofs.Choices.{lt_cases, at_true, at_false, is_true, is_false}
+use Rattle.ken_model.proofs.Walked.{AreCells-le}
+use Rattle.ken_alloc.proofs.Cells.{HasHead-below, AreCells-above, IsGap-below, IsLaid-below}
 
 -- a block that stands among cells, and the cells after it
 pub record StandsAt (xs : List ℕ) (size from place : ℕ) (bs : List Block) : Type 0 where
@@ -33,7 +34,7 @@ block_step place b bs = elim (eqb_tells b.place place) [
 ]
 
 -- no block that ended before is past a place
-past_step : (place : ℕ) (b : Block) (bs : List Block) → b.place ≤ place → place_past place (b ∷ bs) ≡ place_past place bs
+pub past_step : (place : ℕ) (b : Block) (bs : List Block) → b.place ≤ place → place_past place (b ∷ bs) ≡ place_past place bs
 past_step place b bs le = elim (lt_cases place b.place) [
   | inl t ↦ absurd (omega (arith, t.1))
   | inr f ↦ is_false (ltb place b.place) _ _ f.0

@@ -1,46 +1,28 @@
 -- Cells one after the other, where some bytes change.
-use Rattle.std.proofs.Common.{◌≡◌, ℕ, suc, ◌+◌, ◌-◌, ◌%◌, ◌<◌, ◌≤◌, Bool, true, false, cond, ltb, eqb, List, [], ◌∷◌, length, Some, None, ◌⊎◌, inl, inr, sym, ap, ◌∙◌, subst, arith}
-use Rattle.std.proofs.lemmas.Bool.Decides.{leb_tells, eqb_tells}
+use Rattle.std.proofs.Common.{◌≡◌, ℕ, ◌+◌, ◌-◌, ◌%◌, ◌<◌, ◌≤◌, true, false, ltb, eqb, List, [], ◌∷◌, length, Some, None, ◌⊎◌, inl, inr, sym, ap, ◌∙◌, subst, arith}
+use Rattle.std.proofs.lemmas.Bool.Decides.{eqb_tells}
 use Rattle.ken_model.specs.declared.values.Block.{Block}
 use Rattle.ken_model.specs.Heap.{rounded, end_of, with_block, without_block}
 use Rattle.ken_alloc.specs.declared.walk.Gap.{Gap}
-use Rattle.ken_alloc.specs.Layout.{HasHead, IsGap, IsLaid, AreCells}
+use Rattle.ken_model.specs.Layout.{HasHead, IsGap, IsLaid, AreCells}
 use Rattle.ken_alloc.specs.Kept.{KeepsOutside}
 use Rattle.ken_alloc.specs.Walk.{start_of, fit_from, hole_from}
-use Rattle.ken_alloc.proofs.Heads.{HasHead-below, HasHead-above}
+use Rattle.ken_model.proofs.Choices.{lt_cases, at_true, at_false, is_true, is_false}
+use Rattle.ken_model.proofs.Walked.{AreCells-le, IsGap-none}
 
-pub lt_cases : (a b : ℕ) → ((ltb a b ≡ true) × (a < b)) ⊎ ((ltb a b ≡ false) × (b ≤ a))
-lt_cases a b = elim (leb_tells (suc a) b) [
-  | inl t ↦ inl (t.0, omega (arith, t.1))
-  | inr f ↦ inr (f.0, omega (arith, f.1))
-]
+-- a head that is not written over
+pub HasHead-below : (lo hi at span len : ℕ) (xs ys : List ℕ) → KeepsOutside lo hi xs ys → at + 16 ≤ lo → HasHead xs at span len → HasHead ys at span len
+HasHead-below lo hi at span len xs ys kept le head = kept.below at 16 le ∙ head
 
--- the chosen one of two
-pub at_true : {X : Type 0} (P : X → Type 0) (t : Bool) (x y : X) → t ≡ true → P x → P (cond t x y)
-at_true P t x y e p = subst (λ (s : Bool). P (cond s x y)) (sym e) p
-
-pub at_false : {X : Type 0} (P : X → Type 0) (t : Bool) (x y : X) → t ≡ false → P y → P (cond t x y)
-at_false P t x y e p = subst (λ (s : Bool). P (cond s x y)) (sym e) p
-
-pub is_true : {X : Type 0} (t : Bool) (x y : X) → t ≡ true → cond t x y ≡ x
-is_true t x y e = ap (λ (s : Bool). cond s x y) e
-
-pub is_false : {X : Type 0} (t : Bool) (x y : X) → t ≡ false → cond t x y ≡ y
-is_false t x y e = ap (λ (s : Bool). cond s x y) e
-
--- cells end where they began, or later
-pub AreCells-le : (xs : List ℕ) (from to : ℕ) (bs : List Block) → AreCells xs from to bs → from ≤ to
-AreCells-le xs from to [] cells = cells.0
-AreCells-le xs from to (b ∷ bs) cells =
-    let rest : end_of b ≤ to = AreCells-le xs (end_of b) to bs cells.3 in
-    omega (arith, cells.0)
+pub HasHead-above : (lo hi at span len : ℕ) (xs ys : List ℕ) → KeepsOutside lo hi xs ys → hi ≤ at → HasHead xs at span len → HasHead ys at span len
+HasHead-above lo hi at span len xs ys kept le head = kept.above at 16 le ∙ head
 
 module _ (lo hi : ℕ) (xs ys : List ℕ) (kept : KeepsOutside lo hi xs ys) where
   pub IsGap-below : (from to : ℕ) → from + 16 ≤ lo → IsGap xs from to → IsGap ys from to
-  IsGap-below from to le gap = (gap.0, λ some. HasHead-below lo hi from (to - from) 0 xs ys kept le (gap.1 some))
+  IsGap-below from to le gap = (gap.0, gap.1, λ some. HasHead-below lo hi from (to - from) 0 xs ys kept le (gap.2 some))
 
   pub IsGap-above : (from to : ℕ) → hi ≤ from → IsGap xs from to → IsGap ys from to
-  IsGap-above from to le gap = (gap.0, λ some. HasHead-above lo hi from (to - from) 0 xs ys kept le (gap.1 some))
+  IsGap-above from to le gap = (gap.0, gap.1, λ some. HasHead-above lo hi from (to - from) 0 xs ys kept le (gap.2 some))
 
   pub IsLaid-below : (b : Block) → 16 ≤ b.place → end_of b ≤ lo → IsLaid xs b → IsLaid ys b
   IsLaid-below b place le laid =
@@ -85,7 +67,7 @@ pub record IsRoom (size room from : ℕ) (gap : Gap) : Type 0 where
   pub fits : gap.from + room ≤ gap.to
   pub within : gap.to ≤ size
 
-end_even : (b : Block) → b.place % 16 ≡ 0 → end_of b % 16 ≡ 0
+pub end_even : (b : Block) → b.place % 16 ≡ 0 → end_of b % 16 ≡ 0
 end_even b even = omega arith
 
 pub IsRoom-fit : (xs : List ℕ) (size n : ℕ) (gap : Gap) → size % 16 ≡ 0 → (from : ℕ) (bs : List Block) → from % 16 ≡ 0 → AreCells xs from size bs → fit_from from size bs n ≡ Some gap → IsRoom size (16 + rounded n) from gap
@@ -107,7 +89,7 @@ module _ (xs ys : List ℕ) (size n : ℕ) (gap : Gap) (new : Block) (kept : Kee
   AreCells-with_block from [] even cells h =
       let e = fit_end size n from gap h in
       let start : new.place - 16 ≡ from = omega (arith, e.1) in
-      (omega (arith, e.1), (omega (arith, e.1), λ (some : from < new.place - 16). absurd (omega arith)), laid, subst (λ (k : ℕ). IsGap ys (end_of new) k) e.2 gap_after)
+      (omega (arith, e.1), IsGap-none ys from (new.place - 16) (omega arith), laid, subst (λ (k : ℕ). IsGap ys (end_of new) k) e.2 gap_after)
   AreCells-with_block from (b ∷ bs) even cells h = elim (fit_step size n from gap b bs h) [
     | inl on ↦
         let room : IsRoom size (16 + rounded n) (end_of b) gap = IsRoom-fit xs size n gap whole (end_of b) bs (end_even b cells.2.1) cells.3 on.1 in
@@ -124,7 +106,7 @@ module _ (xs ys : List ℕ) (size n : ℕ) (gap : Gap) (new : Block) (kept : Kee
           | inl t ↦
               at_true (λ (l : List Block). AreCells ys from size l) (ltb new.place b.place) (new ∷ b ∷ bs) (b ∷ with_block new bs) t.0 (
                 omega (arith, here.1),
-                (omega (arith, here.1), λ (some : from < new.place - 16). absurd (omega (arith, here.1))),
+                IsGap-none ys from (new.place - 16) (omega (arith, here.1)),
                 laid,
                 (
                   omega (arith, here.2, here.0),
@@ -176,42 +158,46 @@ start_le xs from size (b ∷ bs) cells =
     let le : end_of b ≤ size = AreCells-le xs (end_of b) size bs cells.3 in
     (cells.1.0, omega arith)
 
-pub IsRoom-hole : (xs : List ℕ) (size place : ℕ) (gap : Gap) (from : ℕ) (bs : List Block) → AreCells xs from size bs → hole_from from size place bs ≡ Some gap → (from ≤ gap.from) × (gap.from + 32 ≤ gap.to) × (gap.to ≤ size)
-IsRoom-hole xs size place gap from [] cells h = absurd cc
-IsRoom-hole xs size place gap from (b ∷ bs) cells h = elim (hole_step size place from gap b bs h) [
+start_even : (xs : List ℕ) (from size : ℕ) (bs : List Block) → size % 16 ≡ 0 → AreCells xs from size bs → start_of size bs % 16 ≡ 0
+start_even xs from size [] whole cells = whole
+start_even xs from size (b ∷ bs) whole cells = omega (arith, cells.0, cells.2.1)
+
+pub IsRoom-hole : (xs : List ℕ) (size place : ℕ) (gap : Gap) → size % 16 ≡ 0 → (from : ℕ) (bs : List Block) → from % 16 ≡ 0 → AreCells xs from size bs → hole_from from size place bs ≡ Some gap → IsRoom size 32 from gap
+IsRoom-hole xs size place gap whole from [] even cells h = absurd cc
+IsRoom-hole xs size place gap whole from (b ∷ bs) even cells h = elim (hole_step size place from gap b bs h) [
   | inl here ↦
       let le = start_le xs (end_of b) size bs cells.3 in
-      (omega (arith, here.2), omega (arith, here.2, here.3, le.0, cells.0, cells.2.0), omega (arith, here.3, le.1))
+      record { past = omega (arith, here.2); even = ap (λ (k : ℕ). k % 16) here.2 ∙ even; even_to = ap (λ (k : ℕ). k % 16) here.3 ∙ start_even xs (end_of b) size bs whole cells.3; fits = omega (arith, here.2, here.3, le.0, cells.0, cells.2.0); within = omega (arith, here.3, le.1) }
   | inr on ↦
-      let rest = IsRoom-hole xs size place gap (end_of b) bs cells.3 on.1 in
-      (omega (arith, rest.0, cells.0), rest.1, rest.2)
+      let rest : IsRoom size 32 (end_of b) gap = IsRoom-hole xs size place gap whole (end_of b) bs (end_even b cells.2.1) cells.3 on.1 in
+      record { past = omega (arith, rest.past, cells.0); even = rest.even; even_to = rest.even_to; fits = rest.fits; within = rest.within }
 ]
 
 -- a block less: one gap is left
-module _ (xs ys : List ℕ) (size place : ℕ) (gap : Gap) (kept : KeepsOutside gap.from (gap.from + 16) xs ys) (head : HasHead ys gap.from (gap.to - gap.from) 0) where
+module _ (xs ys : List ℕ) (size place : ℕ) (gap : Gap) (kept : KeepsOutside gap.from (gap.from + 16) xs ys) (head : HasHead ys gap.from (gap.to - gap.from) 0) (even : (gap.to - gap.from) % 16 ≡ 0) (whole : size % 16 ≡ 0) where
   merged : (from : ℕ) (b : Block) (bs : List Block) → from + 16 ≤ b.place → IsLaid xs b → AreCells xs (end_of b) size bs → gap.from ≡ from → gap.to ≡ start_of size bs → AreCells ys from size bs
   merged from b [] le laid cells is to =
       let e = AreCells-le xs (end_of b) size [] cells in
-      (omega arith, λ (some : from < size). subst (λ (k : ℕ). HasHead ys from (k - from) 0) to (subst (λ (k : ℕ). HasHead ys k (gap.to - k) 0) is head))
+      (omega arith, omega (arith, is, to), λ (some : from < size). subst (λ (k : ℕ). HasHead ys from (k - from) 0) to (subst (λ (k : ℕ). HasHead ys k (gap.to - k) 0) is head))
   merged from b (c ∷ cs) le laid cells is to = (
     omega (arith, cells.0),
-    (omega (arith, cells.0), λ (some : from < c.place - 16). subst (λ (k : ℕ). HasHead ys from (k - from) 0) to (subst (λ (k : ℕ). HasHead ys k (gap.to - k) 0) is head)),
+    (omega (arith, cells.0), omega (arith, is, to), λ (some : from < c.place - 16). subst (λ (k : ℕ). HasHead ys from (k - from) 0) to (subst (λ (k : ℕ). HasHead ys k (gap.to - k) 0) is head)),
     IsLaid-above gap.from (gap.from + 16) xs ys kept c (omega (arith, cells.0, laid.0)) cells.2,
     AreCells-above gap.from (gap.from + 16) xs ys kept (end_of c) size cs (omega (arith, cells.0)) cells.3,
   )
 
-  pub AreCells-without_block : (from : ℕ) (bs : List Block) → AreCells xs from size bs → hole_from from size place bs ≡ Some gap → AreCells ys from size (without_block place bs)
-  AreCells-without_block from [] cells h = absurd cc
-  AreCells-without_block from (b ∷ bs) cells h = elim (hole_step size place from gap b bs h) [
+  pub AreCells-without_block : (from : ℕ) (bs : List Block) → from % 16 ≡ 0 → AreCells xs from size bs → hole_from from size place bs ≡ Some gap → AreCells ys from size (without_block place bs)
+  AreCells-without_block from [] even_from cells h = absurd cc
+  AreCells-without_block from (b ∷ bs) even_from cells h = elim (hole_step size place from gap b bs h) [
     | inl here ↦
         at_true (λ (l : List Block). AreCells ys from size l) (eqb b.place place) bs (b ∷ without_block place bs) here.0
         (merged from b bs cells.0 cells.2 cells.3 here.2 here.3)
     | inr on ↦
-        let rest = IsRoom-hole xs size place gap (end_of b) bs cells.3 on.1 in
+        let rest : IsRoom size 32 (end_of b) gap = IsRoom-hole xs size place gap whole (end_of b) bs (end_even b cells.2.1) cells.3 on.1 in
         at_false (λ (l : List Block). AreCells ys from size l) (eqb b.place place) bs (b ∷ without_block place bs) on.0 (
           cells.0,
-          IsGap-below gap.from (gap.from + 16) xs ys kept from (b.place - 16) (omega (arith, cells.0, rest.0)) cells.1,
-          IsLaid-below gap.from (gap.from + 16) xs ys kept b (omega (arith, cells.0)) rest.0 cells.2,
-          AreCells-without_block (end_of b) bs cells.3 on.1,
+          IsGap-below gap.from (gap.from + 16) xs ys kept from (b.place - 16) (omega (arith, cells.0, rest.past)) cells.1,
+          IsLaid-below gap.from (gap.from + 16) xs ys kept b (omega (arith, cells.0)) rest.past cells.2,
+          AreCells-without_block (end_of b) bs (end_even b cells.2.1) cells.3 on.1,
         )
   ]

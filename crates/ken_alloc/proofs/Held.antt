@@ -1,8 +1,8 @@
 -- What stands in the pages of a heap, and what stands there after a change.
-use Rattle.std.proofs.Common.{◌≡◌, ℕ, ◌+◌, ◌-◌, ◌*◌, ◌/◌, ◌%◌, ◌^◌, ◌<◌, ◌≤◌, List, length, take, drop, replicate, Option, Some, None, Result, Ok, Err, IsSome, IsSomeAnd, IfSome, is_some, IfOk, OnOk, OnErr, refl, sym, ap, ◌∙◌, subst, arith}
+use Rattle.std.proofs.Common.{◌≡◌, ℕ, ◌+◌, ◌-◌, ◌/◌, ◌%◌, ◌^◌, ◌<◌, ◌≤◌, List, length, drop, replicate, Option, Some, None, Result, Ok, Err, IsSome, IsSomeAnd, IfSome, is_some, IfOk, OnOk, OnErr, refl, sym, ap, ◌∙◌, subst, arith}
 use Rattle.std.specs.Prelude.{option_map}
 use Rattle.std.specs.declared.alloc.AllocError.{AllocError}
-use Rattle.std.proofs.lemmas.List.{take-take, drop-take, drop-drop, length-replicate}
+use Rattle.std.proofs.lemmas.List.{length-replicate}
 use Rattle.byteorder.specs.Endian.{big_number, big_bytes}
 use Rattle.byteorder.specs.Numbers.{length-bytes_high_first}
 use Rattle.ken_frame.specs.Written.{written}
@@ -12,16 +12,20 @@ use Rattle.ken_model.specs.declared.values.Value.{Value}
 use Rattle.ken_model.specs.Heap.{rounded, end_of, block_at, place_past, with_block, without_block, first_gap_from}
 use Rattle.ken_alloc.specs.declared.walk.Found.{Found}
 use Rattle.ken_alloc.specs.declared.walk.Gap.{Gap}
-use Rattle.ken_alloc.specs.Layout.{part, HasHead, IsGap, IsLaid, AreCells, StandsFor}
-use Rattle.ken_alloc.specs.Blocks.{value_of}
+use Rattle.ken_model.specs.Layout.{part, head_bytes, HasHead, IsGap, IsLaid, AreCells, StandsFor}
+use Rattle.ken_alloc.specs.Changes.{room_start, room_end, with_zeros_at, after_free}
+use Rattle.ken_model.specs.Reading.{value_of}
 use Rattle.ken_alloc.specs.Objects.{Heap, heap_of, IsHeld, IsBlock, rewritten}
 use Rattle.ken_alloc.specs.Kept.{KeepsOutside}
-use Rattle.ken_alloc.specs.Walk.{IsWalk, IsSize, first_of, fit_from, hole_from}
-use Rattle.ken_alloc.proofs.Kept.{KeepsOutside-after, part_after}
-use Rattle.ken_alloc.proofs.Heads.{IsRead, IsRead-from_head}
-use Rattle.ken_alloc.proofs.Cells.{AreCells-le, AreCells-above, AreCells-with_block, AreCells-inside, AreCells-without_block, IsRoom, IsRoom-fit, IsRoom-hole}
+use Rattle.ken_alloc.specs.Walk.{IsWalk, first_of, fit_from, hole_from}
+use Rattle.ken_alloc.proofs.Kept.{KeepsOutside-same, KeepsOutside-wider, KeepsOutside-after, part_after}
+use Rattle.ken_model.proofs.Heads.{IsRead, IsRead-from_head}
+use Rattle.ken_model.proofs.Walked.{AreCells-le}
+use Rattle.ken_alloc.proofs.Cells.{AreCells-above, AreCells-with_block, AreCells-inside, AreCells-without_block, IsRoom, IsRoom-fit, IsRoom-hole}
 use Rattle.ken_alloc.proofs.Blocks.{StandsAt, stands_at, next_place, AreCells-rewritten, place_of_fit, is_some-hole}
-use Rattle.ken_alloc.proofs.Unique.{IsSized, IsSized-from_stands, StandsFor-value}
+use Rattle.ken_alloc.proofs.Carved.{KeepsOutside-carved, HasHead-carved, zeros-carved, IsGap-carved}
+use Rattle.ken_alloc.proofs.Rooms.{room_end-fit, room-hole}
+use Rattle.ken_model.proofs.Unique.{IsSized, IsSized-from_stands, StandsFor-value}
 use Rattle.ken_alloc.proofs.Walks.{walk_all}
 
 pub stands_seen : (p : Paged) (h : Heap) → IsHeld p → heap_of p ≡ h → StandsFor p.bytes h.value
@@ -80,12 +84,6 @@ part_seen xs v place at n stands some =
     let fits : at + n ≤ length seen.bytes = at_found (block_at place v.blocks) (λ bytes. at + n ≤ length bytes) seen.bytes seen.found some in
     record { seen = seen; fits = fits; within = omega (arith, seen.ends) }
 
-pub part_of_part : (xs : List ℕ) (place len at n : ℕ) → at + n ≤ len → take n (drop (place + at) xs) ≡ take n (drop at (part place len xs))
-part_of_part xs place len at n fits =
-    let rest : ℕ = len - at in
-    let is : len ≡ at + rest = omega arith in
-    sym (ap (λ (k : ℕ). take n (drop at (take k (drop place xs)))) is ∙ ap (take n) (drop-take at rest (drop place xs)) ∙ take-take n rest (drop at (drop place xs)) (omega arith) ∙ ap (take n) (drop-drop at place xs))
-
 -- a change past the first 16 bytes
 pub StandsFor-cells : (xs ys : List ℕ) (v : Value) (lo hi : ℕ) (bs : List Block) → KeepsOutside lo hi xs ys → 16 ≤ lo → StandsFor xs v → AreCells ys 16 v.size bs → StandsFor ys (record v { blocks = bs })
 StandsFor-cells xs ys v lo hi bs kept past stands cells = record {
@@ -111,9 +109,15 @@ module _ (xs : List ℕ) (v : Value) (stands : StandsFor xs v) where
       subst (λ (k : ℕ). IsRoom k (16 + rounded n) 16 gap) (sym stands.size) (IsRoom-fit xs v.size n gap whole 16 v.blocks refl stands.cells (fit_at_size n gap fit))
 
   -- a block more
-  pub stands_with : (ys : List ℕ) (n : ℕ) (gap : Gap) → 1 ≤ n → Some gap ≡ fit_from 16 (length xs) v.blocks n → KeepsOutside gap.from gap.to xs ys → HasHead ys gap.from (16 + rounded n) n → part (gap.from + 16) n ys ≡ replicate n 0 → IsGap ys (gap.from + 16 + rounded n) gap.to → StandsFor ys (record v { blocks = with_block (record { place = gap.from + 16; bytes = replicate n 0 }) v.blocks })
-  stands_with ys n gap some fit kept head zeros rest =
+  pub stands_with : (ys : List ℕ) (n : ℕ) (gap : Gap) → 1 ≤ n → Some gap ≡ fit_from 16 (length xs) v.blocks n → ys ≡ with_zeros_at (gap.from + 16) n gap.to xs → StandsFor ys (record v { blocks = with_block (record { place = gap.from + 16; bytes = replicate n 0 }) v.blocks })
+  stands_with ys n gap some fit is =
       let room : IsRoom (length xs) (16 + rounded n) 16 gap = room_seen n gap fit in
+      let fits : gap.from + 16 + rounded n ≤ gap.to = omega (arith, room.fits) in
+      let even : (gap.to - (gap.from + 16 + rounded n)) % 16 ≡ 0 = omega (arith, room.even, room.even_to) in
+      let kept : KeepsOutside gap.from gap.to xs ys = KeepsOutside-carved xs ys gap.from gap.to n fits even room.within is in
+      let head : HasHead ys gap.from (16 + rounded n) n = HasHead-carved xs ys gap.from gap.to n fits even room.within is in
+      let zeros : part (gap.from + 16) n ys ≡ replicate n 0 = zeros-carved xs ys gap.from gap.to n fits even room.within is in
+      let rest : IsGap ys (gap.from + 16 + rounded n) gap.to = IsGap-carved xs ys gap.from gap.to n fits even room.within is in
       let long : length {A = ℕ} (replicate n 0) ≡ n = length-replicate {A = ℕ} n 0 in
       let new : Block = record { place = gap.from + 16; bytes = replicate n 0 } in
       let start : gap.from ≡ gap.from + 16 - 16 = omega arith in
@@ -128,6 +132,10 @@ module _ (xs : List ℕ) (v : Value) (stands : StandsFor xs v) where
       StandsFor-cells xs ys v gap.from gap.to (with_block new v.blocks) kept room.past stands
       (AreCells-with_block xs ys v.size n gap new kept refl ends laid after whole 16 v.blocks refl stands.cells (fit_at_size n gap fit))
 
+  -- its room ends where the gap does
+  pub room_end_seen : (n : ℕ) (gap : Gap) → Some gap ≡ fit_from 16 (length xs) v.blocks n → room_end v (gap.from + 16) ≡ gap.to
+  room_end_seen n gap fit = room_end-fit xs v.size n gap whole 16 v.blocks refl stands.cells (fit_at_size n gap fit)
+
   -- a gap whose inside changed
   pub stands_inside : (ys : List ℕ) (n : ℕ) (gap : Gap) → Some gap ≡ fit_from 16 (length xs) v.blocks n → KeepsOutside (gap.from + 16) gap.to xs ys → StandsFor ys v
   stands_inside ys n gap fit kept =
@@ -138,18 +146,27 @@ module _ (xs : List ℕ) (v : Value) (stands : StandsFor xs v) where
   hole_at_size : (place : ℕ) (gap : Gap) → Some gap ≡ hole_from 16 (length xs) place v.blocks → hole_from 16 v.size place v.blocks ≡ Some gap
   hole_at_size place gap hole = ap (λ (k : ℕ). hole_from 16 k place v.blocks) (sym stands.size) ∙ sym hole
 
-  pub hole_seen : (place : ℕ) (gap : Gap) → Some gap ≡ hole_from 16 (length xs) place v.blocks → (16 ≤ gap.from) × (gap.from + 32 ≤ gap.to) × (gap.to ≤ length xs) × (length xs < 2 ^ 32)
+  pub hole_seen : (place : ℕ) (gap : Gap) → Some gap ≡ hole_from 16 (length xs) place v.blocks → IsRoom (length xs) 32 16 gap × (length xs < 2 ^ 32)
   hole_seen place gap hole =
-      let sized : IsSized xs = IsSized-from_stands xs v stands in
-      let r = IsRoom-hole xs v.size place gap 16 v.blocks stands.cells (hole_at_size place gap hole) in
-      (r.0, r.1, omega (arith, r.2, stands.size), omega arith)
+      let sized : IsSized xs = IsSized-from_stands xs v stands in (
+        subst (λ (k : ℕ). IsRoom k 32 16 gap) (sym stands.size) (IsRoom-hole xs v.size place gap whole 16 v.blocks refl stands.cells (hole_at_size place gap hole)),
+        omega arith,
+      )
+
+  -- it is the room of the block that stood there
+  pub room_seen_hole : (place : ℕ) (gap : Gap) → Some gap ≡ hole_from 16 (length xs) place v.blocks → (room_start v place ≡ gap.from) × (room_end v place ≡ gap.to)
+  room_seen_hole place gap hole = room-hole xs v.size place gap 16 v.blocks stands.cells (hole_at_size place gap hole)
 
   -- a block less
-  pub stands_without : (ys : List ℕ) (place : ℕ) (gap : Gap) → Some gap ≡ hole_from 16 (length xs) place v.blocks → KeepsOutside gap.from (gap.from + 16) xs ys → HasHead ys gap.from (gap.to - gap.from) 0 → StandsFor ys (record v { blocks = without_block place v.blocks })
-  stands_without ys place gap hole kept head =
-      let r = hole_seen place gap hole in
-      StandsFor-cells xs ys v gap.from (gap.from + 16) (without_block place v.blocks) kept r.0 stands
-      (AreCells-without_block xs ys v.size place gap kept head 16 v.blocks stands.cells (hole_at_size place gap hole))
+  pub stands_without : (ys : List ℕ) (place : ℕ) (gap : Gap) → Some gap ≡ hole_from 16 (length xs) place v.blocks → ys ≡ written xs gap.from (head_bytes (gap.to - gap.from) 0) → StandsFor ys (record v { blocks = without_block place v.blocks })
+  stands_without ys place gap hole is =
+      let r : IsRoom (length xs) 32 16 gap = (hole_seen place gap hole).0 in
+      let fits : gap.from + 16 ≤ length xs = omega (arith, r.fits, r.within) in
+      let kept : KeepsOutside gap.from (gap.from + 16) xs ys = KeepsOutside-after xs ys (head_bytes (gap.to - gap.from) 0) gap.from 16 refl fits is in
+      let head : HasHead ys gap.from (gap.to - gap.from) 0 = part_after xs ys (head_bytes (gap.to - gap.from) 0) gap.from 16 refl fits is in
+      let even : (gap.to - gap.from) % 16 ≡ 0 = omega (arith, r.even, r.even_to) in
+      StandsFor-cells xs ys v gap.from (gap.from + 16) (without_block place v.blocks) kept r.past stands
+      (AreCells-without_block xs ys v.size place gap kept head even whole 16 v.blocks refl stands.cells (hole_at_size place gap hole))
 
   -- bytes of a block written
   pub stands_rewritten : (ys zs : List ℕ) (place at : ℕ) (w : IsWithin xs place at (length zs) v.blocks) → ys ≡ written xs (place + at) zs → StandsFor ys (record v { blocks = rewritten place at zs v.blocks })
@@ -175,6 +192,11 @@ module _ (xs : List ℕ) (v : Value) (stands : StandsFor xs v) where
         cells = AreCells-above 0 (0 + 8) xs ys kept 16 v.size v.blocks (omega arith) stands.cells;
       }
 
+-- a head is written, or nothing
+pub KeepsOutside-gap : {X : Type 0} (r : Result X AllocError) (old new : Paged) (ys : List ℕ) (from to : ℕ) → length ys ≡ 16 → from + 16 ≤ to → to ≤ length old.bytes → OnOk r (new.bytes ≡ written old.bytes from ys) → OnErr r (new ≡ old) → KeepsOutside from to old.bytes new.bytes
+KeepsOutside-gap (Ok x) old new ys from to long fits within ok err = KeepsOutside-wider from (from + 16) from to old.bytes new.bytes (omega arith) fits (KeepsOutside-after old.bytes new.bytes ys from 16 long (omega arith) ok)
+KeepsOutside-gap (Err e) old new ys from to long fits within ok err = subst (λ (p : Paged). KeepsOutside from to old.bytes p.bytes) (sym err) (KeepsOutside-same from to old.bytes)
+
 -- the pages are those of a heap after a change
 pub held_after : {X : Type 0} → (r : Result X AllocError) (old new : Paged) (v : Value) → IsHeld old → IfOk r (λ _. StandsFor new.bytes v) → OnErr r (StandsFor new.bytes (value_of new.bytes)) → new.begun ≡ old.begun → IsHeld new
 held_after (Ok x) old new v held ok err begun = record { now = StandsFor-value new.bytes v ok; before = subst (λ (o : Option (List ℕ)). IfSome o (λ b. StandsFor b (value_of b))) (sym begun) held.before }
@@ -198,15 +220,10 @@ end_seen xs place bs s f h =
     let e : f ≡ (let g : Found = record { place = place; len = length s.bytes } in g) = if_found (block_at place bs) (λ bytes. f ≡ (let g : Found = record { place = place; len = length bytes } in g)) s.bytes s.found h in
     ap (λ (g : Found). g.place + rounded g.len) e
 
-pub place_seen : (xs : List ℕ) (place : ℕ) (bs : List Block) (s : IsSeen xs place bs) (f : Found) → IfSome (block_at place bs) (λ bytes. f ≡ (let g : Found = record { place = place; len = length bytes } in g)) → f.place ≡ place
-place_seen xs place bs s f h =
-    let e : f ≡ (let g : Found = record { place = place; len = length s.bytes } in g) = if_found (block_at place bs) (λ bytes. f ≡ (let g : Found = record { place = place; len = length bytes } in g)) s.bytes s.found h in
-    ap (λ (g : Found). g.place) e
-
 pub held_by : (old new : Paged) (v : Value) → IsHeld old → StandsFor new.bytes v → new.begun ≡ old.begun → IsHeld new
 held_by old new v held stands begun = record { now = StandsFor-value new.bytes v stands; before = subst (λ (o : Option (List ℕ)). IfSome o (λ b. StandsFor b (value_of b))) (sym begun) held.before }
 
-pub on_err_any : {X : Type 0} → (r : Result X AllocError) (P : Type 0) → P → OnErr r P
+pub on_err_any : {X E : Type 0} → (r : Result X E) (P : Type 0) → P → OnErr r P
 on_err_any (Ok x) P p = tt
 on_err_any (Err e) P p = p
 
@@ -230,10 +247,12 @@ pub is_some_seen : (xs : List ℕ) (v : Value) (place : ℕ) (r : Option Gap) �
 is_some_seen xs v place r same is =
     ap (λ (o : Option Gap). is_some o) (is ∙ ap (λ (w : Value). hole_from 16 (length xs) place w.blocks) same) ∙ is_some-hole (length xs) place 16 v.blocks
 
-pub freed : {X : Type 0} (xs : List ℕ) (v : Value) (stands : StandsFor xs v) (ys : List ℕ) (place : ℕ) (gap : Gap) → Some gap ≡ hole_from 16 (length xs) place v.blocks → (r : Result X AllocError) → OnOk r (KeepsOutside gap.from (gap.from + 16) xs ys) → OnOk r (HasHead ys gap.from (gap.to - gap.from) 0) → OnOk r (StandsFor ys (record v { blocks = without_block place v.blocks }))
-freed xs v stands ys place gap hole (Ok x) kept head = stands_without xs v stands ys place gap hole kept head
-freed xs v stands ys place gap hole (Err e) kept head = tt
+pub freed : {X : Type 0} (xs : List ℕ) (v : Value) (stands : StandsFor xs v) (ys : List ℕ) (place : ℕ) (gap : Gap) → Some gap ≡ hole_from 16 (length xs) place v.blocks → (r : Result X AllocError) → OnOk r (ys ≡ written xs gap.from (head_bytes (gap.to - gap.from) 0)) → OnOk r (StandsFor ys (record v { blocks = without_block place v.blocks }))
+freed xs v stands ys place gap hole (Ok x) is = stands_without xs v stands ys place gap hole is
+freed xs v stands ys place gap hole (Err e) is = tt
 
--- so many whole pages are the size of a heap
-pub size_seen : (size count : ℕ) → 1 ≤ count → count ≤ 4096 → size ≡ 256 * count → IsSize size
-size_seen size count some most is = record { pages = (count, omega arith, omega arith, is) }
+-- the bytes that it leaves
+pub freed_bytes : (xs : List ℕ) (v : Value) (stands : StandsFor xs v) (ys : List ℕ) (place : ℕ) (gap : Gap) → Some gap ≡ hole_from 16 (length xs) place v.blocks → ys ≡ written xs gap.from (head_bytes (gap.to - gap.from) 0) → ys ≡ after_free place v xs
+freed_bytes xs v stands ys place gap hole is =
+    let room = room_seen_hole xs v stands place gap hole in
+    is ∙ ap (λ (k : ℕ). written xs k (head_bytes (gap.to - k) 0)) (sym room.0) ∙ ap (λ (k : ℕ). written xs (room_start v place) (head_bytes (k - room_start v place) 0)) (sym room.1)

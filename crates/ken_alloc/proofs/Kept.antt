@@ -1,10 +1,10 @@
 -- Parts of bytes that others are written over.
-use Rattle.std.proofs.Common.{◌≡◌, ℕ, ◌+◌, ◌-◌, ◌≤◌, List, ◌++◌, length, take, drop, refl, sym, ap, subst, ◌∙◌, arith, length-append, length-drop, length-take-le, append_assoc, take-add, replicate}
+use Rattle.std.proofs.Common.{◌≡◌, ℕ, ◌+◌, ◌-◌, ◌≤◌, List, ◌++◌, length, take, drop, refl, sym, ap, subst, ◌∙◌, arith, length-append, length-drop, length-take-le, append_assoc, replicate}
 use Rattle.std.proofs.Math.Seq.{drop-append-add}
 use Rattle.std.proofs.lemmas.List.{take-append-drop, take-append-le, drop-append-le, take-take, take_at, drop_at, drop-drop, drop-take, length-replicate, replicate-append-replicate}
 use Rattle.ken_frame.specs.Written.{written}
-use Rattle.ken_frame.proofs.Written.{written-append_left, written-append_right, length-written}
-use Rattle.ken_alloc.specs.Layout.{part}
+use Rattle.ken_frame.proofs.Written.{written-append_left, written-append_right, written-written, length-written}
+use Rattle.ken_model.specs.Layout.{part}
 use Rattle.ken_alloc.specs.Kept.{KeepsOutside}
 
 module _ (xs ys : List ℕ) (at : ℕ) (fits : at + length ys ≤ length xs) where
@@ -69,6 +69,10 @@ part-written_within xs ys place n at p is within fits =
 pub KeepsOutside-same : (lo hi : ℕ) (xs : List ℕ) → KeepsOutside lo hi xs xs
 KeepsOutside-same lo hi xs = record { long = refl; below = λ at n h. refl; above = λ at n h. refl }
 
+-- between places further apart
+pub KeepsOutside-wider : (lo hi l h : ℕ) (xs ys : List ℕ) → l ≤ lo → hi ≤ h → KeepsOutside lo hi xs ys → KeepsOutside l h xs ys
+KeepsOutside-wider lo hi l h xs ys below above kept = record { long = kept.long; below = λ at n le. kept.below at n (omega arith); above = λ at n le. kept.above at n (omega arith) }
+
 -- one after the other
 pub KeepsOutside-trans : (lo hi lo' hi' l h : ℕ) (xs ys zs : List ℕ) → KeepsOutside lo hi xs ys → KeepsOutside lo' hi' ys zs → l ≤ lo → l ≤ lo' → hi ≤ h → hi' ≤ h → KeepsOutside l h xs zs
 KeepsOutside-trans lo hi lo' hi' l h xs ys zs one two ll ll' hh hh' = record {
@@ -88,14 +92,16 @@ module _ (old new ys : List ℕ) (at n : ℕ) (long : length ys ≡ n) (fits : a
       ap (λ (ws : List ℕ). part at n ws) is ∙ ap (λ (k : ℕ). part at k (written old at ys)) (sym long) ∙ part-written old ys at (omega arith)
 
 -- a part more of zeros
-pub zeros_more : (first old new ys : List ℕ) (at done n : ℕ) → KeepsOutside at (at + done) first old → part at done old ≡ replicate done 0 → ys ≡ replicate n 0 → at + (done + n) ≤ length old → new ≡ written old (at + done) ys → (part at (done + n) new ≡ replicate (done + n) 0) × KeepsOutside at (at + (done + n)) first new
-zeros_more first old new ys at done n before zeros is fits step =
-    let long : length ys ≡ n = ap length is ∙ length-replicate {A = ℕ} n 0 in
-    let kept : KeepsOutside (at + done) (at + done + n) old new = KeepsOutside-after old new ys (at + done) n long (omega arith) step in
-    let there : part (at + done) n new ≡ replicate n 0 = part_after old new ys (at + done) n long (omega arith) step ∙ is in (
-      take-add done n (drop at new)
-          ∙ ap (λ (ws : List ℕ). ws ++ take n (drop done (drop at new))) (kept.below at done (omega arith) ∙ zeros)
-          ∙ ap (λ (ws : List ℕ). replicate done 0 ++ ws) (ap (take n) (drop-drop done at new) ∙ there)
-          ∙ replicate-append-replicate done n 0,
-      KeepsOutside-trans at (at + done) (at + done) (at + done + n) at (at + (done + n)) first old new before kept (omega arith) (omega arith) (omega arith) (omega arith),
-    )
+pub zeros_more : (first old new ys : List ℕ) (at done n : ℕ) → at ≤ length first → old ≡ written first at (replicate done 0) → ys ≡ replicate n 0 → new ≡ written old (at + done) ys → new ≡ written first at (replicate (done + n) 0)
+zeros_more first old new ys at done n within before zeros is =
+    let end : at + done ≡ at + length {A = ℕ} (replicate done 0) = ap (λ (k : ℕ). at + k) (sym (length-replicate {A = ℕ} done 0)) in
+    is
+    ∙ ap (λ (ws : List ℕ). written ws (at + done) ys) before
+    ∙ ap (λ (ws : List ℕ). written (written first at (replicate done 0)) (at + done) ws) zeros
+    ∙ written-written first at (at + done) (replicate done 0) (replicate n 0) within end
+    ∙ ap (λ (ws : List ℕ). written first at ws) (replicate-append-replicate done n 0)
+
+-- zeros written change nothing else
+pub KeepsOutside-zeros : (old new : List ℕ) (at done len : ℕ) → done ≤ len → at + len ≤ length old → new ≡ written old at (replicate done 0) → KeepsOutside at (at + len) old new
+KeepsOutside-zeros old new at done len le fits is =
+    KeepsOutside-wider at (at + done) at (at + len) old new (omega arith) (omega arith) (KeepsOutside-after old new (replicate done 0) at done (length-replicate {A = ℕ} done 0) (omega arith) is)

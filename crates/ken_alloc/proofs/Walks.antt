@@ -8,11 +8,12 @@ use Rattle.ken_model.specs.declared.values.Value.{Value}
 use Rattle.ken_model.specs.Heap.{rounded, end_of}
 use Rattle.ken_alloc.specs.declared.walk.Found.{Found}
 use Rattle.ken_alloc.specs.declared.walk.Gap.{Gap}
-use Rattle.ken_alloc.specs.Layout.{part, IsGap, AreCells, StandsFor}
+use Rattle.ken_model.specs.Layout.{part, IsGap, AreCells, StandsFor}
 use Rattle.ken_alloc.specs.Walk.{IsWalk, CanWalk, start_of, first_of, fit_from, hole_from}
-use Rattle.ken_alloc.proofs.Heads.{IsRead, IsRead-from_head}
-use Rattle.ken_alloc.proofs.Cells.{lt_cases, is_true, is_false, AreCells-le}
-use Rattle.ken_alloc.proofs.Unique.{IsSized, IsSized-from_stands}
+use Rattle.ken_model.proofs.Heads.{IsRead, IsRead-from_head}
+use Rattle.ken_model.proofs.Choices.{lt_cases, is_true, is_false}
+use Rattle.ken_model.proofs.Walked.{AreCells-le}
+use Rattle.ken_model.proofs.Unique.{IsSized, IsSized-from_stands}
 use Rattle.std.proofs.lemmas.Bool.Decides.{eqb_tells}
 
 -- the walk over the whole heap
@@ -43,7 +44,7 @@ block_read xs from b bs walk =
     IsRead-from_head xs (b.place - 16) (16 + rounded (length b.bytes)) (length b.bytes) (omega (arith, walk.cells.0)) (omega (arith, walk.cells.0)) walk.cells.2.2
 
 gap_read : (xs : List ℕ) (from to : ℕ) → to ≤ length xs → length xs < 2 ^ 32 → from < to → IsGap xs from to → IsRead xs from (to - from) 0
-gap_read xs from to le small some gap = IsRead-from_head xs from (to - from) 0 (omega arith) (omega arith) (gap.1 some)
+gap_read xs from to le small some gap = IsRead-from_head xs from (to - from) 0 (omega arith) (omega arith) (gap.2 some)
 
 module _ (xs : List ℕ) (from span len : ℕ) (span_is : span ≡ big_number 4 (drop from xs)) (len_is : len ≡ big_number 4 (drop (from + 4) xs)) where
   pub over_gap : (rest : List Block) → IsWalk xs from rest → from ≢ length xs → len ≡ 0 → from + span ≡ start_of (length xs) rest

@@ -1,5 +1,4 @@
-pub mod Layout
-pub mod Blocks
 pub mod Objects
+pub mod Changes
 pub mod Kept
 pub mod Walk

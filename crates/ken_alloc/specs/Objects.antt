@@ -5,8 +5,8 @@ use Rattle.ken_pages.specs.Paged.{Paged}
 use Rattle.ken_model.specs.declared.values.Block.{Block}
 use Rattle.ken_model.specs.declared.values.Value.{Value}
 use Rattle.ken_model.specs.Heap.{with_block, block_at}
-use Rattle.ken_alloc.specs.Layout.{StandsFor}
-use Rattle.ken_alloc.specs.Blocks.{value_of}
+use Rattle.ken_model.specs.Layout.{StandsFor}
+use Rattle.ken_model.specs.Reading.{value_of}
 
 -- the value, the bytes that stand for it, and those at `begin` where a turn is begun
 pub record Heap : Type 0 where

@@ -1,11 +1,13 @@
 // Blocks of zeros, made in a gap.
-ghost use Rattle.std.specs.Prelude.{◌≡◌, ◌+◌, ◌-◌, ◌%◌, ◌<◌, ◌≤◌, ◌^◌, length, replicate, IsSome, OnOk, OnErr};
+ghost use Rattle.std.specs.Prelude.{◌≡◌, ◌+◌, ◌<◌, ◌≤◌, ◌^◌, length, replicate, IsSome, OnOk, OnErr};
+ghost use Rattle.ken_frame.specs.Written.{written};
 ghost use Rattle.ken_model.specs.Heap.{rounded};
-ghost use Rattle.ken_alloc.specs.Layout.{HasHead, IsGap, part};
+ghost use Rattle.ken_alloc.specs.Changes.{with_gap, with_zeros_at};
 ghost use Rattle.ken_alloc.specs.Kept.{KeepsOutside};
 
-use crate::head::{HEAD, Head};
-use crate::walk::{Gap, round};
+use crate::head;
+use crate::walk::Gap;
+use ken_model::{HEAD, Head, rounded};
 use ken_pages::PageHeap;
 use std::alloc::AllocError;
 
@@ -16,7 +18,7 @@ fn fill(pages: &mut PageHeap, at: u64, len: u64) -> Result<(), AllocError>
     requires begun { IsSome pages.old.begun }
     requires within { at + len ≤ length pages.old.bytes }
     requires small { length pages.old.bytes < 2 ^ 32 }
-    ensures zeros { OnOk result (part at len pages.new.bytes ≡ replicate len 0) }
+    ensures bytes { OnOk result (pages.new.bytes ≡ written pages.old.bytes at (replicate len 0)) }
     ensures others { KeepsOutside at (at + len) pages.old.bytes pages.new.bytes }
     ensures begun { pages.new.begun ≡ pages.old.begun }
 {
@@ -33,21 +35,21 @@ fn fill(pages: &mut PageHeap, at: u64, len: u64) -> Result<(), AllocError>
 fn close(pages: &mut PageHeap, from: u64, to: u64) -> Result<(), AllocError>
     requires begun { IsSome pages.old.begun }
     requires order { from ≤ to }
-    requires even { (to - from) % 16 ≡ 0 }
+    requires room { from < to → from + 16 ≤ to }
     requires within { to ≤ length pages.old.bytes }
     requires small { length pages.old.bytes < 2 ^ 32 }
-    ensures gap { OnOk result (IsGap pages.new.bytes from to) }
+    ensures bytes { OnOk result (pages.new.bytes ≡ with_gap from to pages.old.bytes) }
     ensures others { KeepsOutside from to pages.old.bytes pages.new.bytes }
     ensures begun { pages.new.begun ≡ pages.old.begun }
 {
     if from == to {
         return Ok(());
     }
-    let head = Head {
+    let gap = Head {
         span: (to - from) as u32,
         len: 0,
     };
-    head.write(pages, from)
+    head::write(pages, from, gap)
 }
 
 // Makes a block of zeros at the beginning of the gap. Its head comes last: after an error the gap still stands.
@@ -55,22 +57,19 @@ pub(crate) fn carve(pages: &mut PageHeap, gap: Gap, len: u64) -> Result<(), Allo
     requires begun { IsSome pages.old.begun }
     requires some { 1 ≤ len }
     requires fits { gap.from + 16 + rounded len ≤ gap.to }
-    requires even { (gap.to - gap.from) % 16 ≡ 0 }
+    requires rest { gap.from + 16 + rounded len < gap.to → gap.from + 32 + rounded len ≤ gap.to }
     requires within { gap.to ≤ length pages.old.bytes }
     requires small { length pages.old.bytes < 2 ^ 32 }
-    ensures head { OnOk result (HasHead pages.new.bytes gap.from (16 + rounded len) len) }
-    ensures zeros { OnOk result (part (gap.from + 16) len pages.new.bytes ≡ replicate len 0) }
-    ensures rest { OnOk result (IsGap pages.new.bytes (gap.from + 16 + rounded len) gap.to) }
-    ensures others { OnOk result (KeepsOutside gap.from gap.to pages.old.bytes pages.new.bytes) }
+    ensures bytes { OnOk result (pages.new.bytes ≡ with_zeros_at (gap.from + 16) len gap.to pages.old.bytes) }
     ensures stays { OnErr result (KeepsOutside (gap.from + 16) gap.to pages.old.bytes pages.new.bytes) }
     ensures begun { pages.new.begun ≡ pages.old.begun }
 {
-    let span = HEAD + round(len);
+    let span = HEAD + rounded(len);
     close(pages, gap.from + span, gap.to)?;
     fill(pages, gap.from + HEAD, len)?;
-    let head = Head {
+    let block = Head {
         span: span as u32,
         len: len as u32,
     };
-    head.write(pages, gap.from)
+    head::write(pages, gap.from, block)
 }

@@ -1,11 +1,10 @@
 // Copies of blocks.
 ghost use Rattle.std.specs.Prelude.{◌≡◌, ◌+◌, ◌≤◌, length, IfOk};
-ghost use Rattle.ken_alloc.specs.Layout.{StandsFor, part};
-ghost use Rattle.ken_alloc.specs.Blocks.{value_of};
+ghost use Rattle.ken_model.specs.Layout.{StandsFor, part};
+ghost use Rattle.ken_model.specs.Reading.{value_of};
 
-use crate::head::CELLS;
 use crate::walk::{self, Found};
-use ken_model::{Block, Octets};
+use ken_model::{Block, CELLS, Octets};
 use ken_pages::PageHeap;
 use std::alloc::{AllocError, Global};
 

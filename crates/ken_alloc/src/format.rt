@@ -1,10 +1,10 @@
 // A heap with no block.
 ghost use Rattle.std.specs.Prelude.{◌≡◌, ◌*◌, ◌≤◌, length, IsSome, OnOk};
-ghost use Rattle.ken_model.specs.Network.{empty_heap};
-ghost use Rattle.ken_alloc.specs.Layout.{StandsFor};
+ghost use Rattle.ken_frame.specs.Written.{written};
+ghost use Rattle.ken_model.specs.Layout.{first_bytes};
 
-use crate::head::{self, CELLS, Head};
-use crate::header;
+use crate::head;
+use ken_model::{CELLS, Head, empty_header};
 use ken_pages::{MAX_PAGES, PageHeap};
 use std::alloc::AllocError;
 
@@ -14,13 +14,13 @@ pub(crate) fn format(pages: &mut PageHeap, count: u32) -> Result<(), AllocError>
     requires some { 1 ≤ count }
     requires most { count ≤ MAX_PAGES }
     requires size { length pages.old.bytes ≡ 256 * count }
-    ensures stands { OnOk result (StandsFor pages.new.bytes (empty_heap (length pages.old.bytes))) }
+    ensures bytes { OnOk result (pages.new.bytes ≡ written pages.old.bytes 0 (first_bytes count)) }
     ensures begun { pages.new.begun ≡ pages.old.begun }
 {
-    pages.write(0, &header::empty(count))?;
-    let head = Head {
+    pages.write(0, &empty_header(count))?;
+    let gap = Head {
         span: (head::size(pages) - CELLS) as u32,
         len: 0,
     };
-    head.write(pages, CELLS)
+    head::write(pages, CELLS, gap)
 }

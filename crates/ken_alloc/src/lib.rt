@@ -7,7 +7,6 @@ mod copy;
 mod faults;
 mod format;
 mod head;
-mod header;
 mod objects;
 mod walk;
 

@@ -1,22 +1,25 @@
 // Objects in a heap.
-ghost use Rattle.std.specs.Prelude.{◌≡◌, ◌+◌, ◌-◌, ◌<◌, ◌≤◌, [], ◌∷◌, length, take, drop, Some, None, IfOk, OnOk, OnErr, IfErr, IfSome, IsSome, IsSomeAnd, is_some, ◌^◌};
+ghost use Rattle.std.specs.Prelude.{◌≡◌, ℕ, ◌+◌, ◌*◌, ◌<◌, ◌≤◌, length, take, drop, replicate, Some, None, IfOk, OnOk, OnErr, IfErr, IfSome, IsSome, IsSomeAnd, is_some, ◌^◌};
+ghost use Rattle.byteorder.specs.Endian.{big_bytes};
+ghost use Rattle.ken_frame.specs.Written.{written};
 ghost use Rattle.ken_model.specs.declared.values.Value.{Value};
 ghost use Rattle.ken_model.specs.Network.{empty_heap};
 ghost use Rattle.ken_model.specs.Heap.{IsHeap, first_gap, without_block, block_at, place_past};
 ghost use Rattle.ken_pages.specs.Paged.{dirty_pages, frozen_pages, shared_pages};
-ghost use Rattle.ken_alloc.specs.Layout.{StandsFor, BreaksAt};
-ghost use Rattle.ken_alloc.specs.Blocks.{value_of};
+ghost use Rattle.ken_model.specs.Layout.{StandsFor, first_bytes, first_heap};
+ghost use Rattle.ken_model.specs.Broken.{BreaksAt};
+ghost use Rattle.ken_model.specs.Reading.{value_of};
 ghost use Rattle.ken_alloc.specs.Objects.{IsBlock, with_zeros, rewritten};
+ghost use Rattle.ken_alloc.specs.Changes.{after_alloc, after_free};
 
 #[cfg(test)]
 mod tests;
 
-use crate::head::{self, CELLS, HEAD, Head};
 use crate::walk::{self, Found};
-use crate::{Broken, adopt, carve, copy, format};
+use crate::{Broken, adopt, carve, copy, format, head};
 use byteorder::{BigEndian, ByteOrder};
 use ken_frame::Frame;
-use ken_model::{Items, Value};
+use ken_model::{CELLS, HEAD, Head, Items, Value};
 use ken_pages::PageHeap;
 use std::alloc::{AllocError, Global};
 use std::marker::Model;
@@ -47,15 +50,18 @@ impl Objects {
     {
         Found {
             place,
-            len: Head::read(&self.pages, place - HEAD).len,
+            len: head::read(&self.pages, place - HEAD).len,
         }
     }
 
-    /// A heap with no block and the root 0, over pages of any bytes. No turn is begun, before and after.
+    /// A heap with no block and the root 0, over pages of any bytes: their first 32 bytes change, and no other. No turn is
+    /// begun, before and after.
     pub fn format(mut pages: PageHeap) -> Result<Objects, AllocError>
         requires { pages.begun ≡ None }
         ensures value { IfOk result (λ o. o.value ≡ empty_heap (length pages.bytes)) }
         ensures idle { IfOk result (λ o. o.begun ≡ None) }
+        ensures bytes { (n : ℕ) → length pages.bytes ≡ 256 * n → IfOk result (λ o. o.bytes ≡ written pages.bytes 0 (first_bytes n)) }
+        ensures zeroed { (n : ℕ) → pages.bytes ≡ replicate (256 * n) 0 → IfOk result (λ o. o.bytes ≡ first_heap n) }
     {
         let count = pages.pages();
         pages.begin();
@@ -85,12 +91,14 @@ impl Objects {
     }
 
     /// A block of `size` zeros, in the first gap that it fits into: its place, a multiple of 16. `None` exactly where it
-    /// fits into none. After an error the value is as before.
+    /// fits into none. Its head and its zeros are written, and the head of what is left of the gap. After an error the
+    /// value is as before.
     pub fn alloc(&mut self, size: u64) -> Result<Option<u64>, AllocError>
         requires begun { IsSome self.old.begun }
         requires some { 1 ≤ size }
         ensures place { IfOk result (λ place. place ≡ first_gap self.old.value size) }
         ensures value { IfOk result (λ place. self.new.value ≡ with_zeros place size self.old.value) }
+        ensures bytes { IfOk result (λ place. self.new.bytes ≡ after_alloc place size self.old.value self.old.bytes) }
         ensures begun { self.new.begun ≡ self.old.begun }
         ensures unchanged { OnErr result (self.new.value ≡ self.old.value) }
     {
@@ -101,22 +109,23 @@ impl Objects {
         Ok(Some(gap.from + HEAD))
     }
 
-    /// Gives the block at a place back. After an error nothing has changed.
+    /// Gives the block at a place back. The head of the gap that is left is written. After an error nothing has changed.
     pub fn free(&mut self, place: u64) -> Result<(), AllocError>
         requires begun { IsSome self.old.begun }
         requires block { IsBlock self.old.value place }
         ensures value { OnOk result (self.new.value ≡ record self.old.value { blocks = without_block place self.old.value.blocks }) }
+        ensures bytes { OnOk result (self.new.bytes ≡ after_free place self.old.value self.old.bytes) }
         ensures begun { self.new.begun ≡ self.old.begun }
         ensures unchanged { OnErr result (self.new ≡ self.old) }
     {
         let Some(hole) = walk::hole(&self.pages, place) else {
             unreachable!()
         };
-        let head = Head {
+        let gap = Head {
             span: (hole.to - hole.from) as u32,
             len: 0,
         };
-        head.write(&mut self.pages, hole.from)
+        head::write(&mut self.pages, hole.from, gap)
     }
 
     /// Whether a block stands at the place.
@@ -164,6 +173,7 @@ impl Objects {
         requires begun { IsSome self.old.begun }
         requires within { IsSomeAnd (block_at place self.old.value.blocks) (λ old. at + length bytes.now ≤ length old) }
         ensures value { OnOk result (self.new.value ≡ record self.old.value { blocks = rewritten place at bytes.now self.old.value.blocks }) }
+        ensures bytes { OnOk result (self.new.bytes ≡ written self.old.bytes (place + at) bytes.now) }
         ensures begun { self.new.begun ≡ self.old.begun }
         ensures unchanged { OnErr result (self.new ≡ self.old) }
     {
@@ -183,6 +193,7 @@ impl Objects {
     pub fn set_root(&mut self, root: u64) -> Result<(), AllocError>
         requires { IsSome self.old.begun }
         ensures value { OnOk result (self.new.value ≡ record self.old.value { root = root }) }
+        ensures bytes { OnOk result (self.new.bytes ≡ written self.old.bytes 0 (big_bytes 8 root)) }
         ensures begun { self.new.begun ≡ self.old.begun }
         ensures unchanged { OnErr result (self.new ≡ self.old) }
     {

@@ -1,11 +1,12 @@
 // Walks over the cells.
 ghost use Rattle.std.specs.Prelude.{◌≡◌, ◌+◌, ◌-◌, ◌<◌, ◌≤◌, ◌^◌, List, length};
 ghost use Rattle.ken_model.specs.Heap.{rounded};
-ghost use Rattle.ken_alloc.specs.Layout.{StandsFor};
-ghost use Rattle.ken_alloc.specs.Blocks.{value_of};
+ghost use Rattle.ken_model.specs.Layout.{StandsFor};
+ghost use Rattle.ken_model.specs.Reading.{value_of};
 ghost use Rattle.ken_alloc.specs.Walk.{CanWalk, IsWalk, start_of, first_of, fit_from, hole_from};
 
-use crate::head::{self, CELLS, HEAD, Head};
+use crate::head;
+use ken_model::{CELLS, HEAD, rounded};
 use ken_pages::PageHeap;
 
 // A block: the place of its first byte, and how many it has.
@@ -22,21 +23,13 @@ pub(crate) struct Gap {
     pub(crate) to: u64,
 }
 
-// A length, rounded up to a multiple of 16.
-pub(crate) fn round(len: u64) -> u64
-    requires { len < 2 ^ 63 }
-    ensures { result ≡ rounded len }
-{
-    (len + 15) / 16 * 16
-}
-
 impl Found {
     // Where its cell ends.
     pub(crate) fn end(self) -> u64
         requires { self.place < 2 ^ 62 }
         ensures { result ≡ self.place + rounded self.len }
     {
-        self.place + round(u64::from(self.len))
+        self.place + rounded(u64::from(self.len))
     }
 }
 
@@ -48,7 +41,7 @@ pub(crate) fn gap_end(pages: &PageHeap, from: u64) -> u64
     if from == head::size(pages) {
         return from;
     }
-    let head = Head::read(pages, from);
+    let head = head::read(pages, from);
     if head.len == 0 {
         from + u64::from(head.span)
     } else {
@@ -67,7 +60,7 @@ pub(crate) fn block_from(pages: &PageHeap, from: u64) -> Option<Found>
     }
     Some(Found {
         place: at + HEAD,
-        len: Head::read(pages, at).len,
+        len: head::read(pages, at).len,
     })
 }
 
@@ -80,7 +73,7 @@ pub(crate) fn first_fit(pages: &PageHeap, len: u64) -> Option<Gap>
     if len > size {
         return None;
     }
-    let room = HEAD + round(len);
+    let room = HEAD + rounded(len);
     let mut from = CELLS;
     while let Some(block) = block_from(pages, from) {
         let to = block.place - HEAD;

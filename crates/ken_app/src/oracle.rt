@@ -1,20 +1,20 @@
-ghost use Rattle.std.specs.Prelude.{◌≡◌, ℕ, List, [], ◌∷◌, Option};
-ghost use Rattle.ken_app.specs.Oracles.{Answers};
+ghost use Rattle.std.specs.Prelude.{◌≡◌, [], ◌∷◌};
+ghost use Rattle.ken_app.specs.Oracles.{Telling, Answers};
 
 /// Where clock readings and random words come from. Nothing is promised of their values.
 pub trait Oracle {
-    /// The readings of the clock so far, where it tells them.
-    ghost clocks: { Self → Option (List ℕ) };
-    /// The words so far, where it tells them.
-    ghost words: { Self → Option (List ℕ) };
+    /// What it tells: the readings of the clock and the words so far, and whose it is.
+    ghost telling: { Telling Self };
 
     /// A reading of the clock.
     fn clock(&mut self) -> u64
-        ensures clocks { Answers (clocks self.old) (clocks self.new) (result ∷ []) }
-        ensures words { words self.new ≡ words self.old };
+        ensures clocks { Answers (telling.clocks self.old) (telling.clocks self.new) (result ∷ []) }
+        ensures words { telling.words self.new ≡ telling.words self.old }
+        ensures origin { telling.origin self.new ≡ telling.origin self.old };
 
     /// A random word.
     fn word(&mut self) -> u64
-        ensures words { Answers (words self.old) (words self.new) (result ∷ []) }
-        ensures clocks { clocks self.new ≡ clocks self.old };
+        ensures words { Answers (telling.words self.old) (telling.words self.new) (result ∷ []) }
+        ensures clocks { telling.clocks self.new ≡ telling.clocks self.old }
+        ensures origin { telling.origin self.new ≡ telling.origin self.old };
 }

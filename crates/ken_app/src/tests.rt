@@ -1,5 +1,6 @@
-ghost use Rattle.std.specs.Prelude.{◌≡◌, None, [], IfOk, IsSome};
+ghost use Rattle.std.specs.Prelude.{◌≡◌, None, false, [], IfOk, IsSome};
 ghost use Rattle.ken_model.specs.declared.kinds.Kind.TheVariants.{Ring};
+ghost use Rattle.ken_model.specs.Kinds.{handler_of};
 
 use super::*;
 use ken_alloc::Objects;
@@ -16,9 +17,7 @@ struct Counter {
 }
 
 impl Oracle for Counter {
-    ghost clocks = { λ _. None };
-
-    ghost words = { λ _. None };
+    ghost telling = { record { clocks = λ _. None; words = λ _. None; origin = λ _. None; always = false } };
 
     fn clock(&mut self) -> u64 {
         self.clocks = self.clocks.wrapping_add(1);
@@ -36,7 +35,7 @@ impl Oracle for Counter {
 struct Quitter;
 
 impl App for Quitter {
-    ghost kind = { λ _. Ring };
+    ghost handler = { λ _. handler_of Ring };
 
     fn on_message<O: Oracle>(&self, turn: &mut Turn<'_, O>) -> Result<(), AllocError> {
         turn.objects().set_root(9)?;

@@ -176,8 +176,9 @@ impl<'a, O: Oracle> Turn<'a, O> {
     /// turn is then as before, and the oracle wasn't asked.
     pub fn clock(&mut self) -> Result<u64, NoDraw>
         ensures ok { IfOk result (λ reading. turning self.new ≡ record (turning self.old) { draws = (turning self.old).draws ++ reading ∷ [] }) }
-        ensures clocks { IfOk result (λ reading. Answers (O.clocks (oracle_of self.old)) (O.clocks (oracle_of self.new)) (reading ∷ [])) }
-        ensures words { O.words (oracle_of self.new) ≡ O.words (oracle_of self.old) }
+        ensures clocks { IfOk result (λ reading. Answers (O.telling.clocks (oracle_of self.old)) (O.telling.clocks (oracle_of self.new)) (reading ∷ [])) }
+        ensures words { O.telling.words (oracle_of self.new) ≡ O.telling.words (oracle_of self.old) }
+        ensures origin { O.telling.origin (oracle_of self.new) ≡ O.telling.origin (oracle_of self.old) }
         ensures err { OnErr result ((turning self.new ≡ turning self.old) × (oracle_of self.new ≡ oracle_of self.old)) }
         ensures no_draw { IsErr result ↔ (MAX_DRAWS ≤ length (turning self.old).draws) }
         ensures same { IsOneTurn self.old self.new }
@@ -193,8 +194,9 @@ impl<'a, O: Oracle> Turn<'a, O> {
     /// Draws a random word, as `clock` does a reading.
     pub fn word(&mut self) -> Result<u64, NoDraw>
         ensures ok { IfOk result (λ word. turning self.new ≡ record (turning self.old) { draws = (turning self.old).draws ++ word ∷ [] }) }
-        ensures words { IfOk result (λ word. Answers (O.words (oracle_of self.old)) (O.words (oracle_of self.new)) (word ∷ [])) }
-        ensures clocks { O.clocks (oracle_of self.new) ≡ O.clocks (oracle_of self.old) }
+        ensures words { IfOk result (λ word. Answers (O.telling.words (oracle_of self.old)) (O.telling.words (oracle_of self.new)) (word ∷ [])) }
+        ensures clocks { O.telling.clocks (oracle_of self.new) ≡ O.telling.clocks (oracle_of self.old) }
+        ensures origin { O.telling.origin (oracle_of self.new) ≡ O.telling.origin (oracle_of self.old) }
         ensures err { OnErr result ((turning self.new ≡ turning self.old) × (oracle_of self.new ≡ oracle_of self.old)) }
         ensures no_draw { IsErr result ↔ (MAX_DRAWS ≤ length (turning self.old).draws) }
         ensures same { IsOneTurn self.old self.new }

@@ -1,18 +1,13 @@
 -- A walk over blocks finds the pair of a key.
-use Rattle.std.proofs.Common.{◌≡◌, ℕ, ◌+◌, ◌-◌, ◌^◌, ◌<◌, ◌≤◌, List, [], ◌∷◌, length, Bool, true, false, ◌==◌, nat_lt, if◌then◌else◌, Option, Some, None, IsSome, IfSome, option_map, take, drop, refl, ap, sym, ◌∙◌, arith, eq-eqb, ne_eqb, ⊎_elim, subst}
-use Rattle.std.specs.List.{position}
+use Rattle.std.proofs.Common.{◌≡◌, ℕ, ◌+◌, ◌-◌, ◌^◌, ◌<◌, ◌≤◌, List, [], ◌∷◌, ◌++◌, length, Bool, true, false, ◌==◌, nat_lt, if◌then◌else◌, Option, Some, None, IsSome, IfSome, take, drop, refl, sym, ◌∙◌, arith, eq-eqb, ne_eqb, ⊎_elim, subst}
 use Rattle.std.proofs.lemmas.Bool.{cases_eq}
-use Rattle.std.proofs.lemmas.List.{length-take-le, append-nil}
-use Rattle.std.proofs.lemmas.Slice.Eq.{bytes_eq-Decides}
-use Rattle.std.proofs.lemmas.List.Quantifiers.{position-Some}
+use Rattle.std.proofs.lemmas.List.{append-nil}
 use Rattle.std.proofs.Math.ListN.{drop_of_length-le}
-use Rattle.ken_frame.specs.Written.{written}
 use Rattle.ken_alloc.specs.Objects.{rewritten}
 use Rattle.ken_model.specs.declared.values.Block.{Block}
 use Rattle.ken_model.specs.declared.values.Value.{Value}
 use Rattle.ken_model.specs.Heap.{AreBlocks, end_of, block_at, place_past, with_block, first_gap_from}
 use Rattle.ken_model.specs.KeyValue.{at_space, is_key, pair_of}
-use Rattle.ken_app.specs.Turning.{AreShort}
 use Rattle.ken_apps.specs.Found.{IsPairAt, with_pair}
 
 -- the pair of a key among the blocks from place q on
@@ -24,11 +19,6 @@ pair_from key q (b ∷ bs) = if nat_lt b.place q then pair_from key q bs else pa
 abbrev pub Seeks : List ℕ → List Block → Option Block → Option ℕ → Type 0
 Seeks key bs found None = found ≡ None
 Seeks key bs found (Some q) = (found ≡ pair_from key q bs) × IsSome (block_at q bs)
-
--- a block has few bytes
-pub short_at : (q : ℕ) (bs : List Block) → AreShort bs → IfSome (block_at q bs) (λ x. length x ≤ 512)
-short_at q [] short = tt
-short_at q (b ∷ bs) short = grind (arith, short.0, short_at q bs short.1)
 
 -- a block stands behind where the blocks begin
 pub at_least : (q from size : ℕ) (bs : List Block) → AreBlocks from size bs → IsSome (block_at q bs) → from + 16 ≤ q
@@ -130,18 +120,6 @@ pub falls : (place : ℕ) (o : Option ℕ) → place < 2 ^ 64 → IfSome o (λ r
 falls place None small more = omega (arith, small)
 falls place (Some r) small more = omega (arith, small, more)
 
--- a key ends before its pair does
-room_of : (key x : List ℕ) (o : Option ℕ) → position (λ b. b == 32) x ≡ o → is_key key (option_map (λ i. (take i x, drop (i + 1) x)) o) ≡ true → length key + 1 ≤ length x
-room_of key x None at key_is = absurd cc
-room_of key x (Some i) at key_is =
-    let found = position-Some (λ b. b == 32) x i 0 at in
-    let same : take i x ≡ key = (bytes_eq-Decides (take i x) key).0 key_is in
-    let count : length (take i x) ≡ i = length-take-le i x (omega (arith, found.0)) in
-    omega (arith, found.0, count, ap length same)
-
-pub key_room : (key x : List ℕ) → is_key key (at_space x) ≡ true → length key + 1 ≤ length x
-key_room key x key_is = room_of key x (position (λ b. b == 32) x) refl key_is
-
 pub some_is : {A : Type 0} {x y : A} → Some x ≡ Some y → x ≡ y
 some_is same = cc
 
@@ -156,7 +134,7 @@ gap_far n from size p [] blocks is = grind (arith, is)
 gap_far n from size p (b ∷ bs) blocks is = grind (arith, is, blocks, gap_far n (end_of b) size p bs blocks.3)
 
 -- bytes over all of a block
-over_all : (xs ys : List ℕ) → length ys ≡ length xs → written xs 0 ys ≡ ys
+over_all : (xs ys : List ℕ) → length ys ≡ length xs → take 0 xs ++ (ys ++ drop (0 + length ys) xs) ≡ ys
 over_all xs ys same = let gone : drop (0 + length ys) xs ≡ [] = drop_of_length-le xs (omega (arith, same)) in rw gone (append-nil ys)
 
 -- a block in a gap is there, and may be written whole

@@ -1,5 +1,5 @@
-// What the handlers send and output, none of which is refused but for want of memory.
-ghost use Rattle.std.specs.Prelude.{◌≡◌, ◌<◌, ◌≤◌, [], ◌∷◌, ◌++◌, length, decimal, codes, OnOk};
+// What the handlers send and output, none of which is refused but for want of memory. After an error the turn is as before.
+ghost use Rattle.std.specs.Prelude.{◌≡◌, ◌<◌, ◌≤◌, [], ◌∷◌, ◌++◌, length, decimal, codes, OnOk, OnErr};
 ghost use Rattle.ken_model.specs.declared.facts.TheConstants.{MAX_TEXT};
 ghost use Rattle.ken_app.specs.declared.turn.TheConstants.{MAX_SENDS, MAX_OUTPUTS};
 ghost use Rattle.ken_app.specs.Turning.{turning, oracle_of, IsOneTurn};
@@ -13,6 +13,7 @@ pub(crate) fn output<O: Oracle>(turn: &mut Turn<'_, O>, text: &[u8]) -> Result<(
     requires short { length text.now ≤ MAX_TEXT }
     requires few { length (turning turn.old).outs < MAX_OUTPUTS }
     ensures ok { OnOk result (turning turn.new ≡ record (turning turn.old) { outs = (turning turn.old).outs ++ text.now ∷ [] }) }
+    ensures err { OnErr result (turning turn.new ≡ turning turn.old) }
     ensures heap { (turning turn.new).heap ≡ (turning turn.old).heap }
     ensures oracle { oracle_of turn.new ≡ oracle_of turn.old }
     ensures same { IsOneTurn turn.old turn.new }
@@ -28,6 +29,7 @@ pub(crate) fn output<O: Oracle>(turn: &mut Turn<'_, O>, text: &[u8]) -> Result<(
 pub(crate) fn output_number<O: Oracle>(turn: &mut Turn<'_, O>, n: u64) -> Result<(), AllocError>
     requires few { length (turning turn.old).outs < MAX_OUTPUTS }
     ensures ok { OnOk result (turning turn.new ≡ record (turning turn.old) { outs = (turning turn.old).outs ++ decimal n ∷ [] }) }
+    ensures err { OnErr result (turning turn.new ≡ turning turn.old) }
     ensures heap { (turning turn.new).heap ≡ (turning turn.old).heap }
     ensures oracle { oracle_of turn.new ≡ oracle_of turn.old }
     ensures same { IsOneTurn turn.old turn.new }
@@ -44,6 +46,7 @@ pub(crate) fn send_number<O: Oracle>(
     requires known { to < (turning turn.old).nodes }
     requires few { length (turning turn.old).sends < MAX_SENDS }
     ensures ok { OnOk result (turning turn.new ≡ record (turning turn.old) { sends = (turning turn.old).sends ++ record { to = to; bytes = decimal n } ∷ [] }) }
+    ensures err { OnErr result (turning turn.new ≡ turning turn.old) }
     ensures heap { (turning turn.new).heap ≡ (turning turn.old).heap }
     ensures oracle { oracle_of turn.new ≡ oracle_of turn.old }
     ensures same { IsOneTurn turn.old turn.new }
@@ -57,6 +60,7 @@ pub(crate) fn send<O: Oracle>(turn: &mut Turn<'_, O>, to: u8, text: &[u8]) -> Re
     requires short { length text.now ≤ MAX_TEXT }
     requires few { length (turning turn.old).sends < MAX_SENDS }
     ensures ok { OnOk result (turning turn.new ≡ record (turning turn.old) { sends = (turning turn.old).sends ++ record { to = to; bytes = text.now } ∷ [] }) }
+    ensures err { OnErr result (turning turn.new ≡ turning turn.old) }
     ensures heap { (turning turn.new).heap ≡ (turning turn.old).heap }
     ensures oracle { oracle_of turn.new ≡ oracle_of turn.old }
     ensures same { IsOneTurn turn.old turn.new }
@@ -72,6 +76,7 @@ pub(crate) fn send<O: Oracle>(turn: &mut Turn<'_, O>, to: u8, text: &[u8]) -> Re
 pub(crate) fn refuse<O: Oracle>(turn: &mut Turn<'_, O>) -> Result<(), AllocError>
     requires few { length (turning turn.old).outs < MAX_OUTPUTS }
     ensures ok { OnOk result (turning turn.new ≡ record (turning turn.old) { outs = (turning turn.old).outs ++ codes "bad" ∷ [] }) }
+    ensures err { OnErr result (turning turn.new ≡ turning turn.old) }
     ensures heap { (turning turn.new).heap ≡ (turning turn.old).heap }
     ensures oracle { oracle_of turn.new ≡ oracle_of turn.old }
     ensures same { IsOneTurn turn.old turn.new }

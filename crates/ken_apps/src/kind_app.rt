@@ -1,5 +1,6 @@
 // The handler of each kind.
 ghost use Rattle.std.specs.Prelude.{◌≡◌};
+ghost use Rattle.ken_model.specs.Kinds.{handler_of};
 
 use crate::{kv, mix, ring, share, tally};
 use ken_app::{App, Oracle, Turn};
@@ -11,7 +12,7 @@ use std::alloc::AllocError;
 pub struct KindApp(pub Kind);
 
 impl App for KindApp {
-    ghost kind = { λ app. app.0 };
+    ghost handler = { λ app. handler_of app.0 };
 
     fn on_message<O: Oracle>(&self, turn: &mut Turn<'_, O>) -> Result<(), AllocError> {
         match self.0 {

@@ -1,8 +1,10 @@
 // The key-value store: texts are kept by keys, in the blocks of the heap.
 ghost use Rattle.std.specs.Prelude.{◌≡◌, ◌<◌, length, Some, OnOk};
+ghost use Rattle.ken_model.specs.declared.facts.TheConstants.{MAX_TEXT};
 ghost use Rattle.ken_model.specs.declared.kinds.Kind.TheVariants.{Kv};
+ghost use Rattle.ken_model.specs.Kinds.{handler_of};
 ghost use Rattle.ken_model.specs.KeyValue.{Put, Get, Delete, kv};
-ghost use Rattle.ken_app.specs.Turning.{turning, oracle_of, IsOneTurn, IsFresh, IsHandled};
+ghost use Rattle.ken_app.specs.Turning.{turning, oracle_of, IsOneTurn, IsFresh, IsAllowed, Allows, IsHandled};
 
 use crate::answers::{output, refuse};
 use crate::pairs;
@@ -11,15 +13,19 @@ use ken_model::{Command, MAX_TEXT};
 use std::alloc::AllocError;
 
 /// A pair is put into the first gap that it fits into, and answered `ok` or `full`; a key's text is output, or `none`
-/// where it has none; a pair is deleted, and answered `ok` or `none`.
-#[tactic(auto, unfolding(ken_model::specs::Handler::after))]
+/// where it has none; a pair is deleted, and answered `ok` or `none`. A message that is longer than one may be is answered
+/// `bad`, and of a text that is longer than an output may be the front is output.
+#[tactic(auto, unfolding(ken_model::specs::Kinds::after))]
 pub(crate) fn on_message<O: Oracle>(turn: &mut Turn<'_, O>) -> Result<(), AllocError>
     requires { IsFresh (turning turn.old) }
-    ensures handled { OnOk result (IsHandled Kv (turning turn.old) (turning turn.new)) }
+    ensures handled { OnOk result (Allows (handler_of Kv) (turning turn.old) (turning turn.new).draws → IsHandled (handler_of Kv) (turning turn.old) (turning turn.new)) }
     ensures oracle { oracle_of turn.new ≡ oracle_of turn.old }
     ensures begun { (turning turn.new).heap.begun ≡ (turning turn.old).heap.begun }
     ensures same { IsOneTurn turn.old turn.new }
 {
+    if turn.message().bytes.len() > MAX_TEXT {
+        return refuse(turn);
+    }
     match Command::of(turn.message().bytes.as_slice()) {
         None => refuse(turn),
         Some(Command::Put { key, pair }) => put(turn, key, pair),
@@ -31,6 +37,7 @@ pub(crate) fn on_message<O: Oracle>(turn: &mut Turn<'_, O>) -> Result<(), AllocE
 /// Keeps a pair.
 fn put<O: Oracle>(turn: &mut Turn<'_, O>, key: &[u8], pair: &[u8]) -> Result<(), AllocError>
     requires fresh { IsFresh (turning turn.old) }
+    requires short { length key.now < MAX_TEXT }
     requires some { 0 < length pair.now }
     ensures effect { OnOk result (kv (turning turn.old).heap.value (Some (Put key.now pair.now))
         ≡ record { value = (turning turn.new).heap.value; sends = (turning turn.new).sends; outs = (turning turn.new).outs }) }
@@ -43,10 +50,11 @@ fn put<O: Oracle>(turn: &mut Turn<'_, O>, key: &[u8], pair: &[u8]) -> Result<(),
     output(turn, if kept { b"ok" } else { b"full" })
 }
 
-/// Outputs the text of a key.
+/// Outputs the text of a key, or as much of it as an output may have.
 fn get<O: Oracle>(turn: &mut Turn<'_, O>, key: &[u8]) -> Result<(), AllocError>
     requires fresh { IsFresh (turning turn.old) }
-    ensures effect { OnOk result (kv (turning turn.old).heap.value (Some (Get key.now))
+    requires short { length key.now < MAX_TEXT }
+    ensures effect { OnOk result (IsAllowed (turning turn.old).nodes (kv (turning turn.old).heap.value (Some (Get key.now))) → kv (turning turn.old).heap.value (Some (Get key.now))
         ≡ record { value = (turning turn.new).heap.value; sends = (turning turn.new).sends; outs = (turning turn.new).outs }) }
     ensures rest { OnOk result (turning turn.new ≡ record (turning turn.old) { heap = (turning turn.new).heap; outs = (turning turn.new).outs }) }
     ensures oracle { oracle_of turn.new ≡ oracle_of turn.old }
@@ -63,6 +71,7 @@ fn get<O: Oracle>(turn: &mut Turn<'_, O>, key: &[u8]) -> Result<(), AllocError>
 /// Lets a key's pair go.
 fn delete<O: Oracle>(turn: &mut Turn<'_, O>, key: &[u8]) -> Result<(), AllocError>
     requires fresh { IsFresh (turning turn.old) }
+    requires short { length key.now < MAX_TEXT }
     ensures effect { OnOk result (kv (turning turn.old).heap.value (Some (Delete key.now))
         ≡ record { value = (turning turn.new).heap.value; sends = (turning turn.new).sends; outs = (turning turn.new).outs }) }
     ensures rest { OnOk result (turning turn.new ≡ record (turning turn.old) { heap = (turning turn.new).heap; outs = (turning turn.new).outs }) }

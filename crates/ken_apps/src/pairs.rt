@@ -1,52 +1,44 @@
 // Pairs of a key and a text, each in a block of its own.
-ghost use Rattle.std.specs.Prelude.{◌≡◌, ◌∷◌, ◌+◌, ◌<◌, ◌≤◌, length, drop, Some, None, OnOk, IfOk, IfSome, IfNone, IsSome, MatchOption, is_some, option_map, codes, if◌then◌else◌};
+ghost use Rattle.std.specs.Prelude.{◌≡◌, ◌∷◌, ◌+◌, ◌<◌, ◌≤◌, length, take, drop, Some, None, OnErr, IfOk, IfSome, IsSome, IsSomeAnd, MatchOption, codes, if◌then◌else◌};
 ghost use Rattle.ken_model.specs.declared.facts.TheConstants.{MAX_TEXT};
+ghost use Rattle.ken_model.specs.declared.values.Block.{Block};
 ghost use Rattle.ken_model.specs.Heap.{IsHeap, first_gap, block_at};
-ghost use Rattle.ken_model.specs.KeyValue.{at_space, is_key, pair_of, put_at, get_from, delete_from};
+ghost use Rattle.ken_model.specs.KeyValue.{at_space, is_key, pair_of, put_at, delete_from};
 ghost use Rattle.ken_model.specs.Effects.{answered};
 ghost use Rattle.ken_alloc.specs.Objects.{IsBlock};
-ghost use Rattle.ken_app.specs.Turning.{AreShort};
 ghost use Rattle.ken_apps.specs.Found.{IsPairAt, with_pair};
 
 use ken_alloc::Objects;
 use ken_model::{MAX_TEXT, is_pair_of};
 use std::alloc::AllocError;
 
-/// The length of a block.
-fn len_of(objects: &Objects, place: u64) -> usize
-    requires block { IsBlock objects.now.value place }
-    requires short { AreShort objects.now.value.blocks }
-    ensures len { IfSome (block_at place objects.now.value.blocks) (λ bytes. result ≡ length bytes) }
-    ensures short { result ≤ MAX_TEXT }
+/// The bytes of a block from its byte `at` on, or as many of them as the buffer has room for, in the buffer.
+fn read_block<'b>(objects: &Objects, place: u64, at: usize, buf: &'b mut [u8]) -> &'b [u8]
+    requires { IsSomeAnd (block_at place objects.now.value.blocks) (λ bytes. at ≤ length bytes) }
+    ensures bytes { IfSome (block_at place objects.now.value.blocks) (λ bytes. result.now ≡ take (length buf.old) (drop at bytes)) }
+    ensures short { length result.now ≤ length buf.old }
 {
-    objects.len_of(place) as usize
+    let left = objects.len_of(place) as usize - at;
+    let room = left.min(buf.len());
+    let front = &mut buf[..room];
+    objects.read(place, at as u64, front);
+    front
 }
 
-/// The bytes of a block, in a buffer that is long enough.
-fn read_block<'b>(objects: &Objects, place: u64, buf: &'b mut [u8; MAX_TEXT]) -> &'b [u8]
-    requires block { IsBlock objects.now.value place }
-    requires short { AreShort objects.now.value.blocks }
-    ensures bytes { Some result.now ≡ block_at place objects.now.value.blocks }
-    ensures short { length result.now ≤ MAX_TEXT }
-{
-    let text = &mut buf[..len_of(objects, place)];
-    objects.read(place, 0, text);
-    text
-}
-
-/// Whether the block is the pair of a key.
+/// Whether the block is the pair of a key. No more of the block is read than the key is long, and one byte.
 fn is_pair(objects: &Objects, place: u64, key: &[u8]) -> bool
     requires block { IsBlock objects.now.value place }
-    requires short { AreShort objects.now.value.blocks }
+    requires short { length key.now < MAX_TEXT }
     ensures { IfSome (block_at place objects.now.value.blocks) (λ bytes. result ≡ is_key key.now (at_space bytes)) }
 {
     let mut buf = [0; MAX_TEXT];
-    is_pair_of(read_block(objects, place, &mut buf), key)
+    let front = read_block(objects, place, 0, &mut buf[..key.len() + 1]);
+    is_pair_of(front, key)
 }
 
 /// The place of a key's pair.
 pub(crate) fn find(objects: &Objects, key: &[u8]) -> Option<u64>
-    requires { AreShort objects.now.value.blocks }
+    requires { length key.now < MAX_TEXT }
     ensures pair { MatchOption result (pair_of key.now objects.now.value.blocks ≡ None) (IsPairAt key.now objects.now.value.blocks) }
     ensures heap { IsHeap objects.now.value }
 {
@@ -60,11 +52,11 @@ pub(crate) fn find(objects: &Objects, key: &[u8]) -> Option<u64>
     None
 }
 
-/// Keeps a pair, and only then lets the key's old pair go. False, and nothing changed, where no gap fits the new one.
-/// After an error the heap is to be taken back.
+/// Keeps a pair, and only then lets the key's old pair go. False where no gap fits the new one: the heap's value is then as
+/// before. After an error the heap is to be taken back.
 pub(crate) fn put(objects: &mut Objects, key: &[u8], pair: &[u8]) -> Result<bool, AllocError>
     requires begun { IsSome objects.old.begun }
-    requires short { AreShort objects.old.value.blocks }
+    requires short { length key.now < MAX_TEXT }
     requires some { 0 < length pair.now }
     ensures value { IfOk result (λ kept. put_at objects.old.value pair.now (pair_of key.now objects.old.value.blocks) (first_gap objects.old.value (length pair.now))
         ≡ answered objects.new.value (if kept then codes "ok" else codes "full")) }
@@ -96,38 +88,25 @@ fn keep(objects: &mut Objects, pair: &[u8]) -> Result<Option<u64>, AllocError>
     Ok(Some(place))
 }
 
-/// The text that is kept for a key, in a buffer that is long enough.
-pub(crate) fn get<'b>(
-    objects: &Objects,
-    key: &[u8],
-    buf: &'b mut [u8; MAX_TEXT],
-) -> Option<&'b [u8]>
-    requires { AreShort objects.now.value.blocks }
+/// The text that is kept for a key, or as much of it as the buffer has room for, in the buffer.
+pub(crate) fn get<'b>(objects: &Objects, key: &[u8], buf: &'b mut [u8]) -> Option<&'b [u8]>
+    requires { length key.now < MAX_TEXT }
     ensures text { MatchOption result (pair_of key.now objects.now.value.blocks ≡ None)
-        (λ text. get_from objects.now.value key.now (pair_of key.now objects.now.value.blocks) ≡ answered objects.now.value text.now) }
-    ensures short { IfSome result (λ text. length text.now ≤ MAX_TEXT) }
+        (λ text. (pair : Block) × (pair_of key.now objects.now.value.blocks ≡ Some pair) × (text.now ≡ take (length buf.old) (drop (length key.now + 1) pair.bytes))) }
+    ensures short { IfSome result (λ text. length text.now ≤ length buf.old) }
 {
     let place = find(objects, key)?;
-    let pair = read_block(objects, place, buf);
-    Some(rest_after(pair, key.len()))
-}
-
-/// What stands behind a key and the space after it.
-fn rest_after(pair: &[u8], key_len: usize) -> &[u8]
-    requires { key_len + 1 ≤ length pair.now }
-    ensures rest { result.now ≡ drop (key_len + 1) pair.now }
-    ensures short { length result.now ≤ length pair.now }
-{
-    &pair[key_len + 1..]
+    Some(read_block(objects, place, key.len() + 1, buf))
 }
 
 /// Lets a key's pair go. False where it has none. After an error nothing has changed.
 pub(crate) fn delete(objects: &mut Objects, key: &[u8]) -> Result<bool, AllocError>
     requires begun { IsSome objects.old.begun }
-    requires short { AreShort objects.old.value.blocks }
+    requires short { length key.now < MAX_TEXT }
     ensures value { IfOk result (λ gone. delete_from objects.old.value (pair_of key.now objects.old.value.blocks)
         ≡ answered objects.new.value (if gone then codes "ok" else codes "none")) }
     ensures begun { objects.new.begun ≡ objects.old.begun }
+    ensures err { OnErr result (objects.new ≡ objects.old) }
 {
     let Some(place) = find(objects, key) else {
         return Ok(false);

@@ -1,6 +1,7 @@
 // The ring: a count goes round the nodes, and falls by one at each.
 ghost use Rattle.std.specs.Prelude.{◌≡◌, OnOk};
 ghost use Rattle.ken_model.specs.declared.kinds.Kind.TheVariants.{Ring};
+ghost use Rattle.ken_model.specs.Kinds.{handler_of};
 ghost use Rattle.ken_app.specs.Turning.{turning, oracle_of, IsOneTurn, IsFresh, IsHandled};
 
 use crate::answers::{output_number, refuse, send_number};
@@ -9,10 +10,10 @@ use ken_num::num;
 use std::alloc::AllocError;
 
 /// A count adds 1 to the root, and what is left of it goes on to the next node.
-#[tactic(auto, unfolding(ken_model::specs::Handler::after))]
+#[tactic(auto, unfolding(ken_model::specs::Kinds::after))]
 pub(crate) fn on_message<O: Oracle>(turn: &mut Turn<'_, O>) -> Result<(), AllocError>
     requires { IsFresh (turning turn.old) }
-    ensures handled { OnOk result (IsHandled Ring (turning turn.old) (turning turn.new)) }
+    ensures handled { OnOk result (IsHandled (handler_of Ring) (turning turn.old) (turning turn.new)) }
     ensures oracle { oracle_of turn.new ≡ oracle_of turn.old }
     ensures begun { (turning turn.new).heap.begun ≡ (turning turn.old).heap.begun }
     ensures same { IsOneTurn turn.old turn.new }

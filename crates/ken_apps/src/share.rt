@@ -1,6 +1,7 @@
 // The share: a number is halved from node to node, and each keeps its half.
 ghost use Rattle.std.specs.Prelude.{◌≡◌, OnOk};
 ghost use Rattle.ken_model.specs.declared.kinds.Kind.TheVariants.{Share};
+ghost use Rattle.ken_model.specs.Kinds.{handler_of};
 ghost use Rattle.ken_app.specs.Turning.{turning, oracle_of, IsOneTurn, IsFresh, IsHandled};
 
 use crate::answers::{output_number, refuse, send_number};
@@ -9,10 +10,10 @@ use ken_num::num;
 use std::alloc::AllocError;
 
 /// The smaller half of a number goes on to the next node, if it isn't 0, and the rest is added to the root.
-#[tactic(auto, unfolding(ken_model::specs::Handler::after))]
+#[tactic(auto, unfolding(ken_model::specs::Kinds::after))]
 pub(crate) fn on_message<O: Oracle>(turn: &mut Turn<'_, O>) -> Result<(), AllocError>
     requires { IsFresh (turning turn.old) }
-    ensures handled { OnOk result (IsHandled Share (turning turn.old) (turning turn.new)) }
+    ensures handled { OnOk result (IsHandled (handler_of Share) (turning turn.old) (turning turn.new)) }
     ensures oracle { oracle_of turn.new ≡ oracle_of turn.old }
     ensures begun { (turning turn.new).heap.begun ≡ (turning turn.old).heap.begun }
     ensures same { IsOneTurn turn.old turn.new }

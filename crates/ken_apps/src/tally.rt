@@ -2,7 +2,8 @@
 ghost use Rattle.std.specs.Prelude.{◌≡◌, ◌<◌, ◌≤◌, [], length, OnOk};
 ghost use Rattle.ken_model.specs.declared.facts.TheConstants.{MAX_NODES, MAX_TEXT};
 ghost use Rattle.ken_model.specs.declared.kinds.Kind.TheVariants.{Tally};
-ghost use Rattle.ken_model.specs.Handler.{to_others};
+ghost use Rattle.ken_model.specs.Kinds.{handler_of};
+ghost use Rattle.ken_model.specs.Kinds.{to_others};
 ghost use Rattle.ken_app.specs.Turning.{turning, oracle_of, IsOneTurn, IsFresh, IsHandled};
 
 use crate::answers::{output_number, refuse, send};
@@ -12,10 +13,10 @@ use ken_num::num;
 use std::alloc::AllocError;
 
 /// A number is added to the root, and the sum is output. One from outside goes on to all other nodes, as it came.
-#[tactic(auto, unfolding(ken_model::specs::Handler::after))]
+#[tactic(auto, unfolding(ken_model::specs::Kinds::after))]
 pub(crate) fn on_message<O: Oracle>(turn: &mut Turn<'_, O>) -> Result<(), AllocError>
     requires { IsFresh (turning turn.old) }
-    ensures handled { OnOk result (IsHandled Tally (turning turn.old) (turning turn.new)) }
+    ensures handled { OnOk result (IsHandled (handler_of Tally) (turning turn.old) (turning turn.new)) }
     ensures oracle { oracle_of turn.new ≡ oracle_of turn.old }
     ensures begun { (turning turn.new).heap.begun ≡ (turning turn.old).heap.begun }
     ensures same { IsOneTurn turn.old turn.new }

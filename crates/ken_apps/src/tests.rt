@@ -1,9 +1,9 @@
-ghost use Rattle.std.specs.Prelude.{◌≡◌, None, [], IfOk, IsSome};
+ghost use Rattle.std.specs.Prelude.{None, false, IfOk, IsSome};
 
 use crate::KindApp;
 use ken_alloc::Objects;
 use ken_app::{Oracle, take_turn};
-use ken_model::{Kind, MAX_TEXT, Message, OUTSIDE, Octets};
+use ken_model::{Kind, Message, OUTSIDE, Octets};
 use ken_pages::PageHeap;
 use std::alloc::{AllocError, Global};
 use std::process::Abort;
@@ -18,9 +18,7 @@ struct Fixed {
 }
 
 impl Oracle for Fixed {
-    ghost clocks = { λ _. None };
-
-    ghost words = { λ _. None };
+    ghost telling = { record { clocks = λ _. None; words = λ _. None; origin = λ _. None; always = false } };
 
     fn clock(&mut self) -> u64 {
         self.asked = self.asked.wrapping_add(1);
@@ -54,8 +52,7 @@ struct Case<'a> {
 
 // A heap of one page with that root, and with a turn begun.
 fn heap(alloc: Global, root: u64) -> Result<Objects, AllocError>
-    ensures begun { IfOk result (λ objects. IsSome objects.begun) }
-    ensures blocks { IfOk result (λ objects. objects.value.blocks ≡ []) }
+    ensures { IfOk result (λ objects. IsSome objects.begun) }
 {
     let mut objects = Objects::format(PageHeap::new(alloc, 1)?)?;
     objects.begin();
@@ -78,7 +75,7 @@ fn try_case(rt: &(impl Abort + AllocGlobal), case: &Case<'_>) -> Result<(), Fail
         word: case.word,
         asked: 0,
     };
-    assert!(rt; case.node < 3 && case.payload.len() <= MAX_TEXT);
+    assert!(rt; case.node < 3);
     let app = KindApp(case.kind);
     let made = take_turn(
         rt.alloc(),
@@ -291,6 +288,48 @@ fn kv_keeps_pairs_in_blocks(rt: HostRuntime) -> Result<(), Fail> {
     ];
     for payload in refused {
         try_case(&rt, &bad(Kind::Kv, payload))?;
+    }
+    Ok(())
+}
+
+#[test]
+fn a_message_may_be_too_long(rt: HostRuntime) -> Result<(), Fail> {
+    let mut put = [b'x'; 513];
+    put[..6].copy_from_slice(b"put k ");
+    for kind in [Kind::Ring, Kind::Tally, Kind::Share, Kind::Mix, Kind::Kv] {
+        try_case(&rt, &bad(kind, &put))?;
+    }
+    Ok(())
+}
+
+#[test]
+fn of_a_long_text_the_front_is_output(rt: HostRuntime) -> Result<(), Fail> {
+    let mut pair = [b'x'; 515];
+    pair[..2].copy_from_slice(b"k ");
+    let mut objects = Objects::format(PageHeap::new(rt.alloc(), 3)?)?;
+    objects.begin();
+    let Some(place) = objects.alloc(515)? else {
+        return Err(Fail::from(AllocError));
+    };
+    assert!(rt; objects.is_block(place) && objects.len_of(place) == 515);
+    objects.write(place, 0, &pair)?;
+    let message = Message {
+        from: OUTSIDE,
+        to: 0,
+        number: 1,
+        stamp: 0,
+        bytes: Octets::new(Vec::from_slice(rt.alloc(), b"get k")?),
+    };
+    let mut oracle = Fixed {
+        reading: 1,
+        word: 1,
+        asked: 0,
+    };
+    let app = KindApp(Kind::Kv);
+    let made = take_turn(rt.alloc(), &app, 0, 1, &message, &mut objects, &mut oracle)?;
+    assert_eq!(rt; made.outs.len(), 1);
+    for out in &made.outs {
+        assert_eq!(rt; out.as_slice(), &pair[2..514]);
     }
     Ok(())
 }

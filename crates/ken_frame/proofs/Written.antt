@@ -1,7 +1,7 @@
 -- Bytes written over others.
-use Rattle.std.proofs.Common.{◌≡◌, ℕ, ◌+◌, ◌≤◌, List, [], ◌++◌, length, refl, sym, ap, ◌∙◌, arith, add-zero, append_assoc, length-append, length-take-le, length-drop}
+use Rattle.std.proofs.Common.{◌≡◌, ℕ, ◌+◌, ◌-◌, ◌≤◌, List, [], ◌++◌, length, take, drop, refl, sym, ap, ◌∙◌, arith, add-zero, append_assoc, length-append, length-take-le, length-drop}
 use Rattle.std.proofs.Math.Seq.{take-append-add, drop-append-add}
-use Rattle.std.proofs.lemmas.List.{take-append-drop, take-append-le, drop-append-le}
+use Rattle.std.proofs.lemmas.List.{take-append-drop, take-append-le, drop-append-le, take-take, drop_at}
 use Rattle.std.proofs.lemmas.List.Edits.{paste_all, paste-paste}
 use lib.Seq.{paste}
 use Rattle.ken_frame.specs.Written.{written}
@@ -35,6 +35,23 @@ module _ (xs : List ℕ) where
 
       once : paste xs at (ys ++ zs) (length ys + length zs) ≡ written xs at (ys ++ zs)
       once = ap (λ n. paste xs at (ys ++ zs) n) (sym (length-append ys zs)) ∙ paste_all xs at (ys ++ zs) (length (ys ++ zs)) refl
+
+  -- first some, and then others before them
+  pub written-before : (at i : ℕ) (ys zs : List ℕ) → i ≡ at + length ys → i ≤ length xs → written (written xs i zs) at ys ≡ written xs at (ys ++ zs)
+  written-before at i ys zs is within =
+      let front : List ℕ = take i xs in
+      let rest : List ℕ = zs ++ drop (i + length zs) xs in
+      let long : length front ≡ i = length-take-le i xs within in
+      let m : ℕ = i - at in
+      let back : i ≡ at + m = omega arith in
+      let end : at + length ys ≡ length front = omega arith in
+      let past : i + length zs ≡ at + length (ys ++ zs) = omega (arith, length-append ys zs) in
+      let before : take at (front ++ rest) ≡ take at xs = take-append-le at front rest (omega arith) ∙ take-take at i xs (omega arith) in
+      let after : drop (at + length ys) (front ++ rest) ≡ rest = ap (λ (k : ℕ). drop k (front ++ rest)) end ∙ drop_at front rest (length front) refl in
+      ap (λ (ws : List ℕ). ws ++ (ys ++ drop (at + length ys) (front ++ rest))) before
+      ∙ ap (λ (ws : List ℕ). take at xs ++ (ys ++ ws)) after
+      ∙ ap (λ (ws : List ℕ). take at xs ++ ws) (sym (append_assoc ys zs (drop (i + length zs) xs)))
+      ∙ ap (λ (k : ℕ). take at xs ++ ((ys ++ zs) ++ drop k xs)) past
 
   -- the length stays
   pub length-written : (at : ℕ) (ys : List ℕ) → at + length ys ≤ length xs → length (written xs at ys) ≡ length xs

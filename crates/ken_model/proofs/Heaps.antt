@@ -15,7 +15,7 @@ use Rattle.ken_model.specs.declared.values.Value.{Value}
 use Rattle.ken_model.specs.Effects.{Effect, refused}
 use Rattle.ken_model.specs.Heap.{IsHeap, rounded, end_of, AreBlocks, first_gap_from, first_gap, with_block, without_block, block_at}
 use Rattle.ken_model.specs.KeyValue.{Command, Put, Get, Delete, at_space, put_of, key_of, command_in, command_of, pair_of, is_key, without_pair, put_at, get_from, delete_from, kv}
-use Rattle.ken_model.specs.Handler.{after, ring, tally, share, mix, mix_counts, without_draws}
+use Rattle.ken_model.specs.Kinds.{after, ring, tally, share, mix, mix_counts, without_draws}
 use Rattle.ken_num.specs.Numbers.{num}
 
 -- which of two gave a value

@@ -6,6 +6,7 @@ pub mod Spelled
 mod Rows
 pub mod Elements
 pub mod Turns
+pub mod Handled
 pub mod Shows
 pub mod Agreement
 pub mod Posting
@@ -17,3 +18,13 @@ pub mod Gaps
 pub mod Moved
 pub mod Prepared
 pub mod Others
+pub mod Choices
+pub mod Heads
+pub mod Walked
+pub mod Headers
+pub mod Stuck
+pub mod OnePlace
+pub mod Unique
+pub mod Valid
+pub mod First
+pub mod ReadBack

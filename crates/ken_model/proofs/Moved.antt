@@ -12,11 +12,12 @@ use Rattle.ken_model.specs.declared.messages.Done.{Done}
 use Rattle.ken_model.specs.declared.facts.Facts.{Facts}
 use Rattle.ken_model.specs.declared.node.Made.{Made}
 use Rattle.ken_model.specs.declared.values.Value.{Value}
+use Rattle.ken_model.specs.Game.{game_of}
 use Rattle.ken_model.specs.Effects.{Effect}
 use Rattle.ken_model.specs.Heap.{IsHeap}
-use Rattle.ken_model.specs.Network.{Place, Link, Turn, outside, numbered, place_after, applied, turn_of}
-use Rattle.ken_model.specs.Actors.{AreAlike, IsStep, posted_after, outs_after}
-use Rattle.ken_model.specs.Held.{Held, held_at, no_node, sent_to, taken_from, network_of, turns_made, AreEarly, IsOfRun, IsGame, playing_of}
+use Rattle.ken_model.specs.Network.{Place, Link, Turn, outside, numbered, outputs_from, place_after, applied, turn_of}
+use Rattle.ken_model.specs.Actors.{AreAlike, IsStep, posted_after}
+use Rattle.ken_model.specs.Held.{Held, held_at, no_node, sent_to, taken_from, network_of, turns_made, AreEarly, IsOfRun, IsHeldRun, playing_of}
 use Rattle.ken_model.specs.Nodes.{IsMade}
 use Rattle.ken_model.proofs.Posting.{posted_after-cong}
 
@@ -111,16 +112,16 @@ later_is_early a b le h early =
     let weaker : (ms : List Message) → All (λ (m : Message). m.stamp ≤ a) ms → All (λ (m : Message). m.stamp ≤ b) ms = λ ms all. All-weaker (λ (m : Message). m.stamp ≤ a) (λ (m : Message). m.stamp ≤ b) (λ m at. omega arith) ms all in
     record { stamp = omega (arith, early.stamp); sent = λ w. weaker _ (early.sent w); inputs = weaker _ early.inputs }
 
--- the game goes on
-pub game_moved : (f : Facts) (hs : List Held) (s : Step) (stamp : ℕ) (value : Value) (sends : List Send) (outs : List (List ℕ)) (new : Held) (made : Made) → IsGame (record { facts = f; nodes = hs }) → s.node < length hs
+-- the run goes on
+pub run_moved : (f : Facts) (hs : List Held) (s : Step) (stamp : ℕ) (value : Value) (sends : List Send) (outs : List (List ℕ)) (new : Held) (made : Made) → IsHeldRun (record { facts = f; nodes = hs }) → s.node < length hs
     → (held_at f hs s.node).place.turns < f.turns → stamp ≤ turns_made hs + 1 → IsHeap value → IsMade s.node s.from stamp value sends outs (held_at f hs s.node) new made
-    → IsGame (record { facts = f; nodes = slice_set hs s.node new })
-game_moved f hs s stamp value sends outs new made game within more early heap is =
+    → IsHeldRun (record { facts = f; nodes = slice_set hs s.node new })
+run_moved f hs s stamp value sends outs new made run within more early heap is =
     let old : Held = held_at f hs s.node in
     let turns : new.place.turns ≡ old.place.turns + 1 = ap (λ (p : Place). p.turns) is.place in
     let later : turns_made (slice_set hs s.node new) ≡ turns_made hs + 1 = omega (arith, sum_by-set (λ (h : Held). h.place.turns) hs s.node new (no_node f) within) in
-    let old_early = All-get_or (AreEarly (turns_made hs)) hs s.node (no_node f) within game.early in
-    let old_of_run = All-get_or (IsOfRun f) hs s.node (no_node f) within game.each in
+    let old_early = All-get_or (AreEarly (turns_made hs)) hs s.node (no_node f) within run.early in
+    let old_of_run = All-get_or (IsOfRun f) hs s.node (no_node f) within run.each in
     let was : AreEarly (turns_made hs + 1) old = later_is_early (turns_made hs) (turns_made hs + 1) (omega arith) old old_early in
     let P : Message → Type 0 = λ m. m.stamp ≤ turns_made hs + 1 in
     let now : AreEarly (turns_made hs + 1) new = record {
@@ -129,20 +130,20 @@ game_moved f hs s stamp value sends outs new made game within more early heap is
       inputs = All-same P new.inputs old.inputs is.inputs was.inputs;
     } in
     record {
-      limits = game.limits;
-      width = length-set hs s.node new ∙ game.width;
-      each = All-set (IsOfRun f) hs s.node new (record { sent = is.widths.0 ∙ old_of_run.sent; taken = is.widths.1 ∙ old_of_run.taken; turns = omega arith; heap = subst IsHeap (sym (ap (λ (p : Place). p.value) is.place)) heap }) game.each;
-      early = subst (λ k. All (AreEarly k) (slice_set hs s.node new)) (sym later) (All-set (AreEarly (turns_made hs + 1)) hs s.node new now (All-weaker (AreEarly (turns_made hs)) (AreEarly (turns_made hs + 1)) (later_is_early (turns_made hs) (turns_made hs + 1) (omega arith)) hs game.early));
+      limits = run.limits;
+      width = length-set hs s.node new ∙ run.width;
+      each = All-set (IsOfRun f) hs s.node new (record { sent = is.widths.0 ∙ old_of_run.sent; taken = is.widths.1 ∙ old_of_run.taken; turns = omega arith; heap = subst IsHeap (sym (ap (λ (p : Place). p.value) is.place)) heap }) run.each;
+      early = subst (λ k. All (AreEarly k) (slice_set hs s.node new)) (sym later) (All-set (AreEarly (turns_made hs + 1)) hs s.node new now (All-weaker (AreEarly (turns_made hs)) (AreEarly (turns_made hs + 1)) (later_is_early (turns_made hs) (turns_made hs + 1) (omega arith)) hs run.early));
     }
 
 -- few turns in all
-pub few_made : (f : Facts) (hs : List Held) → IsGame (record { facts = f; nodes = hs }) → turns_made hs ≤ 800000
-few_made f hs game =
-    let most = sum_by-le (λ (h : Held). h.place.turns) 100000 hs (All-weaker (IsOfRun f) (λ (h : Held). h.place.turns ≤ 100000) (λ h each. omega (arith, each.turns, game.limits.few_turns)) hs game.each) in
-    omega (arith, most, game.width, game.limits.few_nodes)
+pub few_made : (f : Facts) (hs : List Held) → IsHeldRun (record { facts = f; nodes = hs }) → turns_made hs ≤ 800000
+few_made f hs run =
+    let most = sum_by-le (λ (h : Held). h.place.turns) 100000 hs (All-weaker (IsOfRun f) (λ (h : Held). h.place.turns ≤ 100000) (λ h each. omega (arith, each.turns, run.limits.few_turns)) hs run.each) in
+    omega (arith, most, run.width, run.limits.few_nodes)
 
 -- what is told of it
-pub step_told : (f : Facts) (hs : List Held) (s : Step) (t : Turn) (new : Held) (made : Made) (done : Done) → s.node < length hs → s.node < 255 → turn_of f (network_of f hs) s ≡ Some t → IsTurnMade s t (held_at f hs s.node) new made
+pub step_told : (f : Facts) (hs : List Held) (s : Step) (t : Turn) (new : Held) (made : Made) (done : Done) → s.node < length hs → s.node < 255 → turn_of (game_of f) (network_of f hs) s ≡ Some t → IsTurnMade s t (held_at f hs s.node) new made
     → done.stamp ≡ t.stamp → done.number ≡ t.message.number → done.sends ≡ made.sends.items → done.outs ≡ made.outs.items
     → IsStep (playing_of (record { facts = f; nodes = hs })) (playing_of (record { facts = f; nodes = slice_set hs s.node new })) s done
 step_told f hs s t new made done within node defined is stamp number sends outs =
@@ -152,11 +153,11 @@ step_told f hs s t new made done within node defined is stamp number sends outs 
     record {
       turn = t;
       defined = defined;
-      facts = refl;
+      game = refl;
       network = alike_moved f hs s t new made within node is;
       stamp = stamp;
       number = number;
       sends = sends ∙ is.moved.done_sends ∙ ap (λ k. posted_after s.node k (λ w. length (sent_to old w)) is.sends) is.is_stamp
           ∙ ap (λ (e : Effect). posted_after s.node t.stamp (λ w. length (sent_to old w)) e.sends) (sym is.effect) ∙ posted_after-cong s.node t.stamp _ _ t.effect.sends counts;
-      outs = outs ∙ is.moved.done_outs ∙ ap (λ (e : Effect). outs_after (length old.place.outs) e.outs) (sym is.effect);
+      outs = outs ∙ is.moved.done_outs ∙ ap (λ (e : Effect). outputs_from (length old.place.outs) e.outs) (sym is.effect);
     }

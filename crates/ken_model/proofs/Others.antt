@@ -1,19 +1,12 @@
 -- A text for each node but one, as one node more is looked at.
-use Rattle.std.proofs.Common.{◌≡◌, ℕ, zero, suc, ◌+◌, ◌<◌, ◌≤◌, List, [], ◌∷◌, ◌++◌, map, filter, length, ◌==◌, not, true, false, if◌then◌else◌, refl, sym, ap, subst, ◌∙◌, ⊎_elim, arith, append-nil, eq-eqb, ne_eqb}
+use Rattle.std.proofs.Common.{◌≡◌, ℕ, zero, suc, ◌+◌, ◌<◌, ◌≤◌, List, [], ◌∷◌, ◌++◌, map, filter, length, ◌==◌, not, true, false, if◌then◌else◌, sym, ap, subst, ◌∙◌, ⊎_elim, arith, append-nil, eq-eqb, ne_eqb}
 use Rattle.std.specs.List.{range_with_len, AllByRecursion}
 use Rattle.std.proofs.lemmas.Bool.{cases_eq}
-use Rattle.std.proofs.lemmas.List.{length_push}
+use Rattle.std.proofs.lemmas.List.{length_push, map-append, map-id}
+use Rattle.std.proofs.lemmas.List.FromFn.{map-range_with_len_more}
 use Rattle.std.proofs.lemmas.List.Elements.{filter-append}
 use Rattle.ken_model.specs.declared.messages.Send.{Send}
-use Rattle.ken_model.specs.Handler.{to_others}
-
-range-push : (a n : ℕ) → range_with_len a (suc n) ≡ range_with_len a n ++ (a + n) ∷ []
-range-push a zero = ap (λ k. k ∷ []) (omega arith)
-range-push a (suc n) = let last : a + 1 + n ≡ a + suc n = omega arith in ap (λ l. a ∷ l) (range-push (a + 1) n ∙ ap (λ k. range_with_len (a + 1) n ++ k ∷ []) last)
-
-map-append : {A B : Type 0} (h : A → B) (xs ys : List A) → map h (xs ++ ys) ≡ map h xs ++ map h ys
-map-append h [] ys = refl
-map-append h (x ∷ xs) ys = ap (λ l. h x ∷ l) (map-append h xs ys)
+use Rattle.ken_model.specs.Kinds.{to_others}
 
 -- what holds of all in a list and of one more
 pub all-push : {A : Type 0} (P : A → Type 0) (xs : List A) (x : A) → AllByRecursion P xs → P x → AllByRecursion P (xs ++ x ∷ [])
@@ -25,10 +18,8 @@ more_others : (node n : ℕ) (bytes : List ℕ) → to_others node (n + 1) bytes
 more_others node n bytes =
     let is_other : ℕ → _ = λ v. not (v == node) in
     let send : ℕ → Send = λ v. record { to = v; bytes = bytes } in
-    let one : n + 1 ≡ suc n = omega arith in
-    let last : 0 + n ≡ n = omega arith in
-    ap (λ k. to_others node k bytes) one ∙ ap (λ l. map send (filter is_other l)) (range-push 0 n ∙ ap (λ k. range_with_len 0 n ++ k ∷ []) last)
-    ∙ ap (map send) (filter-append is_other (range_with_len 0 n) (n ∷ [])) ∙ map-append send (filter is_other (range_with_len 0 n)) (filter is_other (n ∷ []))
+    let last : range_with_len 0 (n + 1) ≡ range_with_len 0 n ++ n ∷ [] = sym (map-id (range_with_len 0 (n + 1))) ∙ map-range_with_len_more (λ v. v) 0 n n (omega arith) ∙ ap (λ l. l ++ n ∷ []) (map-id (range_with_len 0 n)) in
+    ap (λ l. map send (filter is_other l)) last ∙ ap (map send) (filter-append is_other (range_with_len 0 n) (n ∷ [])) ∙ map-append send (filter is_other (range_with_len 0 n)) (filter is_other (n ∷ []))
 
 -- another node gets the text
 pub to_others-other : (node n : ℕ) (bytes : List ℕ) → ((n ≡ node) → ⊥) → to_others node (n + 1) bytes ≡ to_others node n bytes ++ record { to = n; bytes = bytes } ∷ []

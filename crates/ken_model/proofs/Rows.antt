@@ -1,22 +1,26 @@
 -- Worked reports, computed from the definitions.
-use Rattle.std.proofs.Common.{inl, None, arith, ◌≡◌, ℕ, List, [], ◌∷◌, ◌++◌, refl, codes}
+use Rattle.std.proofs.Common.{inl, Some, None, arith, ◌≡◌, ℕ, ◌-◌, ◌^◌, List, [], ◌∷◌, ◌++◌, refl, codes}
 use Rattle.std.specs.Fmt.{digits}
-use Rattle.ken_model.specs.declared.kinds.Kind.TheVariants.{Ring}
-use Rattle.ken_model.specs.declared.facts.Facts.{Facts}
+use Rattle.ken_model.specs.declared.kinds.Kind.TheVariants.{Ring, Mix}
 use Rattle.ken_model.specs.declared.messages.Step.{Step}
+use Rattle.ken_model.specs.declared.messages.Out.{Out}
 use Rattle.ken_model.specs.declared.reports.Emission.{Emission}
 use Rattle.ken_model.specs.declared.reports.Ending.TheVariants.{Settled, Cut}
 use Rattle.ken_num.specs.Numbers.{num}
-use Rattle.ken_model.specs.Handler.{after}
-use Rattle.ken_model.specs.Network.{turn_at, turn_of}
+use Rattle.ken_model.specs.Effects.{answered}
+use Rattle.ken_model.specs.Handler.{Handler}
+use Rattle.ken_model.specs.Kinds.{without_draws, after, handler_of}
+use Rattle.ken_model.specs.Game.{Game}
+use Rattle.ken_model.specs.Network.{Network, Turn, start, turn_at, turn_of}
 use Rattle.ken_model.specs.Schedule.{IsLegal, IsLegalFrom, play, played, turn_lines}
+use Rattle.ken_model.specs.Emissions.{AreLegalEmissions}
 use Rattle.ken_model.specs.Ending.{waiting}
 use Rattle.ken_model.specs.Report.{line, text, heap_lines, closing, lines_of, report}
 use Rattle.ken_model.specs.Spelling.{spell, step_in, emission_in, restart_in}
 
 -- three nodes, and one input `2` for node 0
-three : Facts
-three = record { nodes = 3; kind = Ring; size = 4096; turns = 1000; inputs = record { node = 0; text = codes "2" } ∷ [] }
+three : Game
+three = record { nodes = 3; size = 4096; turns = 1000; inputs = record { node = 0; text = codes "2" } ∷ []; handler = handler_of Ring }
 
 schedule : List Step
 schedule = record { node = 0; from = 255; draws = [] } ∷ record { node = 1; from = 0; draws = [] } ∷ record { node = 2; from = 1; draws = [] } ∷ []
@@ -45,8 +49,8 @@ its_legality =
     (_, refl, inl (omega arith), (_, refl, inl (omega arith), (_, refl, inl (omega arith), tt)))
 
 -- one node that has one turn, and the input `5`: what is left of the count waits
-one : Facts
-one = record { nodes = 1; kind = Ring; size = 4096; turns = 1; inputs = record { node = 0; text = codes "5" } ∷ [] }
+one : Game
+one = record { nodes = 1; size = 4096; turns = 1; inputs = record { node = 0; text = codes "5" } ∷ []; handler = handler_of Ring }
 
 first_step : List Step
 first_step = record { node = 0; from = 255; draws = [] } ∷ []
@@ -62,10 +66,44 @@ unfolding one first_step num after turn_at played digits
 no_second_turn = refl
 
 -- a payload that is no number
-odd : Facts
-odd = record { nodes = 1; kind = Ring; size = 4096; turns = 1000; inputs = record { node = 0; text = codes "aa" } ∷ [] }
+odd : Game
+odd = record { nodes = 1; size = 4096; turns = 1000; inputs = record { node = 0; text = codes "aa" } ∷ []; handler = handler_of Ring }
 
 bad_payload : report odd first_step (record { node = 0; out = record { number = 1; text = codes "bad" } } ∷ []) [] Settled
     ≡ ends (codes "turn 1 0 out 1 -") (ends (codes "emit 0 1 bad") (ends (codes "heap 0 0") (ends (codes "end settled 1") [])))
 unfolding odd first_step ends num after turn_at played turn_lines waiting line text heap_lines closing lines_of digits
 bad_payload = refl
+
+-- one node of kind mix, which draws
+drawing : Game
+drawing = record { nodes = 1; size = 4096; turns = 1000; inputs = record { node = 0; text = codes "0" } ∷ []; handler = handler_of Mix }
+
+draws_first : ℕ → Step
+draws_first reading = record { node = 0; from = 255; draws = reading ∷ 1234 ∷ [] }
+
+-- any word may be drawn
+the_last_word : (t : Turn) × (turn_of drawing (start drawing) (draws_first (2 ^ 64 - 1)) ≡ Some t)
+unfolding drawing draws_first num after turn_at digits
+the_last_word = (_, refl)
+
+-- and nothing past the words
+no_word : turn_of drawing (start drawing) (draws_first (2 ^ 64)) ≡ None
+unfolding drawing draws_first turn_at
+no_word = refl
+
+-- a node past those of the run emits nothing
+no_such_node : (w : Network) (out : Out) → AreLegalEmissions three w (record { node = 3; out = out } ∷ []) → ⊥
+unfolding three
+no_such_node w out legal = omega (arith, legal.known.0)
+
+-- a handler that is no kind: it outputs what it is sent
+echo : Handler
+echo = record { after = λ node nodes value message draws. without_draws draws (answered value message.bytes); clocks = λ draws. []; words = λ draws. [] }
+
+echoing : Game
+echoing = record { nodes = 1; size = 4096; turns = 1000; inputs = record { node = 0; text = codes "so" } ∷ []; handler = echo }
+
+echoed : report echoing first_step (record { node = 0; out = record { number = 1; text = codes "so" } } ∷ []) [] Settled
+    ≡ ends (codes "turn 1 0 out 1 -") (ends (codes "emit 0 1 so") (ends (codes "heap 0 0") (ends (codes "end settled 1") [])))
+unfolding echoing echo first_step ends turn_at played turn_lines waiting line text heap_lines closing lines_of digits
+echoed = refl

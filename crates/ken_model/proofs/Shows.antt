@@ -3,22 +3,22 @@ use Rattle.std.proofs.Common.{◌≡◌, ℕ, ◌+◌, List, [], ◌∷◌, ◌+
 use Rattle.std.proofs.Math.Bool.{and-true, and-false}
 use Rattle.std.proofs.lemmas.Bool.{cases_eq, false≢true, eqb-true}
 use Rattle.ken_model.specs.declared.messages.Message.{Message}
-use Rattle.ken_model.specs.declared.facts.Facts.{Facts}
+use Rattle.ken_model.specs.Game.{Game}
 use Rattle.ken_model.specs.Network.{Place, Network, Turn, outside, inputs_for, numbered, place_after, start, applied}
 use Rattle.ken_model.specs.History.{place_of, consumed, sent_by, messages, Shows, step_at}
 use Rattle.ken_model.proofs.Turns.{places-push, consumed-append, sent_by-push}
 
 -- before the first turn
-pub Shows-start : (f : Facts) → Shows f (λ v. []) (start f)
+pub Shows-start : (g : Game) → Shows g (λ v. []) (start g)
 unfolding messages sent_by
-Shows-start f = record { place = λ v. refl; sent = λ u v. refl; taken = λ u v. refl }
+Shows-start g = record { place = λ v. refl; sent = λ u v. refl; taken = λ u v. refl }
 
 -- turns that are the same turn by turn
-pub Shows-same : (f : Facts) (h other : ℕ → List Turn) (w : Network) → ((v : ℕ) → h v ≡ other v) → Shows f h w → Shows f other w
+pub Shows-same : (g : Game) (h other : ℕ → List Turn) (w : Network) → ((v : ℕ) → h v ≡ other v) → Shows g h w → Shows g other w
 unfolding messages
-Shows-same f h other w same shows = record {
-  place = λ v. shows.place v ∙ ap (place_of f) (same v);
-  sent = λ u v. shows.sent u v ∙ ap (λ ts. if u == outside then inputs_for f v else sent_by u v 0 ts) (same u);
+Shows-same g h other w same shows = record {
+  place = λ v. shows.place v ∙ ap (place_of g) (same v);
+  sent = λ u v. shows.sent u v ∙ ap (λ ts. if u == outside then inputs_for g v else sent_by u v 0 ts) (same u);
   taken = λ u v. shows.taken u v ∙ ap (λ ts. length (consumed u ts)) (same v);
 }
 
@@ -27,9 +27,9 @@ abbrev pub one_more : (ℕ → List Turn) → ℕ → Turn → ℕ → List Turn
 one_more h v t x = if x == v then h x ++ t ∷ [] else h x
 
 -- the node's place, after a turn of its own or of another
-place_more : (f : Facts) (here : Bool) (p : Place) (ts : List Turn) (t : Turn) → p ≡ place_of f ts → (if here then place_after p t else p) ≡ place_of f (if here then ts ++ t ∷ [] else ts)
-place_more f true p ts t e = ap (λ q. place_after q t) e ∙ sym (places-push _ ts t)
-place_more f false p ts t e = e
+place_more : (g : Game) (here : Bool) (p : Place) (ts : List Turn) (t : Turn) → p ≡ place_of g ts → (if here then place_after p t else p) ≡ place_of g (if here then ts ++ t ∷ [] else ts)
+place_more g true p ts t e = ap (λ q. place_after q t) e ∙ sym (places-push _ ts t)
+place_more g false p ts t e = e
 
 -- what a link holds, after a turn of its sender or of another
 sent_more : (u v : ℕ) (here input : Bool) (ms inputs : List Message) (ts : List Turn) (t : Turn) → (here ≡ true → input ≡ false) → ms ≡ (if input then inputs else sent_by u v 0 ts) → (if here then ms ++ numbered u v (length ms) t.stamp t.effect.sends else ms) ≡ (if input then inputs else sent_by u v 0 (if here then ts ++ t ∷ [] else ts))
@@ -58,10 +58,10 @@ taken_more u true n ts t e = rw (and-true, e) (sym (length-consumed-push u ts t)
 taken_more u false n ts t e = rw and-false e
 
 -- after one more turn of a node
-pub Shows-one_more : (f : Facts) (h : ℕ → List Turn) (w : Network) (v : ℕ) (t : Turn) → (v ≡ outside → ⊥) → Shows f h w → Shows f (one_more h v t) (applied w (step_at v t) t)
+pub Shows-one_more : (g : Game) (h : ℕ → List Turn) (w : Network) (v : ℕ) (t : Turn) → (v ≡ outside → ⊥) → Shows g h w → Shows g (one_more h v t) (applied w (step_at v t) t)
 unfolding messages
-Shows-one_more f h w v t node shows = record {
-  place = λ x. place_more f (x == v) (w.place x) (h x) t (shows.place x);
-  sent = λ u x. sent_more u x (u == v) (u == outside) (w.link u x).sent (inputs_for f x) (h u) t (λ e. ne_eqb u outside (λ o. node (sym (eqb-true u v e) ∙ o))) (shows.sent u x);
+Shows-one_more g h w v t node shows = record {
+  place = λ x. place_more g (x == v) (w.place x) (h x) t (shows.place x);
+  sent = λ u x. sent_more u x (u == v) (u == outside) (w.link u x).sent (inputs_for g x) (h u) t (λ e. ne_eqb u outside (λ o. node (sym (eqb-true u v e) ∙ o))) (shows.sent u x);
   taken = λ u x. taken_more u (x == v) (w.link u x).taken (h x) t (shows.taken u x);
 }

@@ -8,20 +8,21 @@ use Rattle.ken_model.specs.declared.messages.Message.{Message}
 use Rattle.ken_model.specs.declared.facts.Facts.{Facts}
 use Rattle.ken_model.specs.declared.facts.Input.{Input}
 use Rattle.ken_model.specs.declared.node.Node.{Node}
-use Rattle.ken_model.specs.Facts.{IsWithinLimits}
-use Rattle.ken_model.specs.Network.{Link, empty_heap, first_place, outside, inputs_from, inputs_for, start}
+use Rattle.ken_model.specs.Game.{game_of}
+use Rattle.ken_model.specs.Limits.{IsWithinLimits}
+use Rattle.ken_model.specs.Network.{Link, empty_heap, first_place, outside, input_at, inputs_from, inputs_for, start}
 use Rattle.ken_model.specs.Heap.{IsHeap}
 use Rattle.ken_model.specs.Actors.{AreAlike}
-use Rattle.ken_model.specs.Held.{Held, held_at, no_node, sent_to, taken_from, network_of, turns_made, AreEarly, IsOfRun, IsGame}
-use Rattle.ken_model.specs.Nodes.{held_of, new_node, input_at, IsGiven}
+use Rattle.ken_model.specs.Held.{Held, held_at, no_node, sent_to, taken_from, network_of, turns_made, AreEarly, IsOfRun, IsHeldRun}
+use Rattle.ken_model.specs.Nodes.{held_of, new_node, IsGiven}
 
 -- a node without inputs is to be given all its inputs
 pub given_first : (f : Facts) (ns : List Node) (v : ℕ) → All (λ (n : Node). held_of n ≡ new_node f.nodes f.size []) ns → v < length ns
-    → IsGiven f.nodes f.size (held_at f (map held_of ns) v) (inputs_from v (length (held_at f (map held_of ns) v).inputs) f.inputs) (inputs_for f v)
+    → IsGiven f.nodes f.size (held_at f (map held_of ns) v) (inputs_from v (length (held_at f (map held_of ns) v).inputs) f.inputs) (inputs_for (game_of f) v)
 given_first f ns v fresh known =
     let P : Held → Type 0 = λ h. h ≡ new_node f.nodes f.size [] in
     let e : held_at f (map held_of ns) v ≡ new_node f.nodes f.size [] = All-get_or P (map held_of ns) v (no_node f) (omega (arith, length-map ns held_of)) (All-map P held_of ns fresh) in
-    subst (λ (h : Held). IsGiven f.nodes f.size h (inputs_from v (length h.inputs) f.inputs) (inputs_for f v)) (sym e) (record { fresh = refl; inputs = refl })
+    subst (λ (h : Held). IsGiven f.nodes f.size h (inputs_from v (length h.inputs) f.inputs) (inputs_for (game_of f) v)) (sym e) (record { fresh = refl; inputs = refl })
 
 -- a node with one input more
 abbrev pub given_to : Held → Input → Held
@@ -68,16 +69,16 @@ inputs_early : (v n t : ℕ) (is : List Input) → AllByRecursion (λ (m : Messa
 inputs_early v n t [] = tt
 inputs_early v n t (i ∷ is) = go (i.node == v) (inputs_early v (n + 1) t is) (inputs_early v n t is)
   where
-    go : (b : Bool) → AllByRecursion (λ (m : Message). m.stamp ≤ t) (inputs_from v (n + 1) is) → AllByRecursion (λ (m : Message). m.stamp ≤ t) (inputs_from v n is) → AllByRecursion (λ (m : Message). m.stamp ≤ t) (if b then record { from = outside; to = v; number = n + 1; stamp = 0; bytes = i.text } ∷ inputs_from v (n + 1) is else inputs_from v n is)
+    go : (b : Bool) → AllByRecursion (λ (m : Message). m.stamp ≤ t) (inputs_from v (n + 1) is) → AllByRecursion (λ (m : Message). m.stamp ≤ t) (inputs_from v n is) → AllByRecursion (λ (m : Message). m.stamp ≤ t) (if b then input_at (n + 1) i ∷ inputs_from v (n + 1) is else inputs_from v n is)
     go true more same = (omega arith, more)
     go false more same = same
 
 -- each node has its inputs
 abbrev pub AreStarted : Facts → List Held → Type 0
-AreStarted f hs = (v : ℕ) → v < f.nodes → held_at f hs v ≡ new_node f.nodes f.size (inputs_for f v)
+AreStarted f hs = (v : ℕ) → v < f.nodes → held_at f hs v ≡ new_node f.nodes f.size (inputs_for (game_of f) v)
 
 -- what holds of each node of the run, and of those past it
-at_start : (f : Facts) (hs : List Held) (Q : Held → ℕ → Type 0) → length hs ≡ f.nodes → AreStarted f hs → ((v : ℕ) → Q (new_node f.nodes f.size (inputs_for f v)) v) → ((v : ℕ) → f.nodes ≤ v → Q (no_node f) v) → (v : ℕ) → Q (held_at f hs v) v
+at_start : (f : Facts) (hs : List Held) (Q : Held → ℕ → Type 0) → length hs ≡ f.nodes → AreStarted f hs → ((v : ℕ) → Q (new_node f.nodes f.size (inputs_for (game_of f) v)) v) → ((v : ℕ) → f.nodes ≤ v → Q (no_node f) v) → (v : ℕ) → Q (held_at f hs v) v
 at_start f hs Q width started new past v =
     ⊎_elim (λ within. subst (λ h. Q h v) (sym (started v within)) (new v)) (λ out. subst (λ h. Q h v) (sym (get_or_past hs v (no_node f) (omega (arith, width, out)))) (past v out)) (cases_lt v f.nodes)
 
@@ -85,33 +86,33 @@ taken_none : (nodes u : ℕ) (b : Bool) → ◌≡◌ {A = ℕ} (if b then 0 els
 taken_none nodes u true = refl
 taken_none nodes u false = same_throughout nodes u 0
 
-pub alike_start : (f : Facts) (hs : List Held) → IsWithinLimits f → length hs ≡ f.nodes → AreStarted f hs → AreAlike (network_of f hs) (start f)
+pub alike_start : (f : Facts) (hs : List Held) → IsWithinLimits (game_of f) → length hs ≡ f.nodes → AreStarted f hs → AreAlike (network_of f hs) (start (game_of f))
 alike_start f hs limits width started =
-    let inputs = at_start f hs (λ h v. h.inputs ≡ inputs_for f v) width started (λ v. refl) (λ v past. sym (no_inputs f.nodes v 0 f.inputs past limits.inputs)) in
+    let inputs = at_start f hs (λ h v. h.inputs ≡ inputs_for (game_of f) v) width started (λ v. refl) (λ v past. sym (no_inputs f.nodes v 0 f.inputs past limits.inputs)) in
     let sent = λ (u v : ℕ). at_start f hs (λ h w. sent_to h v ≡ []) width started (λ w. same_throughout f.nodes v []) (λ w past. refl) u in
     let taken = λ (u v : ℕ). at_start f hs (λ h w. taken_from h u ≡ 0) width started (λ w. taken_none f.nodes u (u == outside)) (λ w past. none (u == outside)) v in
     record {
-      place = at_start f hs (λ h v. h.place ≡ first_place f) width started (λ v. refl) (λ v past. refl);
+      place = at_start f hs (λ h v. h.place ≡ first_place (game_of f)) width started (λ v. refl) (λ v past. refl);
       link = λ u v. let link : List Message → List Message → ℕ → Link = λ i s t. record { sent = if u == outside then i else s; taken = t } in
-          ap (λ i. link i (sent_to (held_at f hs u) v) (taken_from (held_at f hs v) u)) (inputs v) ∙ ap (λ s. link (inputs_for f v) s (taken_from (held_at f hs v) u)) (sent u v) ∙ ap (link (inputs_for f v) []) (taken u v);
+          ap (λ i. link i (sent_to (held_at f hs u) v) (taken_from (held_at f hs v) u)) (inputs v) ∙ ap (λ s. link (inputs_for (game_of f) v) s (taken_from (held_at f hs v) u)) (sent u v) ∙ ap (link (inputs_for (game_of f) v) []) (taken u v);
     }
   where
     none : (b : Bool) → ◌≡◌ {A = ℕ} (if b then 0 else 0) 0
     none true = refl
     none false = refl
 
-new_is_early : (f : Facts) (v t : ℕ) → AreEarly t (new_node f.nodes f.size (inputs_for f v))
+new_is_early : (f : Facts) (v t : ℕ) → AreEarly t (new_node f.nodes f.size (inputs_for (game_of f) v))
 new_is_early f v t = record {
   stamp = omega arith;
   sent = λ w. All-same (λ (m : Message). m.stamp ≤ t) _ [] (same_throughout f.nodes w []) (All-nil (λ (m : Message). m.stamp ≤ t));
-  inputs = All-from_recursion (λ (m : Message). m.stamp ≤ t) (inputs_for f v) (inputs_early v 0 t f.inputs);
+  inputs = All-from_recursion (λ (m : Message). m.stamp ≤ t) (inputs_for (game_of f) v) (inputs_early v 0 t f.inputs);
 }
 
-empty_is_heap : (f : Facts) → IsWithinLimits f → IsHeap (empty_heap f.size)
+empty_is_heap : (f : Facts) → IsWithinLimits (game_of f) → IsHeap (empty_heap f.size)
 empty_is_heap f limits = record { pages = limits.pages; root = omega arith; blocks = omega (arith, limits.pages.1, limits.pages.3) }
 
-pub game_start : (f : Facts) (hs : List Held) → IsWithinLimits f → length hs ≡ f.nodes → AreStarted f hs → IsGame (record { facts = f; nodes = hs })
-game_start f hs limits width started = record {
+pub run_start : (f : Facts) (hs : List Held) → IsWithinLimits (game_of f) → length hs ≡ f.nodes → AreStarted f hs → IsHeldRun (record { facts = f; nodes = hs })
+run_start f hs limits width started = record {
   limits = limits;
   width = width;
   each = All-from_get_or (IsOfRun f) hs (no_node f) (λ i within. subst (IsOfRun f) (sym (started i (omega (arith, width, within)))) (record { sent = length-replicate f.nodes []; taken = length-replicate f.nodes 0; turns = omega arith; heap = empty_is_heap f limits }));

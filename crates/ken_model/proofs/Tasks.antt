@@ -4,7 +4,7 @@ use Rattle.ken_model.specs.declared.kinds.Kind.{Kind}
 use Rattle.ken_model.specs.declared.kinds.Kind.TheVariants.{Ring, Tally, Share, Mix, Kv}
 use Rattle.ken_model.specs.declared.values.Value.{Value}
 use Rattle.ken_model.specs.declared.messages.Message.{Message}
-use Rattle.ken_model.specs.Handler.{after, ring, tally, share, mix, without_draws}
+use Rattle.ken_model.specs.Kinds.{after, ring, tally, share, mix, without_draws}
 use Rattle.ken_model.specs.Effects.{Effect}
 use Rattle.ken_model.specs.KeyValue.{kv, command_of}
 use Rattle.ken_model.specs.Tasks.{task_of, effect_of}

@@ -5,19 +5,18 @@ use Rattle.std.proofs.lemmas.List.Elements.{filter-append, All-nil, All-cons, Al
 use Rattle.std.proofs.lemmas.Bool.{cond_both}
 use Rattle.ken_model.specs.declared.messages.Message.{Message}
 use Rattle.ken_model.specs.declared.messages.Send.{Send}
-use Rattle.ken_model.specs.declared.facts.Facts.{Facts}
 use Rattle.ken_model.specs.declared.reports.TurnLine.{TurnLine}
-use Rattle.ken_model.specs.Handler.{after}
+use Rattle.ken_model.specs.Game.{Game}
 use Rattle.ken_model.specs.Effects.{Effect}
-use Rattle.ken_model.specs.Network.{Place, Turn, outside, inputs_for, numbered, turn_at, place_after}
+use Rattle.ken_model.specs.Network.{Place, Turn, outside, inputs_for, numbered, handled, turn_at, place_after}
 use Rattle.ken_model.specs.Schedule.{ComesBefore}
 use Rattle.ken_model.specs.History.{AreTurns, places, consumed, sent_by, messages, Rises}
 
 -- the turns after others are the node's turns after its place then
-pub AreTurns-append : (f : Facts) (v : ℕ) (p : Place) (ts us : List Turn) → AreTurns f v p (ts ++ us) → AreTurns f v (places p ts) us
+pub AreTurns-append : (g : Game) (v : ℕ) (p : Place) (ts us : List Turn) → AreTurns g v p (ts ++ us) → AreTurns g v (places p ts) us
 unfolding AreTurns
-AreTurns-append f v p [] us turns = turns
-AreTurns-append f v p (t ∷ ts) us turns = AreTurns-append f v (place_after p t) ts us turns.2
+AreTurns-append g v p [] us turns = turns
+AreTurns-append g v p (t ∷ ts) us turns = AreTurns-append g v (place_after p t) ts us turns.2
 
 -- the node after one more turn
 pub places-push : (p : Place) (ts : List Turn) (t : Turn) → places p (ts ++ t ∷ []) ≡ place_after (places p ts) t
@@ -67,9 +66,9 @@ later_than_message p draws m t (Some effect) e =
     omega arith
 
 -- a turn's stamp is larger than its message's
-pub turn_at-later : (f : Facts) (v : ℕ) (p : Place) (draws : List ℕ) (m : Message) (t : Turn) → turn_at f v p draws m ≡ Some t → m.stamp < t.stamp
+pub turn_at-later : (g : Game) (v : ℕ) (p : Place) (draws : List ℕ) (m : Message) (t : Turn) → turn_at g v p draws m ≡ Some t → m.stamp < t.stamp
 unfolding turn_at
-turn_at-later f v p draws m t made = later_than_message p draws m t (after f.kind v f.nodes p.value m draws) made
+turn_at-later g v p draws m t made = later_than_message p draws m t (handled g v p.value m draws) made
 
 -- a pair that comes before has no larger stamp
 ComesBefore-stamps : (stamp node later_stamp later_node : ℕ) → ComesBefore stamp node later_stamp later_node → stamp ≤ later_stamp
@@ -95,8 +94,8 @@ of_outside s true inputs whole front split = record { later = []; parts = sym (a
 of_outside s false inputs whole front split = split
 
 -- the messages of a link: those of the turns that u made, and those of its turns ahead, which have stamps from s on
-pub messages-split : (f : Facts) (h done : ℕ → List Turn) (u v s : ℕ) (ahead : List Turn) → h u ≡ done u ++ ahead → All (λ (t : Turn). s ≤ t.stamp) ahead → IsSplitAt s (messages f h u v) (messages f done u v)
+pub messages-split : (g : Game) (h done : ℕ → List Turn) (u v s : ℕ) (ahead : List Turn) → h u ≡ done u ++ ahead → All (λ (t : Turn). s ≤ t.stamp) ahead → IsSplitAt s (messages g h u v) (messages g done u v)
 unfolding messages
-messages-split f h done u v s ahead is all =
+messages-split g h done u v s ahead is all =
     let n = 0 + length (sent_by u v 0 (done u)) in
-    of_outside s (u == outside) (inputs_for f v) (sent_by u v 0 (h u)) (sent_by u v 0 (done u)) (record { later = sent_by u v n ahead; parts = ap (sent_by u v 0) is ∙ sent_by-append u v 0 (done u) ahead; stamps = sent_by-stamps u v n s ahead all })
+    of_outside s (u == outside) (inputs_for g v) (sent_by u v 0 (h u)) (sent_by u v 0 (done u)) (record { later = sent_by u v n ahead; parts = ap (sent_by u v 0) is ∙ sent_by-append u v 0 (done u) ahead; stamps = sent_by-stamps u v n s ahead all })

@@ -3,15 +3,13 @@ use Rattle.std.specs.Prelude.{◌≡◌, ℕ, ◌+◌, ◌<◌, ◌≤◌, List,
 use Rattle.ken_model.specs.declared.messages.Message.{Message}
 use Rattle.ken_model.specs.declared.messages.Send.{Send}
 use Rattle.ken_model.specs.declared.messages.Step.{Step}
-use Rattle.ken_model.specs.declared.messages.Out.{Out}
 use Rattle.ken_model.specs.declared.messages.Done.{Done}
-use Rattle.ken_model.specs.declared.facts.Facts.{Facts}
-use Rattle.ken_model.specs.Handler.{after}
-use Rattle.ken_model.specs.Network.{Network, Turn, front, turn_of, applied}
+use Rattle.ken_model.specs.Game.{Game}
+use Rattle.ken_model.specs.Network.{Network, Turn, front, outputs_from, handled, turn_of, applied}
 
 -- what a run has come to
 pub record Playing : Type 0 where
-  pub facts : Facts
+  pub game : Game
   pub network : Network
 
 -- two networks that agree in each place and on each link
@@ -24,33 +22,28 @@ abbrev pub posted_after : ℕ → ℕ → (ℕ → ℕ) → List Send → List M
 posted_after v stamp counts [] = []
 posted_after v stamp counts (s ∷ ss) = record { from = v; to = s.to; number = counts s.to + 1; stamp = stamp; bytes = s.bytes } ∷ posted_after v stamp (λ w. if w == s.to then counts w + 1 else counts w) ss
 
--- outputs, numbered on from n
-abbrev pub outs_after : ℕ → List (List ℕ) → List Out
-outs_after n [] = []
-outs_after n (x ∷ xs) = record { number = n + 1; text = x } ∷ outs_after (n + 1) xs
-
 -- the step is defined, its turn was made, and `done` tells the turn
 pub record IsStep (before now : Playing) (s : Step) (done : Done) : Type 0 where
   pub turn : Turn
-  pub defined : turn_of before.facts before.network s ≡ Some turn
-  pub facts : now.facts ≡ before.facts
+  pub defined : turn_of before.game before.network s ≡ Some turn
+  pub game : now.game ≡ before.game
   pub network : AreAlike now.network (applied before.network s turn)
   pub stamp : done.stamp ≡ turn.stamp
   pub number : done.number ≡ turn.message.number
   pub sends : done.sends ≡ posted_after s.node turn.stamp (λ w. length (before.network.link s.node w).sent) turn.effect.sends
-  pub outs : done.outs ≡ outs_after (length (before.network.place s.node).outs) turn.effect.outs
+  pub outs : done.outs ≡ outputs_from (length (before.network.place s.node).outs) turn.effect.outs
 
 -- the node has made all its turns
 abbrev pub IsCapped : Playing → Step → Type 0
-IsCapped p s = p.facts.turns ≤ (p.network.place s.node).turns
+IsCapped p s = p.game.turns ≤ (p.network.place s.node).turns
 
 -- no message waits on the link of the step, for a node that has turns left
 abbrev pub HasNoMessage : Playing → Step → Type 0
-HasNoMessage p s = ((p.network.place s.node).turns < p.facts.turns) × (front (p.network.link s.from s.node) ≡ None)
+HasNoMessage p s = ((p.network.place s.node).turns < p.game.turns) × (front (p.network.link s.from s.node) ≡ None)
 
--- a message waits, and the handler takes another number of draws for it
+-- a message waits, and the handler isn't defined at the draws, or one of them is no word
 pub record HasWrongDraws (p : Playing) (s : Step) : Type 0 where
-  pub turns_left : (p.network.place s.node).turns < p.facts.turns
+  pub turns_left : (p.network.place s.node).turns < p.game.turns
   pub message : Message
   pub waits : front (p.network.link s.from s.node) ≡ Some message
-  pub undefined : after p.facts.kind s.node p.facts.nodes (p.network.place s.node).value message s.draws ≡ None
+  pub undefined : handled p.game s.node (p.network.place s.node).value message s.draws ≡ None

@@ -1,8 +1,9 @@
 -- Legal emissions: each output in the order of the numbers, and any that came before perhaps again.
 use Rattle.std.specs.Prelude.{◌≡◌, ℕ, ◌+◌, ◌-◌, ◌<◌, ◌≤◌, max, List, [], ◌∷◌, map, length, ◌==◌, Some, filter, slice_get}
+use Rattle.std.specs.List.{AllByRecursion}
 use Rattle.ken_model.specs.declared.messages.Out.{Out}
 use Rattle.ken_model.specs.declared.reports.Emission.{Emission}
-use Rattle.ken_model.specs.declared.facts.Facts.{Facts}
+use Rattle.ken_model.specs.Game.{Game}
 use Rattle.ken_model.specs.Network.{Network}
 
 -- what node v emitted, in order
@@ -19,20 +20,21 @@ abbrev pub largest_of : ℕ → List Out → ℕ
 largest_of largest [] = largest
 largest_of largest (o ∷ os) = largest_of (max largest o.number) os
 
--- emissions in the order of a report: they stand node by node, from that node on, and each is of a node of the run
-unfoldable pub AreByNode : ℕ → ℕ → List Emission → Type 0
-AreByNode nodes node [] = Unit {0}
-AreByNode nodes node (e ∷ es) = (node ≤ e.node) × (e.node < nodes) × AreByNode nodes e.node es
+-- emissions in the order of a report: they stand node by node, from that node on
+unfoldable pub AreByNode : ℕ → List Emission → Type 0
+AreByNode node [] = Unit {0}
+AreByNode node (e ∷ es) = (node ≤ e.node) × AreByNode e.node es
 
 -- each node's outputs were all emitted
-abbrev pub AreAllEmitted : Facts → Network → List Emission → Type 0
-AreAllEmitted f w es = (v : ℕ) → v < f.nodes → largest_of 0 (emitted_by v es) ≡ length (w.place v).outs
+abbrev pub AreAllEmitted : Game → Network → List Emission → Type 0
+AreAllEmitted g w es = (v : ℕ) → v < g.nodes → largest_of 0 (emitted_by v es) ≡ length (w.place v).outs
 
 -- no node emitted an output again: it emitted as many as it has
-abbrev pub AreOnce : Facts → Network → List Emission → Type 0
-AreOnce f w es = (v : ℕ) → v < f.nodes → length (emitted_by v es) ≡ length (w.place v).outs
+abbrev pub AreOnce : Game → Network → List Emission → Type 0
+AreOnce g w es = (v : ℕ) → v < g.nodes → length (emitted_by v es) ≡ length (w.place v).outs
 
--- legal emissions
-pub record AreLegalEmissions (f : Facts) (w : Network) (es : List Emission) : Type 0 where
-  pub each : (v : ℕ) → v < f.nodes → AreEmitted (w.place v).outs 0 (emitted_by v es)
-  pub all : AreAllEmitted f w es
+-- legal emissions: by nodes of the run, each node's in the order of its outputs, and none left out
+pub record AreLegalEmissions (g : Game) (w : Network) (es : List Emission) : Type 0 where
+  pub known : AllByRecursion (λ (e : Emission). e.node < g.nodes) es
+  pub each : (v : ℕ) → v < g.nodes → AreEmitted (w.place v).outs 0 (emitted_by v es)
+  pub all : AreAllEmitted g w es

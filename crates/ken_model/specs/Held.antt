@@ -3,7 +3,8 @@ use Rattle.std.specs.Prelude.{◌≡◌, ℕ, ◌≤◌, List, [], length, sum_b
 use Rattle.std.specs.List.{All}
 use Rattle.ken_model.specs.declared.messages.Message.{Message}
 use Rattle.ken_model.specs.declared.facts.Facts.{Facts}
-use Rattle.ken_model.specs.Facts.{IsWithinLimits}
+use Rattle.ken_model.specs.Game.{game_of}
+use Rattle.ken_model.specs.Limits.{IsWithinLimits}
 use Rattle.ken_model.specs.Heap.{IsHeap}
 use Rattle.ken_model.specs.Network.{Place, Network, outside, first_place}
 use Rattle.ken_model.specs.Actors.{Playing}
@@ -18,7 +19,7 @@ pub record Held : Type 0 where
 
 -- a node past those of the run
 abbrev pub no_node : Facts → Held
-no_node f = record { place = first_place f; sent = []; taken = []; inputs = []; inputs_taken = 0 }
+no_node f = record { place = first_place (game_of f); sent = []; taken = []; inputs = []; inputs_taken = 0 }
 
 abbrev pub held_at : Facts → List Held → ℕ → Held
 held_at f hs v = slice_index_or hs v (no_node f)
@@ -42,13 +43,13 @@ network_of f hs = record {
 }
 
 -- the facts of a run, and what its nodes have come to
-pub record Game : Type 0 where
+pub record HeldRun : Type 0 where
   pub facts : Facts
   pub nodes : List Held
 
--- the same as a network
-abbrev pub playing_of : Game → Playing
-playing_of g = record { facts = g.facts; network = network_of g.facts g.nodes }
+-- the same as a game and its network
+abbrev pub playing_of : HeldRun → Playing
+playing_of r = record { game = game_of r.facts; network = network_of r.facts r.nodes }
 
 -- no stamp in it is more than t
 pub record AreEarly (t : ℕ) (h : Held) : Type 0 where
@@ -66,9 +67,9 @@ pub record IsOfRun (f : Facts) (h : Held) : Type 0 where
 abbrev pub turns_made : List Held → ℕ
 turns_made hs = sum_by (λ h. h.place.turns) hs
 
--- what holds of every game, whatever turns were made
-pub record IsGame (g : Game) : Type 0 where
-  pub limits : IsWithinLimits g.facts
-  pub width : length g.nodes ≡ g.facts.nodes
-  pub each : All (IsOfRun g.facts) g.nodes
-  pub early : All (AreEarly (turns_made g.nodes)) g.nodes
+-- what holds of every run, whatever turns were made
+pub record IsHeldRun (r : HeldRun) : Type 0 where
+  pub limits : IsWithinLimits (game_of r.facts)
+  pub width : length r.nodes ≡ r.facts.nodes
+  pub each : All (IsOfRun r.facts) r.nodes
+  pub early : All (AreEarly (turns_made r.nodes)) r.nodes

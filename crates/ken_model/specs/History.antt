@@ -2,23 +2,23 @@
 use Rattle.std.specs.Prelude.{◌≡◌, ℕ, ◌+◌, ◌<◌, List, [], ◌∷◌, ◌++◌, map, length, ◌==◌, if◌then◌else◌, Some, filter}
 use Rattle.ken_model.specs.declared.messages.Message.{Message}
 use Rattle.ken_model.specs.declared.messages.Step.{Step}
-use Rattle.ken_model.specs.declared.facts.Facts.{Facts}
 use Rattle.ken_model.specs.declared.reports.TurnLine.{TurnLine}
+use Rattle.ken_model.specs.Game.{Game}
 use Rattle.ken_model.specs.Network.{Place, Network, Turn, outside, first_place, inputs_for, numbered, turn_at, place_after}
-use Rattle.ken_model.specs.Schedule.{ComesBefore}
+use Rattle.ken_model.specs.Schedule.{ComesBefore, turn_line}
 
--- each turn is the node's turn at its message and draws, after the turns before it, and there are at most `turns`
-unfoldable pub AreTurns : Facts → ℕ → Place → List Turn → Type 0
-AreTurns f v p [] = Unit {0}
-AreTurns f v p (t ∷ ts) = (p.turns < f.turns) × (turn_at f v p t.draws t.message ≡ Some t) × AreTurns f v (place_after p t) ts
+-- each turn is the node's turn at its message and draws, after the turns before it, and there are at most `g.turns`
+unfoldable pub AreTurns : Game → ℕ → Place → List Turn → Type 0
+AreTurns g v p [] = Unit {0}
+AreTurns g v p (t ∷ ts) = (p.turns < g.turns) × (turn_at g v p t.draws t.message ≡ Some t) × AreTurns g v (place_after p t) ts
 
 -- the node after turns
 abbrev pub places : Place → List Turn → Place
 places p [] = p
 places p (t ∷ ts) = places (place_after p t) ts
 
-abbrev pub place_of : Facts → List Turn → Place
-place_of f ts = places (first_place f) ts
+abbrev pub place_of : Game → List Turn → Place
+place_of g ts = places (first_place g) ts
 
 -- the messages that turns took from u, in order
 abbrev pub consumed : ℕ → List Turn → List Message
@@ -30,18 +30,18 @@ sent_by u v n [] = []
 sent_by u v n (t ∷ ts) = numbered u v n t.stamp t.effect.sends ++ sent_by u v (n + length (numbered u v n t.stamp t.effect.sends)) ts
 
 -- all messages of the link (u, v): inputs, or what the turns of u sent
-unfoldable pub messages : Facts → (ℕ → List Turn) → ℕ → ℕ → List Message
-messages f h u v = if u == outside then inputs_for f v else sent_by u v 0 (h u)
+unfoldable pub messages : Game → (ℕ → List Turn) → ℕ → ℕ → List Message
+messages g h u v = if u == outside then inputs_for g v else sent_by u v 0 (h u)
 
 -- a list is the front of another
 abbrev pub IsPrefixOf : {A : Type 0} → List A → List A → Type 0
 IsPrefixOf {A} xs whole = (rest : List A) × (whole ≡ xs ++ rest)
 
 -- the nodes' turns agree: each node's are its own, and from each sender it took the front of what was sent, in order
-pub record InAccord (f : Facts) (h : ℕ → List Turn) : Type 0 where
-  pub turns : (v : ℕ) → AreTurns f v (first_place f) (h v)
+pub record InAccord (g : Game) (h : ℕ → List Turn) : Type 0 where
+  pub turns : (v : ℕ) → AreTurns g v (first_place g) (h v)
   pub nobody : h outside ≡ []
-  pub order : (u v : ℕ) → IsPrefixOf (consumed u (h v)) (messages f h u v)
+  pub order : (u v : ℕ) → IsPrefixOf (consumed u (h v)) (messages g h u v)
 
 -- a turn of node v, as a step of a schedule
 abbrev pub step_at : ℕ → Turn → Step
@@ -49,11 +49,11 @@ step_at v t = record { node = v; from = t.message.from; draws = t.draws }
 
 -- and as a line of the report
 abbrev pub line_at : ℕ → Turn → TurnLine
-line_at v t = record { stamp = t.stamp; step = step_at v t; number = t.message.number }
+line_at v t = turn_line (step_at v t) t
 
 -- the lines of node v
-abbrev pub lines_at : ℕ → List TurnLine → List TurnLine
-lines_at v lines = filter (λ (l : TurnLine). l.step.node == v) lines
+abbrev pub lines_by : ℕ → List TurnLine → List TurnLine
+lines_by v lines = filter (λ (l : TurnLine). l.step.node == v) lines
 
 -- the pairs (stamp, node) rise strictly
 unfoldable pub Rises : ℕ → ℕ → List TurnLine → Type 0
@@ -62,11 +62,11 @@ Rises stamp node (l ∷ ls) = ComesBefore stamp node l.stamp l.step.node × Rise
 
 -- the lines are all nodes' turns, in the order of (stamp, node)
 pub record IsHistory (h : ℕ → List Turn) (lines : List TurnLine) : Type 0 where
-  pub parts : (v : ℕ) → lines_at v lines ≡ map (line_at v) (h v)
+  pub parts : (v : ℕ) → lines_by v lines ≡ map (line_at v) (h v)
   pub rises : Rises 0 0 lines
 
 -- the network shows what the nodes' turns show
-pub record Shows (f : Facts) (h : ℕ → List Turn) (w : Network) : Type 0 where
-  pub place : (v : ℕ) → w.place v ≡ place_of f (h v)
-  pub sent : (u v : ℕ) → (w.link u v).sent ≡ messages f h u v
+pub record Shows (g : Game) (h : ℕ → List Turn) (w : Network) : Type 0 where
+  pub place : (v : ℕ) → w.place v ≡ place_of g (h v)
+  pub sent : (u v : ℕ) → (w.link u v).sent ≡ messages g h u v
   pub taken : (u v : ℕ) → (w.link u v).taken ≡ length (consumed u (h v))

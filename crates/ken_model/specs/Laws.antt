@@ -1,11 +1,11 @@
 -- The laws that the definitions keep.
 use Rattle.std.specs.Prelude.{◌≡◌, ℕ, ◌<◌, List, map, Option, Some, None}
-use Rattle.ken_model.specs.declared.facts.Facts.{Facts}
 use Rattle.ken_model.specs.declared.messages.Step.{Step}
 use Rattle.ken_model.specs.declared.reports.TurnLine.{TurnLine}
 use Rattle.ken_model.specs.declared.reports.Lines.{Lines}
 use Rattle.ken_model.specs.declared.values.Block.{Block}
 use Rattle.ken_model.specs.declared.values.Value.{Value}
+use Rattle.ken_model.specs.Game.{Game}
 use Rattle.ken_model.specs.Heap.{IsHeap, IsFit, first_gap}
 use Rattle.ken_model.specs.Network.{Turn, start}
 use Rattle.ken_model.specs.Schedule.{IsLegal, play, turn_lines}
@@ -17,14 +17,14 @@ abbrev pub steps_of : List TurnLine → List Step
 steps_of lines = map (λ (l : TurnLine). l.step) lines
 
 -- the lines are those of a legal schedule, and playing it shows what the nodes' turns show
-pub record IsPlayed (f : Facts) (h : ℕ → List Turn) (lines : List TurnLine) : Type 0 where
-  pub legal : IsLegal f (steps_of lines)
-  pub lines_are : turn_lines f (start f) (steps_of lines) ≡ lines
-  pub shows : Shows f h (play f (steps_of lines))
+pub record IsPlayed (g : Game) (h : ℕ → List Turn) (lines : List TurnLine) : Type 0 where
+  pub legal : IsLegal g (steps_of lines)
+  pub lines_are : turn_lines g (start g) (steps_of lines) ≡ lines
+  pub shows : Shows g h (play g (steps_of lines))
 
 -- turns that agree with each other are a legal schedule in the order of stamps and nodes, however they came about
 abbrev pub AgreementIsLegal : Type 0
-AgreementIsLegal = (f : Facts) (h : ℕ → List Turn) (lines : List TurnLine) → InAccord f h → IsHistory h lines → IsPlayed f h lines
+AgreementIsLegal = (g : Game) (h : ℕ → List Turn) (lines : List TurnLine) → InAccord g h → IsHistory h lines → IsPlayed g h lines
 
 -- the text of a report gives back the run that it tells of
 abbrev pub ReportSpellsItsRun : Type 0

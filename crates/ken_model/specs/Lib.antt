@@ -3,7 +3,14 @@ pub mod Heap
 pub mod KeyValue
 pub mod Commands
 pub mod Handler
+pub mod Kinds
+pub mod Game
 pub mod Network
+pub mod Layout
+pub mod Reading
+pub mod Checks
+pub mod Broken
+pub mod LayoutLaws
 pub mod Actors
 pub mod Tasks
 pub mod Answers
@@ -12,7 +19,7 @@ pub mod Nodes
 pub mod Letters
 pub mod Planned
 pub mod Schedule
-pub mod Facts
+pub mod Limits
 pub mod History
 pub mod Emissions
 pub mod Ending

@@ -1,13 +1,14 @@
 -- The abstract network: heaps, stamps and outputs of nodes, and all messages ever sent on links. No crash, no loss, no packet, no thread.
-use Rattle.std.specs.Prelude.{ℕ, ◌+◌, max, List, [], ◌∷◌, ◌++◌, length, ◌&&◌, ◌==◌, nat_lt, if◌then◌else◌, Option, Some, None, option_map, option_and_then, slice_get}
+use Rattle.std.specs.Prelude.{ℕ, ◌+◌, ◌^◌, max, List, [], ◌∷◌, ◌++◌, length, ◌&&◌, ◌==◌, nat_lt, if◌then◌else◌, Bool, Option, Some, None, option_map, option_and_then, slice_get}
+use Rattle.std.specs.List.{list_all}
 use Rattle.ken_model.specs.declared.values.Value.{Value}
 use Rattle.ken_model.specs.declared.messages.Message.{Message}
 use Rattle.ken_model.specs.declared.messages.Send.{Send}
 use Rattle.ken_model.specs.declared.messages.Step.{Step}
-use Rattle.ken_model.specs.declared.facts.Facts.{Facts}
+use Rattle.ken_model.specs.declared.messages.Out.{Out}
 use Rattle.ken_model.specs.declared.facts.Input.{Input}
 use Rattle.ken_model.specs.declared.messages.TheConstants.{OUTSIDE}
-use Rattle.ken_model.specs.Handler.{after}
+use Rattle.ken_model.specs.Game.{Game}
 use Rattle.ken_model.specs.Effects.{Effect}
 
 -- a node: its heap, its stamp, how many turns it has made, and its outputs, the k-th of which has the number k
@@ -41,20 +42,24 @@ outside = OUTSIDE
 abbrev pub empty_heap : ℕ → Value
 empty_heap size = record { size = size; root = 0; blocks = [] }
 
-abbrev pub first_place : Facts → Place
-first_place f = record { value = empty_heap f.size; stamp = 0; turns = 0; outs = [] }
+abbrev pub first_place : Game → Place
+first_place g = record { value = empty_heap g.size; stamp = 0; turns = 0; outs = [] }
+
+-- an input as a message with that number
+abbrev pub input_at : ℕ → Input → Message
+input_at number i = record { from = outside; to = i.node; number = number; stamp = 0; bytes = i.text }
 
 -- the inputs for node v, as messages that are numbered on from n
 abbrev pub inputs_from : ℕ → ℕ → List Input → List Message
 inputs_from v n [] = []
-inputs_from v n (i ∷ is) = if i.node == v then record { from = outside; to = v; number = n + 1; stamp = 0; bytes = i.text } ∷ inputs_from v (n + 1) is else inputs_from v n is
+inputs_from v n (i ∷ is) = if i.node == v then input_at (n + 1) i ∷ inputs_from v (n + 1) is else inputs_from v n is
 
-abbrev pub inputs_for : Facts → ℕ → List Message
-inputs_for f v = inputs_from v 0 f.inputs
+abbrev pub inputs_for : Game → ℕ → List Message
+inputs_for g v = inputs_from v 0 g.inputs
 
 -- the start: empty heaps, and all inputs on the links of the outside
-abbrev pub start : Facts → Network
-start f = record { place = λ v. first_place f; link = λ u v. record { sent = if u == outside then inputs_for f v else []; taken = 0 } }
+abbrev pub start : Game → Network
+start g = record { place = λ v. first_place g; link = λ u v. record { sent = if u == outside then inputs_for g v else []; taken = 0 } }
 
 -- the message that comes next on a link
 abbrev pub front : Link → Option Message
@@ -65,13 +70,27 @@ abbrev pub numbered : ℕ → ℕ → ℕ → ℕ → List Send → List Message
 numbered u v n stamp [] = []
 numbered u v n stamp (s ∷ ss) = if s.to == v then record { from = u; to = v; number = n + 1; stamp = stamp; bytes = s.bytes } ∷ numbered u v (n + 1) stamp ss else numbered u v n stamp ss
 
--- the turn of node v that takes a message: its stamp is one more than the larger of the node's and the message's
-unfoldable pub turn_at : Facts → ℕ → Place → List ℕ → Message → Option Turn
-turn_at f v p draws message = option_map (λ e. record { message = message; draws = draws; stamp = max p.stamp message.stamp + 1; effect = e }) (after f.kind v f.nodes p.value message draws)
+-- outputs, numbered on from n
+unfoldable pub outputs_from : ℕ → List (List ℕ) → List Out
+outputs_from n [] = []
+outputs_from n (x ∷ xs) = record { number = n + 1; text = x } ∷ outputs_from (n + 1) xs
 
--- the turn of a step: none where the node has made all its turns, where the link is empty, or where the handler isn't defined at the draws
-abbrev pub turn_of : Facts → Network → Step → Option Turn
-turn_of f w s = if nat_lt (w.place s.node).turns f.turns then option_and_then (turn_at f s.node (w.place s.node) s.draws) (front (w.link s.from s.node)) else None
+-- draws are words of 64 bits
+abbrev pub are_words : List ℕ → Bool
+are_words draws = list_all (λ d. nat_lt d (2 ^ 64)) draws
+
+-- what the handler makes of a message at node v: nothing where a draw is no word
+abbrev pub handled : Game → ℕ → Value → Message → List ℕ → Option Effect
+handled g v value message draws = if are_words draws then g.handler.after v g.nodes value message draws else None
+
+-- the turn of node v that takes a message: its stamp is one more than the larger of the node's and the message's
+unfoldable pub turn_at : Game → ℕ → Place → List ℕ → Message → Option Turn
+turn_at g v p draws message = option_map (λ e. record { message = message; draws = draws; stamp = max p.stamp message.stamp + 1; effect = e }) (handled g v p.value message draws)
+
+-- the turn of a step: none where the node has made all its turns, where no message of the link is left, or where the handler
+-- isn't defined at the draws or one of them is no word
+abbrev pub turn_of : Game → Network → Step → Option Turn
+turn_of g w s = if nat_lt (w.place s.node).turns g.turns then option_and_then (turn_at g s.node (w.place s.node) s.draws) (front (w.link s.from s.node)) else None
 
 -- the node after its turn
 abbrev pub place_after : Place → Turn → Place
@@ -93,5 +112,5 @@ applied_or_same w s None = w
 applied_or_same w s (Some t) = applied w s t
 
 -- the network after a step: as it was where the step isn't defined
-abbrev pub stepped : Facts → Network → Step → Network
-stepped f w s = applied_or_same w s (turn_of f w s)
+abbrev pub stepped : Game → Network → Step → Network
+stepped g w s = applied_or_same w s (turn_of g w s)

@@ -4,12 +4,11 @@ use Rattle.ken_model.specs.declared.messages.Message.{Message}
 use Rattle.ken_model.specs.declared.messages.Send.{Send}
 use Rattle.ken_model.specs.declared.values.Value.{Value}
 use Rattle.ken_model.specs.declared.facts.Facts.{Facts}
-use Rattle.ken_model.specs.declared.facts.Input.{Input}
 use Rattle.ken_model.specs.declared.node.Node.{Node}
 use Rattle.ken_model.specs.declared.node.Made.{Made}
-use Rattle.ken_model.specs.Network.{outside, empty_heap, numbered}
-use Rattle.ken_model.specs.Actors.{posted_after, outs_after}
-use Rattle.ken_model.specs.Held.{Held, Game, sent_to, taken_from}
+use Rattle.ken_model.specs.Network.{empty_heap, numbered, outputs_from}
+use Rattle.ken_model.specs.Actors.{posted_after}
+use Rattle.ken_model.specs.Held.{Held, HeldRun, sent_to, taken_from}
 
 abbrev pub held_of : Node → Held
 held_of n = record {
@@ -20,9 +19,9 @@ held_of n = record {
   inputs_taken = n.inputs_taken;
 }
 
--- the game that nodes are
-abbrev pub game_of : Facts → List Node → Game
-game_of f ns = record { facts = f; nodes = map held_of ns }
+-- the run that nodes hold
+abbrev pub held_run : Facts → List Node → HeldRun
+held_run f ns = record { facts = f; nodes = map held_of ns }
 
 -- a node of `nodes` that has made no turn, with its inputs
 abbrev pub new_node : ℕ → ℕ → List Message → Held
@@ -33,10 +32,6 @@ new_node nodes size inputs = record {
   inputs = inputs;
   inputs_taken = 0;
 }
-
--- an input as a message with that number
-abbrev pub input_at : ℕ → Input → Message
-input_at number i = record { from = outside; to = i.node; number = number; stamp = 0; bytes = i.text }
 
 -- a node that has made no turn has its inputs so far, and `left` to come, which are `all` in order
 pub record IsGiven (nodes size : ℕ) (h : Held) (left all : List Message) : Type 0 where
@@ -51,4 +46,4 @@ pub record IsMade (v from stamp : ℕ) (value : Value) (sends : List Send) (outs
   pub inputs : new.inputs ≡ old.inputs
   pub widths : (length new.sent ≡ length old.sent) × (length new.taken ≡ length old.taken)
   pub done_sends : made.sends.items ≡ posted_after v stamp (λ w. length (sent_to old w)) sends
-  pub done_outs : made.outs.items ≡ outs_after (length old.place.outs) outs
+  pub done_outs : made.outs.items ≡ outputs_from (length old.place.outs) outs

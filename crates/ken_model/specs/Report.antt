@@ -4,13 +4,13 @@ use Rattle.std.specs.List.{join_with_byte, AllByRecursion}
 use Rattle.ken_model.specs.declared.values.Block.{Block}
 use Rattle.ken_model.specs.declared.values.Value.{Value}
 use Rattle.ken_model.specs.declared.messages.Step.{Step}
-use Rattle.ken_model.specs.declared.facts.Facts.{Facts}
 use Rattle.ken_model.specs.declared.reports.TurnLine.{TurnLine}
 use Rattle.ken_model.specs.declared.reports.Emission.{Emission}
 use Rattle.ken_model.specs.declared.reports.RestartLine.{RestartLine}
 use Rattle.ken_model.specs.declared.reports.Lines.{Lines}
 use Rattle.ken_model.specs.declared.reports.Ending.{Ending}
 use Rattle.ken_model.specs.declared.reports.Ending.TheVariants.{Settled, Cut}
+use Rattle.ken_model.specs.Game.{Game}
 use Rattle.ken_model.specs.Network.{start, outside}
 use Rattle.ken_model.specs.Schedule.{play, turn_lines}
 use Rattle.ken_model.specs.Ending.{nodes_of, waiting}
@@ -66,16 +66,16 @@ unfoldable pub text : Lines → List ℕ
 text l = flat_map (λ t. line (turn_words t)) l.turns ++ (flat_map (λ e. line (emit_words e)) l.emissions ++ (flat_map (λ r. line (restart_words r)) l.restarts ++ closing l))
 
 -- the lines of a run: turns, heaps and how much waits are what playing the schedule gives
-unfoldable pub lines_of : Facts → List Step → List Emission → List RestartLine → Ending → Lines
-lines_of f schedule emissions restarts ending = record {
-  turns = turn_lines f (start f) schedule;
+unfoldable pub lines_of : Game → List Step → List Emission → List RestartLine → Ending → Lines
+lines_of g schedule emissions restarts ending = record {
+  turns = turn_lines g (start g) schedule;
   emissions = emissions;
   restarts = restarts;
-  heaps = map (λ v. ((play f schedule).place v).value) (nodes_of f);
+  heaps = map (λ v. ((play g schedule).place v).value) (nodes_of g);
   ending = ending;
-  waiting = waiting f (play f schedule);
+  waiting = waiting g (play g schedule);
 }
 
 -- the report of a run
-abbrev pub report : Facts → List Step → List Emission → List RestartLine → Ending → List ℕ
-report f schedule emissions restarts ending = text (lines_of f schedule emissions restarts ending)
+abbrev pub report : Game → List Step → List Emission → List RestartLine → Ending → List ℕ
+report g schedule emissions restarts ending = text (lines_of g schedule emissions restarts ending)

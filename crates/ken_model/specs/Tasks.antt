@@ -6,7 +6,7 @@ use Rattle.ken_model.specs.declared.values.Value.{Value}
 use Rattle.ken_model.specs.declared.messages.Message.{Message}
 use Rattle.ken_model.specs.declared.handler.Task.{Task}
 use Rattle.ken_model.specs.declared.handler.Task.TheVariants.{Refuse, Ring, Tally, Share, Mix, KeyValue}
-use Rattle.ken_model.specs.Handler.{ring_counts, tally_counts, share_counts, mix_counts}
+use Rattle.ken_model.specs.Kinds.{ring_counts, tally_counts, share_counts, mix_counts}
 use Rattle.ken_model.specs.Effects.{Effect, refused}
 use Rattle.ken_model.specs.KeyValue.{kv, command_of}
 

@@ -1,6 +1,7 @@
 // The abstract network, as a program plays it.
 ghost use Rattle.std.specs.Prelude.{◌≡◌, ◌<◌, ◌↔◌, IfOk, OnErr, IsErrOf};
-ghost use Rattle.ken_model.specs.Facts.{IsWithinLimits};
+ghost use Rattle.ken_model.specs.Game.{game_of};
+ghost use Rattle.ken_model.specs.Limits.{IsWithinLimits};
 ghost use Rattle.ken_model.specs.Network.{start};
 ghost use Rattle.ken_model.specs.Held.{playing_of};
 ghost use Rattle.ken_model.specs.Actors.{AreAlike, IsStep, IsCapped, HasNoMessage, HasWrongDraws};
@@ -22,24 +23,24 @@ pub struct Actors<'a> {
 }
 
 impl<'a> Model for Actors<'a> {
-    ghost use Rattle.ken_model.specs.Held.{Game};
+    ghost use Rattle.ken_model.specs.Held.{HeldRun};
 
-    ghost Value = { Game };
+    ghost Value = { HeldRun };
 
-    ghost use Rattle.ken_model.specs.Held.{IsGame};
-    ghost use Rattle.ken_model.specs.Nodes.{game_of};
+    ghost use Rattle.ken_model.specs.Held.{IsHeldRun};
+    ghost use Rattle.ken_model.specs.Nodes.{held_run};
 
-    ghost view = { λ a. game_of a.facts.now a.nodes.items };
+    ghost view = { λ a. held_run a.facts.now a.nodes.items };
 
-    ghost invariant = { λ a. IsGame (game_of a.facts.now a.nodes.items) };
+    ghost invariant = { λ a. IsHeldRun (held_run a.facts.now a.nodes.items) };
 }
 
 impl<'a> Actors<'a> {
     /// The network at the start: empty heaps, and all inputs on the links of the outside.
     pub fn start(alloc: Global, facts: &'a Facts) -> Result<Actors<'a>, AllocError>
-        requires limits { IsWithinLimits facts.now }
+        requires limits { IsWithinLimits (game_of facts.now) }
         ensures facts { IfOk result (λ a. a.facts ≡ facts.now) }
-        ensures start { IfOk result (λ a. AreAlike (playing_of a).network (start facts.now)) }
+        ensures start { IfOk result (λ a. AreAlike (playing_of a).network (start (game_of facts.now))) }
     {
         let nodes = network::start(alloc, facts)?;
         Ok(Actors {
@@ -52,6 +53,7 @@ impl<'a> Actors<'a> {
     /// Makes a step. The refusals are tried in the order in which `StepFault` has them, `Memory` last. After each nothing
     /// has changed.
     pub fn step(&mut self, step: &Step) -> Result<Done, StepFault>
+        ensures facts { self.new.facts ≡ self.old.facts }
         ensures done { IfOk result (IsStep (playing_of self.old) (playing_of self.new) step.now) }
         ensures capped { IsErrOf result StepFault.Capped ↔ IsCapped (playing_of self.old) step.now }
         ensures no_message { IsErrOf result StepFault.NoMessage ↔ HasNoMessage (playing_of self.old) step.now }

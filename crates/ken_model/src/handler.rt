@@ -2,7 +2,7 @@
 ghost use Rattle.std.specs.Prelude.{◌≡◌, ◌+◌, ◌-◌, ◌<◌, ◌^◌, [], ◌∷◌, decimal, IfOk};
 ghost use Rattle.std.specs.Option.{option_map_or};
 ghost use Rattle.std.specs.List.{All, AllByRecursion};
-ghost use Rattle.ken_model.specs.Handler.{to_others, tally_counts};
+ghost use Rattle.ken_model.specs.Kinds.{to_others, tally_counts};
 ghost use Rattle.ken_model.specs.Heap.{IsHeap};
 ghost use Rattle.ken_model.specs.Tasks.{task_of, effect_of};
 ghost use Rattle.ken_model.specs.Answers.{effect_by};

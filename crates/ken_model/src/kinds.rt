@@ -1,5 +1,5 @@
 ghost use Rattle.std.specs.Prelude.{◌≡◌};
-ghost use Rattle.ken_model.specs.Handler.{kind_of};
+ghost use Rattle.ken_model.specs.Kinds.{kind_of};
 
 /// Which handler the nodes of a run have.
 #[derive(Clone, Copy, Debug, PartialEq, Eq)]

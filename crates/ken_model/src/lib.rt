@@ -3,29 +3,38 @@
 #![tactic(auto)]
 
 mod actors;
+mod cells;
 mod commands;
 mod facts;
 mod faults;
 mod handler;
+mod header;
 mod key_value;
 mod kinds;
 mod laws;
+mod layout_laws;
 mod lists;
 mod messages;
 mod network;
 mod node;
+mod reading;
 mod reports;
+mod states;
 #[cfg(test)]
 mod tests;
 mod values;
 
 pub use actors::Actors;
+pub use cells::{CELLS, HEAD, Head};
 pub use commands::{Command, is_pair_of};
 pub use facts::{Facts, Input, MAX_INPUTS, MAX_NODES, MAX_PAGES, MAX_TEXT, MAX_TURNS, PAGE};
 pub use faults::StepFault;
+pub use header::{empty_header, wrong_header};
 pub use kinds::Kind;
 pub use laws::{agreement_is_legal, first_gap_is_least, report_spells_its_run};
+pub use layout_laws::{breaks_at_one_place, first_is_empty, reads_what_stands, stands_for_one};
 pub use lists::{Items, Octets};
 pub use messages::{Done, Message, OUTSIDE, Out, Send, Step};
 pub use reports::{Emission, Ending, Lines, RestartLine, TurnLine};
-pub use values::{Block, Value};
+pub use states::State;
+pub use values::{Block, Value, rounded};

@@ -2,11 +2,12 @@
 ghost use Rattle.std.specs.Prelude.{◌≡◌, ℕ, ◌+◌, ◌<◌, ◌^◌, [], length, map, slice_index_or, option_copied, IfOk, IfSome, OnOk, IsErrOf, ◌↔◌};
 ghost use Rattle.std.specs.List.{All};
 ghost use Rattle.ken_model.specs.declared.facts.Facts.{Facts};
-ghost use Rattle.ken_model.specs.Facts.{IsWithinLimits};
+ghost use Rattle.ken_model.specs.Game.{game_of};
+ghost use Rattle.ken_model.specs.Limits.{IsWithinLimits};
 ghost use Rattle.ken_model.specs.Network.{front, inputs_for};
 ghost use Rattle.ken_model.specs.Actors.{IsCapped, HasNoMessage, HasWrongDraws};
-ghost use Rattle.ken_model.specs.Held.{held_at, taken_from, network_of, playing_of, IsGame};
-ghost use Rattle.ken_model.specs.Nodes.{held_of, new_node, game_of, IsGiven};
+ghost use Rattle.ken_model.specs.Held.{held_at, taken_from, network_of, playing_of, IsHeldRun};
+ghost use Rattle.ken_model.specs.Nodes.{held_of, new_node, held_run, IsGiven};
 ghost use Rattle.ken_model.specs.Planned.{IsPlanned};
 
 use crate::handler::{Answer, Task};
@@ -25,10 +26,10 @@ pub(crate) struct Plan {
 
 /// The nodes at the start, each with its inputs.
 pub(crate) fn start(alloc: Global, facts: &Facts) -> Result<Vec<Node>, AllocError>
-    requires { IsWithinLimits facts.now }
+    requires { IsWithinLimits (game_of facts.now) }
     ensures long { IfOk result (λ nodes. length nodes.items ≡ facts.now.nodes) }
     ensures given { IfOk result (λ nodes. (v : ℕ) → v < facts.now.nodes
-        → held_at facts.now (map held_of nodes.items) v ≡ new_node facts.now.nodes facts.now.size (inputs_for facts.now v)) }
+        → held_at facts.now (map held_of nodes.items) v ≡ new_node facts.now.nodes facts.now.size (inputs_for (game_of facts.now) v)) }
 {
     let mut nodes = fresh(alloc, facts)?;
     give_inputs(alloc, facts, &mut nodes)?;
@@ -49,11 +50,11 @@ fn fresh(alloc: Global, facts: &Facts) -> Result<Vec<Node>, AllocError>
 
 /// Gives each node its inputs, in order. After an error the nodes can't be used.
 fn give_inputs(alloc: Global, facts: &Facts, nodes: &mut [Node]) -> Result<(), AllocError>
-    requires limits { IsWithinLimits facts.now }
+    requires limits { IsWithinLimits (game_of facts.now) }
     requires long { length nodes.old ≡ facts.now.nodes }
     requires fresh { All (λ n. held_of n ≡ new_node facts.now.nodes facts.now.size []) nodes.old }
     ensures { OnOk result ((v : ℕ) → v < facts.now.nodes
-        → IsGiven facts.now.nodes facts.now.size (held_at facts.now (map held_of nodes.new) v) [] (inputs_for facts.now v)) }
+        → IsGiven facts.now.nodes facts.now.size (held_at facts.now (map held_of nodes.new) v) [] (inputs_for (game_of facts.now) v)) }
 {
     for input in facts.inputs.as_slice() {
         nodes[usize::from(input.node)].give(alloc, input)?;
@@ -85,11 +86,11 @@ pub(crate) fn prepare(
     nodes: &[Node],
     step: &Step,
 ) -> Result<Plan, StepFault>
-    requires { IsGame (game_of facts.now nodes.now) }
-    ensures planned { IfOk result (IsPlanned (game_of facts.now nodes.now) step.now) }
-    ensures capped { IsErrOf result StepFault.Capped ↔ IsCapped (playing_of (game_of facts.now nodes.now)) step.now }
-    ensures no_message { IsErrOf result StepFault.NoMessage ↔ HasNoMessage (playing_of (game_of facts.now nodes.now)) step.now }
-    ensures draws { IsErrOf result StepFault.Draws ↔ HasWrongDraws (playing_of (game_of facts.now nodes.now)) step.now }
+    requires { IsHeldRun (held_run facts.now nodes.now) }
+    ensures planned { IfOk result (IsPlanned (held_run facts.now nodes.now) step.now) }
+    ensures capped { IsErrOf result StepFault.Capped ↔ IsCapped (playing_of (held_run facts.now nodes.now)) step.now }
+    ensures no_message { IsErrOf result StepFault.NoMessage ↔ HasNoMessage (playing_of (held_run facts.now nodes.now)) step.now }
+    ensures draws { IsErrOf result StepFault.Draws ↔ HasWrongDraws (playing_of (held_run facts.now nodes.now)) step.now }
 {
     let Some(receiver) = nodes.get(usize::from(step.node)) else {
         return Err(StepFault::NoMessage);

@@ -1,10 +1,10 @@
 // A node of the abstract network, as a program holds it.
 ghost use Rattle.std.specs.Prelude.{◌≡◌, ℕ, ◌+◌, ◌<◌, ◌≤◌, ◌^◌, ◌++◌, ◌==◌, [], ◌∷◌, if◌then◌else◌, length, map, slice_index_or, vec_len, vec_capacity, IfOk, IsOk, OnOk, OnErr};
 ghost use Rattle.std.specs.List.{All};
-ghost use Rattle.ken_model.specs.Network.{numbered};
-ghost use Rattle.ken_model.specs.Actors.{posted_after, outs_after};
+ghost use Rattle.ken_model.specs.Network.{input_at, numbered, outputs_from};
+ghost use Rattle.ken_model.specs.Actors.{posted_after};
 ghost use Rattle.ken_model.specs.Held.{taken_from};
-ghost use Rattle.ken_model.specs.Nodes.{held_of, new_node, input_at, IsMade};
+ghost use Rattle.ken_model.specs.Nodes.{held_of, new_node, IsMade};
 ghost use Rattle.ken_model.specs.Answers.{changed, value_after};
 ghost use Rattle.ken_model.specs.Letters.{send_of, copy_of, count_at};
 
@@ -167,9 +167,10 @@ fn copied(alloc: Global, text: &Octets) -> Result<Octets, AllocError>
 }
 
 /// Copies of outputs, numbered on from `before`.
+#[tactic(auto, unfolding(crate::specs::Network::outputs_from))]
 fn numbered_outs(alloc: Global, before: usize, texts: &[Octets]) -> Result<Vec<Out>, AllocError>
     requires { before + length texts.now < 2 ^ 64 }
-    ensures { IfOk result (λ v. v.items ≡ outs_after before texts.now) }
+    ensures { IfOk result (λ v. v.items ≡ outputs_from before texts.now) }
 {
     let mut outs = Vec::new(alloc);
     for text in texts {

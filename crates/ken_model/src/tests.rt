@@ -1,6 +1,6 @@
 use crate::{
     Command, Items, Kind, Octets, agreement_is_legal, first_gap_is_least, is_pair_of,
-    report_spells_its_run,
+    report_spells_its_run, rounded,
 };
 use std::test::Fail;
 
@@ -34,6 +34,8 @@ fn each_public_call_answers(rt: HostRuntime) -> Result<(), Fail> {
     assert!(rt; !items.is_empty());
     assert_eq!(rt; items.as_slice(), [7, 8].as_slice());
     assert_eq!(rt; items.into_vec().as_slice(), [7, 8].as_slice());
+
+    assert_eq!(rt; [rounded(0), rounded(16), rounded(17)], [0, 16, 32]);
 
     agreement_is_legal();
     first_gap_is_least();

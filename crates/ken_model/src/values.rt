@@ -20,38 +20,25 @@ pub struct Block {
 pub struct Value {
     /// The heap's size in bytes.
     pub size: u64,
+    /// A number that the handler keeps.
     pub root: u64,
     pub blocks: Items<Block>,
 }
 
 impl Value {
-    /// The root: a number that the handler keeps.
-    pub fn root(&self) -> u64
-        ensures { result ≡ self.now.root }
-    {
-        self.root
-    }
-
-    /// Sets the root.
-    pub fn set_root(&mut self, root: u64)
-        ensures { self.new ≡ record self.old { root = root } }
-    {
-        self.root = root;
-    }
-
     /// The place of a block of `len` bytes in the first gap that it fits into.
     pub(crate) fn first_gap(&self, len: usize) -> Option<u64>
         requires heap { IsHeap self.now }
         requires len { len < 2 ^ 63 }
         ensures { result ≡ first_gap self.now len }
     {
-        let needed = rounded(len);
+        let needed = rounded(len as u64);
         let mut from = 16;
         for block in self.blocks.as_slice() {
             if block.place >= from + 32 + needed {
                 return Some(from + 16);
             }
-            from = block.place + rounded(block.bytes.len());
+            from = block.place + rounded(block.bytes.len() as u64);
         }
         if from + 16 + needed <= self.size {
             Some(from + 16)
@@ -122,10 +109,10 @@ impl Value {
     }
 }
 
-/// Rounded up to a multiple of 16.
-fn rounded(len: usize) -> u64
+/// A length in bytes, below 2^63, rounded up to a multiple of 16: what a block of that many bytes covers from its place on.
+pub fn rounded(len: u64) -> u64
     requires { len < 2 ^ 63 }
     ensures { result ≡ rounded len }
 {
-    (len as u64 + 15) / 16 * 16
+    (len + 15) / 16 * 16
 }

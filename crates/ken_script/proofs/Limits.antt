@@ -6,7 +6,8 @@ use Rattle.serde_json.specs.Data.{Data}
 use Rattle.serde_json.specs.Find.{get, as_str, as_array}
 use Rattle.ken_model.specs.declared.facts.Input.{Input}
 use Rattle.ken_model.specs.declared.facts.TheConstants.{MAX_NODES, MAX_PAGES, MAX_TURNS, MAX_INPUTS, MAX_TEXT}
-use Rattle.ken_model.specs.Facts.{IsPlain, ArePlain, IsWithinLimits, IsPlainRun}
+use Rattle.ken_model.specs.Limits.{IsPlain, ArePlain, IsWithinLimits, IsPlainRun}
+use Rattle.ken_model.specs.Game.{game_of}
 use Rattle.ken_script.specs.declared.scripts.TheConstants.{DEFAULT_PAGES, DEFAULT_TURNS}
 use Rattle.ken_script.specs.declared.scripts.Script.{Script}
 use Rattle.ken_script.specs.Keys.{whole, within, taken_or, items_in}
@@ -128,7 +129,7 @@ plain_texts [] h = tt
 plain_texts (x ∷ xs) h = (plain_bytes x.text (true_of_not (list_all is_plain x.text) h.0), plain_texts xs h.1)
 
 module _ (d : Data) (s : Script) (states : States d s) where
-  pub limits_of : IsWithinLimits s.facts
+  pub limits_of : IsWithinLimits (game_of s.facts)
   limits_of =
       let unbroken = none_broken (rules_of d) states.right in
       let nodes = within_bounds 1 MAX_NODES s.facts.nodes (option_and_then whole (get (codes "nodes") d)) states.nodes in
@@ -147,7 +148,7 @@ module _ (d : Data) (s : Script) (states : States d s) where
         inputs = rw count at (both_all (node_count d) s.facts.inputs items.1 (none_passes (λ (i : Input). nat_lt MAX_TEXT (length i.text)) s.facts.inputs long));
       }
 
-  pub plain_run_of : IsPlainRun s.facts
+  pub plain_run_of : IsPlainRun (game_of s.facts)
   plain_run_of =
       let unbroken = none_broken (rules_of d) states.right in
       let odd : odd_text s.facts.inputs ≡ None = rw states.inputs at unbroken.1.1.1.1.1.1.1.1.0 in

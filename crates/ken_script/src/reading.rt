@@ -1,6 +1,7 @@
 ghost use Rattle.std.specs.Prelude.{◌≡◌, IfOk, IfErr};
 ghost use Rattle.serde_json.specs.View.{view};
-ghost use Rattle.ken_model.specs.Facts.{IsWithinLimits, IsPlainRun};
+ghost use Rattle.ken_model.specs.Limits.{IsWithinLimits, IsPlainRun};
+ghost use Rattle.ken_model.specs.Game.{game_of};
 ghost use Rattle.ken_script.specs.Object.{IsObject};
 ghost use Rattle.ken_script.specs.Faults.{IsFaultOf, IsFaultIn};
 ghost use Rattle.ken_script.specs.Says.{States, Says};
@@ -80,8 +81,8 @@ fn script_in(alloc: Global, object: &Value) -> Result<Script, ScriptFault>
 pub fn read(alloc: Global, bytes: &[u8]) -> Result<Script, ScriptFault>
     ensures says { IfOk result (Says bytes.now) }
     ensures breaks { IfErr result (IsFaultOf bytes.now) }
-    ensures limits { IfOk result (λ script. IsWithinLimits script.facts) }
-    ensures plain { IfOk result (λ script. IsPlainRun script.facts) }
+    ensures limits { IfOk result (λ script. IsWithinLimits (game_of script.facts)) }
+    ensures plain { IfOk result (λ script. IsPlainRun (game_of script.facts)) }
 {
     let object = object_in(alloc, bytes)?;
     script_in(alloc, &object)

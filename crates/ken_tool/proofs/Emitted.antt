@@ -9,9 +9,9 @@ use Rattle.ken_model.specs.Emissions.{emitted_by, AreEmitted, largest_of, AreByN
 use Rattle.ken_model.specs.Spelling.{IsWord, IsPrintableEmission}
 use Rattle.ken_tool.specs.declared.node.Node.{Node}
 use Rattle.ken_model.specs.Report.{IsOneLine}
-use Rattle.ken_tool.specs.Turns.{outputs_from}
 use Rattle.ken_tool.specs.Ended.{emissions_at, emissions_from}
 use Rattle.ken_tool.proofs.Standing.{AllByRecursion-append}
+use Rattle.ken_model.specs.Network.{outputs_from}
 
 emitted_by-append : (v : ℕ) (xs ys : List Emission) → emitted_by v (xs ++ ys) ≡ emitted_by v xs ++ emitted_by v ys
 emitted_by-append v xs ys = simp (filter-append, map-append)
@@ -43,23 +43,32 @@ emitted_by-from k (suc i) (n ∷ ns) d lt =
     ∙ ap (λ j. emitted_by j (emissions_from (k + 1) ns)) there ∙ emitted_by-from (k + 1) i ns d (omega arith)
 
 -- emissions stand node by node
-by_node_sooner : (nodes k j : ℕ) (es : List Emission) → j ≤ k → AreByNode nodes k es → AreByNode nodes j es
+by_node_sooner : (k j : ℕ) (es : List Emission) → j ≤ k → AreByNode k es → AreByNode j es
 unfolding AreByNode
-by_node_sooner nodes k j [] le by = tt
-by_node_sooner nodes k j (e ∷ es) le by = (omega (arith, by.0), by.1, by.2)
+by_node_sooner k j [] le by = tt
+by_node_sooner k j (e ∷ es) le by = (omega (arith, by.0), by.1)
 
-by_node_after : (nodes k : ℕ) (outs : List Out) (es : List Emission) → k < nodes → AreByNode nodes k es → AreByNode nodes k (emissions_at k outs ++ es)
+by_node_after : (k : ℕ) (outs : List Out) (es : List Emission) → AreByNode k es → AreByNode k (emissions_at k outs ++ es)
 unfolding AreByNode
-by_node_after nodes k [] es lt by = by
-by_node_after nodes k (o ∷ os) es lt by = (omega arith, lt, by_node_after nodes k os es lt by)
+by_node_after k [] es by = by
+by_node_after k (o ∷ os) es by = (omega arith, by_node_after k os es by)
 
-no_emissions : (nodes k : ℕ) → AreByNode nodes k []
+no_emissions : (k : ℕ) → AreByNode k []
 unfolding AreByNode
-no_emissions nodes k = tt
+no_emissions k = tt
 
-pub AreByNode-from : (nodes k : ℕ) (ns : List Node) → k + length ns ≤ nodes → AreByNode nodes k (emissions_from k ns)
-AreByNode-from nodes k [] le = no_emissions nodes k
-AreByNode-from nodes k (n ∷ ns) le = by_node_after nodes k n.emitted.items _ (omega arith) (by_node_sooner nodes (k + 1) k _ (omega arith) (AreByNode-from nodes (k + 1) ns (omega arith)))
+pub AreByNode-from : (k : ℕ) (ns : List Node) → AreByNode k (emissions_from k ns)
+AreByNode-from k [] = no_emissions k
+AreByNode-from k (n ∷ ns) = by_node_after k n.emitted.items _ (by_node_sooner (k + 1) k _ (omega arith) (AreByNode-from (k + 1) ns))
+
+-- and they are by nodes of the run
+known_after : (nodes k : ℕ) (outs : List Out) (es : List Emission) → k < nodes → AllByRecursion (λ (e : Emission). e.node < nodes) es → AllByRecursion (λ (e : Emission). e.node < nodes) (emissions_at k outs ++ es)
+known_after nodes k [] es lt known = known
+known_after nodes k (o ∷ os) es lt known = (lt, known_after nodes k os es lt known)
+
+pub known-from : (nodes k : ℕ) (ns : List Node) → k + length ns ≤ nodes → AllByRecursion (λ (e : Emission). e.node < nodes) (emissions_from k ns)
+known-from nodes k [] le = tt
+known-from nodes k (n ∷ ns) le = known_after nodes k n.emitted.items _ (omega arith) (known-from nodes (k + 1) ns (omega arith))
 
 -- outputs with their numbers, once each
 at_front : (front xs : List (List ℕ)) (x : List ℕ) → slice_get (front ++ x ∷ xs) (length front) ≡ Some x

@@ -2,11 +2,10 @@
 use Rattle.std.proofs.Common.{◌≡◌, ℕ, suc, ◌+◌, ◌<◌, max, List, [], ◌∷◌, map, length, slice_index_or, Option, Some, None, option_map, refl, sym, subst, arith}
 use Rattle.std.specs.List.{AllByRecursion}
 use Rattle.ken_model.specs.declared.messages.Message.{Message}
-use Rattle.ken_model.specs.declared.facts.Facts.{Facts}
+use Rattle.ken_model.specs.Game.{Game}
 use Rattle.ken_model.specs.declared.reports.TurnLine.{TurnLine}
-use Rattle.ken_model.specs.Handler.{after}
 use Rattle.ken_model.specs.Effects.{Effect}
-use Rattle.ken_model.specs.Network.{Place, Turn, turn_at, place_after, first_place}
+use Rattle.ken_model.specs.Network.{Place, Turn, handled, turn_at, place_after, first_place}
 use Rattle.ken_model.specs.History.{AreTurns, line_at}
 use Rattle.ken_tool.specs.declared.node.Node.{Node}
 use Rattle.ken_tool.specs.Timeline.{StampsRise}
@@ -22,14 +21,14 @@ stamp_grows p draws m None t made = absurd cc
 stamp_grows p draws m (Some e) t made = let is : max p.stamp m.stamp + 1 ≡ t.stamp = cc in omega arith
 
 -- a turn has a larger stamp than the node had
-turn_at-grows : (f : Facts) (v : ℕ) (p : Place) (draws : List ℕ) (m : Message) (t : Turn) → turn_at f v p draws m ≡ Some t → p.stamp < t.stamp
+turn_at-grows : (g : Game) (v : ℕ) (p : Place) (draws : List ℕ) (m : Message) (t : Turn) → turn_at g v p draws m ≡ Some t → p.stamp < t.stamp
 unfolding turn_at
-turn_at-grows f v p draws m t made = stamp_grows p draws m (after f.kind v f.nodes p.value m draws) t made
+turn_at-grows g v p draws m t made = stamp_grows p draws m (handled g v p.value m draws) t made
 
-StampsRise-turns : (f : Facts) (v : ℕ) (p : Place) (ts : List Turn) → AreTurns f v p ts → StampsRise p.stamp (map (line_at v) ts)
+StampsRise-turns : (g : Game) (v : ℕ) (p : Place) (ts : List Turn) → AreTurns g v p ts → StampsRise p.stamp (map (line_at v) ts)
 unfolding AreTurns
-StampsRise-turns f v p [] turns = tt
-StampsRise-turns f v p (t ∷ ts) turns = (turn_at-grows f v p t.draws t.message t turns.1, StampsRise-turns f v (place_after p t) ts turns.2)
+StampsRise-turns g v p [] turns = tt
+StampsRise-turns g v p (t ∷ ts) turns = (turn_at-grows g v p t.draws t.message t turns.1, StampsRise-turns g v (place_after p t) ts turns.2)
 
 -- each node's turns are its own and rise
 abbrev IsInTurn : ℕ → Node → Type 0
@@ -43,10 +42,10 @@ in_turn_from k (n ∷ ns) each =
     let more : (i : ℕ) → k + suc i ≡ k + 1 + i = λ i. omega arith in
     (here.0, here.1, in_turn_from (k + 1) ns (λ i d lt. subst (λ j. IsInTurn j (slice_index_or ns i d)) (more i) (each (suc i) d (omega arith))))
 
-pub AreInTurn-running : (f : Facts) (nodes : List Node) → IsRunning f nodes → AreInTurn 0 nodes
-AreInTurn-running f nodes r = in_turn_from 0 nodes (λ i d lt.
+pub AreInTurn-running : (g : Game) (nodes : List Node) → IsRunning g nodes → AreInTurn 0 nodes
+AreInTurn-running g nodes r = in_turn_from 0 nodes (λ i d lt.
     (let s = r.each i d (omega (arith, r.width)) in
     let zero_more : 0 + i ≡ i = omega arith in
     let lines = sym s.lines in
     subst (λ j. IsInTurn j (slice_index_or nodes i d)) (sym zero_more)
-    (subst (AllByRecursion (λ (l : TurnLine). l.step.node ≡ i)) lines (own_lines i (r.history i)), subst (StampsRise 0) lines (StampsRise-turns f i (first_place f) (r.history i) s.turns))))
+    (subst (AllByRecursion (λ (l : TurnLine). l.step.node ≡ i)) lines (own_lines i (r.history i)), subst (StampsRise 0) lines (StampsRise-turns g i (first_place g) (r.history i) s.turns))))

@@ -10,7 +10,7 @@ use Rattle.std.proofs.lemmas.Cmp.{ranked}
 use Rattle.std.proofs.lemmas.List.Elements.{All-nil, All-cons, All-head, All-tail, All-filter}
 use Rattle.ken_model.specs.declared.reports.TurnLine.{TurnLine}
 use Rattle.ken_model.specs.Schedule.{ComesBefore}
-use Rattle.ken_model.specs.History.{lines_at, Rises}
+use Rattle.ken_model.specs.History.{lines_by, Rises}
 use Rattle.ken_model.proofs.Turns.{Rises-stamps}
 use Rattle.ken_tool.specs.Timeline.{Entry, StampsRise, IsKeyed, IsInOrder}
 
@@ -31,7 +31,7 @@ ordering_then-ComesBefore stamp node stamp2 node2 = go (nat_cmp stamp stamp2) (n
 
 -- all lines of v's node have smaller stamps
 abbrev IsLast : TurnLine → List TurnLine → Type 0
-IsLast v ls = All (λ (l : TurnLine). l.stamp < v.stamp) (lines_at v.step.node ls)
+IsLast v ls = All (λ (l : TurnLine). l.stamp < v.stamp) (lines_by v.step.node ls)
 
 -- entries in order, all after (stamp, node), which v can join as the last of its node
 record CanJoin (v : TurnLine) (stamp node : ℕ) (es : List Entry) : Type 0 where
@@ -43,8 +43,8 @@ record CanJoin (v : TurnLine) (stamp node : ℕ) (es : List Entry) : Type 0 wher
 record Joined (v : TurnLine) (stamp node : ℕ) (old new : List Entry) : Type 0 where
   keyed : AllByRecursion IsKeyed new
   rises : Rises stamp node (values_of new)
-  its_lines : lines_at v.step.node (values_of new) ≡ lines_at v.step.node (values_of old) ++ v ∷ []
-  others : (u : ℕ) → u ≢ v.step.node → lines_at u (values_of new) ≡ lines_at u (values_of old)
+  its_lines : lines_by v.step.node (values_of new) ≡ lines_by v.step.node (values_of old) ++ v ∷ []
+  others : (u : ℕ) → u ≢ v.step.node → lines_by u (values_of new) ≡ lines_by u (values_of old)
   longer : length (values_of new) ≡ length (values_of old) + 1
 
 -- no stamp is both smaller and not
@@ -64,16 +64,16 @@ module _ (v : TurnLine) where
   IsLast-head : (l : TurnLine) (ls : List TurnLine) → IsLast v (l ∷ ls) → l.step.node ≡ v.step.node → l.stamp < v.stamp
   IsLast-head l ls last same = go (l.step.node == v.step.node) (eq-eqb l.step.node v.step.node same) last
     where
-      go : (b : Bool) → b ≡ true → All (λ (x : TurnLine). x.stamp < v.stamp) (if b then l ∷ lines_at v.step.node ls else lines_at v.step.node ls) → l.stamp < v.stamp
-      go true e all = All-head (λ (x : TurnLine). x.stamp < v.stamp) l (lines_at v.step.node ls) all
+      go : (b : Bool) → b ≡ true → All (λ (x : TurnLine). x.stamp < v.stamp) (if b then l ∷ lines_by v.step.node ls else lines_by v.step.node ls) → l.stamp < v.stamp
+      go true e all = All-head (λ (x : TurnLine). x.stamp < v.stamp) l (lines_by v.step.node ls) all
       go false e all = absurd cc
 
   -- so have those after the first
   IsLast-tail : (l : TurnLine) (ls : List TurnLine) → IsLast v (l ∷ ls) → IsLast v ls
   IsLast-tail l ls last = go (l.step.node == v.step.node) last
     where
-      go : (b : Bool) → All (λ (x : TurnLine). x.stamp < v.stamp) (if b then l ∷ lines_at v.step.node ls else lines_at v.step.node ls) → IsLast v ls
-      go true all = All-tail (λ (x : TurnLine). x.stamp < v.stamp) l (lines_at v.step.node ls) all
+      go : (b : Bool) → All (λ (x : TurnLine). x.stamp < v.stamp) (if b then l ∷ lines_by v.step.node ls else lines_by v.step.node ls) → IsLast v ls
+      go true all = All-tail (λ (x : TurnLine). x.stamp < v.stamp) l (lines_by v.step.node ls) all
       go false all = all
 
   -- before all others: none of them is of its node
@@ -81,7 +81,7 @@ module _ (v : TurnLine) where
   unfolding Rises
   Joined-first stamp node es before can =
       let late = Rises-stamps v.stamp v.stamp v.step.node (values_of es) (le_refl v.stamp) can.rises in
-      let none : lines_at v.step.node (values_of es) ≡ [] = nil_from_stamps v.stamp _ can.last (All-filter (λ (l : TurnLine). l.step.node == v.step.node) (λ (l : TurnLine). v.stamp ≤ l.stamp) (values_of es) late) in
+      let none : lines_by v.step.node (values_of es) ≡ [] = nil_from_stamps v.stamp _ can.last (All-filter (λ (l : TurnLine). l.step.node == v.step.node) (λ (l : TurnLine). v.stamp ≤ l.stamp) (values_of es) late) in
       record {
         keyed = ((refl, refl), can.keyed);
         rises = (before, can.rises);
@@ -142,14 +142,14 @@ StampsRise-last stamp (k ∷ ls) l rest rise = All-cons (λ (x : TurnLine). x.st
 pub record IsAdding (node : ℕ) (turns before : List TurnLine) (entries : List Entry) (left : List TurnLine) : Type 0 where
   pub order : IsInOrder entries
   pub own : AllByRecursion (λ (t : TurnLine). t.step.node ≡ node) left
-  pub its_lines : lines_at node (values_of entries) ++ left ≡ turns
-  pub others : (v : ℕ) → v ≢ node → lines_at v (values_of entries) ≡ lines_at v before
+  pub its_lines : lines_by node (values_of entries) ++ left ≡ turns
+  pub others : (v : ℕ) → v ≢ node → lines_by v (values_of entries) ≡ lines_by v before
   pub length_is : length (values_of entries) + length left ≡ length before + length turns
 
 -- the next of them is added, at its stamp and node
 IsAdding-with_line : (turns before : List TurnLine) (entries : List Entry) (t : TurnLine) (left : List TurnLine) → StampsRise 0 turns → IsAdding t.step.node turns before entries (t ∷ left) → IsAdding t.step.node turns before (with_line entries t) left
 IsAdding-with_line turns before entries t left rise a =
-    let here = lines_at t.step.node (values_of entries) in
+    let here = lines_by t.step.node (values_of entries) in
     let all : StampsRise 0 (here ++ t ∷ left) = subst (StampsRise 0) (sym a.its_lines) rise in
     let can : CanJoin t 0 0 entries = record { keyed = a.order.keyed; rises = a.order.rises; last = StampsRise-last 0 here t left all } in
     let joined = Joined-insert_entry t 0 0 entries (inl (StampsRise-above 0 here t left all)) can in

@@ -19,3 +19,4 @@ mod Reported
 mod Complete
 mod Asked
 mod Oracles
+mod InMemory

@@ -5,7 +5,7 @@ use Rattle.std.proofs.lemmas.Bool.{cases_eq}
 use Rattle.std.proofs.lemmas.List.{length-set, get_or-set_same, get_or-set_other}
 use Rattle.ken_model.specs.declared.messages.Message.{Message}
 use Rattle.ken_model.specs.declared.messages.Send.{Send}
-use Rattle.ken_model.specs.declared.facts.Facts.{Facts}
+use Rattle.ken_model.specs.Game.{Game}
 use Rattle.ken_model.specs.Network.{numbered}
 use Rattle.ken_tool.specs.Turns.{posted, counted, IsPayload}
 use Rattle.ken_tool.specs.Running.{sent_to, IsPosted}
@@ -59,7 +59,7 @@ sent_to-posted v w stamp counts (s ∷ ss) known =
     (cases_eq s.to w)
 
 -- all that a turn sends is from its node, to nodes of the run, with its stamp
-pub ArePosted-posted : (f : Facts) (v latest stamp : ℕ) (counts : List ℕ) (ss : List Send) → stamp ≤ latest → AllByRecursion (λ (s : Send). (s.to < f.nodes) × IsPayload s.bytes) ss → AllByRecursion (IsPosted f v latest) (posted v stamp counts ss)
+pub ArePosted-posted : (g : Game) (v latest stamp : ℕ) (counts : List ℕ) (ss : List Send) → stamp ≤ latest → AllByRecursion (λ (s : Send). (s.to < g.nodes) × IsPayload s.bytes) ss → AllByRecursion (IsPosted g v latest) (posted v stamp counts ss)
 unfolding posted
-ArePosted-posted f v latest stamp counts [] le known = tt
-ArePosted-posted f v latest stamp counts (s ∷ ss) le known = ((refl, known.0.0, (le, known.0.1)), ArePosted-posted f v latest stamp (one_more counts s.to) ss le known.1)
+ArePosted-posted g v latest stamp counts [] le known = tt
+ArePosted-posted g v latest stamp counts (s ∷ ss) le known = ((refl, known.0.0, (le, known.0.1)), ArePosted-posted g v latest stamp (one_more counts s.to) ss le known.1)

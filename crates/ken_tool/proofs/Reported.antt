@@ -19,22 +19,24 @@ use Rattle.ken_script.specs.declared.faults.ScriptFault.{ScriptFault}
 use Rattle.ken_script.specs.declared.faults.ScriptFault.TheVariants as script
 use Rattle.ken_script.proofs.Told.{says_by_its_front, breaks_by_its_front}
 use Rattle.ken_tool.specs.Ended.{IsRunOf}
-use Rattle.ken_tool.specs.Draws.{Telling, HasKept}
+use Rattle.ken_app.specs.Oracles.{Telling}
+use Rattle.ken_tool.specs.Draws.{HasKept, HasKeptNothing}
 use Rattle.ken_tool.specs.declared.status.Status.{Status}
 use Rattle.ken_tool.specs.declared.status.Status.TheVariants as status
 use Rattle.ken_tool.specs.Statuses.{of_script}
-use Rattle.ken_tool.specs.Headline.{AreTold, IsReport, IsFront, IsQuiet, IsRunOfSource, IsRefusal, IsOut, Wrote, Ran, HasKeptNothing}
+use Rattle.ken_tool.specs.Headline.{AreTold, IsReport, IsFront, IsQuiet, IsRunOfSource, IsRefusal, IsOut, Wrote, Ran}
+use Rattle.ken_model.specs.Game.{game_of}
 
 -- what a text spells, by the run that it spells
 record IsReportOf {O : Type 0} (telling : Telling O) (kept : ℕ → Option O) (b : List ℕ) (script : Script) (ending : Ending) (w : List ℕ) (run : Spelling) : Type 0 where
-  text : w ≡ report script.facts run.schedule run.emissions run.restarts ending
-  legal : IsLegal script.facts run.schedule
-  emissions : AreLegalEmissions script.facts (play script.facts run.schedule) run.emissions
-  by_node : AreByNode script.facts.nodes 0 run.emissions
+  text : w ≡ report (game_of script.facts) run.schedule run.emissions run.restarts ending
+  legal : IsLegal (game_of script.facts) run.schedule
+  emissions : AreLegalEmissions (game_of script.facts) (play (game_of script.facts) run.schedule) run.emissions
+  by_node : AreByNode 0 run.emissions
   restarts : run.restarts ≡ []
-  once : AreOnce script.facts (play script.facts run.schedule) run.emissions
-  ends : Ends script.facts (play script.facts run.schedule) run.emissions ending
-  drawn : HasKept telling kept script.facts run.schedule
+  once : AreOnce (game_of script.facts) (play (game_of script.facts) run.schedule) run.emissions
+  ends : Ends (game_of script.facts) (play (game_of script.facts) run.schedule) run.emissions ending
+  drawn : HasKept telling kept (game_of script.facts) script.seed run.schedule
 
 -- the bytes that a source tells, or those that were read where it doesn't
 pub record IsTold (left : Option (List ℕ)) (read : List ℕ) : Type 0 where
@@ -53,7 +55,7 @@ told_by (Some xs) read front = record {
 }
 
 module _ {O : Type 0} (telling : Telling O) (kept : ℕ → Option O) where
-  pub report_of-run : (b : List ℕ) (script : Script) (l : Lines) → Says b script → IsRunOf script.facts l → HasKept telling kept script.facts (steps_of l.turns) → IsReport telling kept b l.ending (text l)
+  pub report_of-run : (b : List ℕ) (script : Script) (l : Lines) → Says b script → IsRunOf (game_of script.facts) l → HasKept telling kept (game_of script.facts) script.seed (steps_of l.turns) → IsReport telling kept b l.ending (text l)
   report_of-run b script l says run drawn =
       let told : Spelling = record { schedule = steps_of l.turns; emissions = l.emissions; restarts = l.restarts } in
       let spelled : spell (text l) ≡ told = report_spells_its_run l run.printable in
@@ -101,7 +103,7 @@ module _ {O : Type 0} (telling : Telling O) (kept : ℕ → Option O) where
   ran_written left old new l (status.Script rule index) run out = absurd out
 
   -- a script that was run, as what the source gives
-  pub run_by : (left : Option (List ℕ)) (read : List ℕ) (s : Script) (l : Lines) → IsTold left read → Says read s → IsRunOf s.facts l → HasKept telling kept s.facts (steps_of l.turns) → IsRunOfSource telling kept left l
+  pub run_by : (left : Option (List ℕ)) (read : List ℕ) (s : Script) (l : Lines) → IsTold left read → Says read s → IsRunOf (game_of s.facts) l → HasKept telling kept (game_of s.facts) s.seed (steps_of l.turns) → IsRunOfSource telling kept left l
   run_by left read s l told says run drawn = record { read = told.whole; told = told.told; script = s; says = told.says s says; run = run; drawn = drawn }
 
 -- a status with which nothing is written tells of no report

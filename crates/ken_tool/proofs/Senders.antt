@@ -4,7 +4,7 @@ use Rattle.std.specs.List.{AllByRecursion, range_with_len}
 use Rattle.std.proofs.lemmas.Bool.{cases_eq, cases_lt, cond_both}
 use Rattle.std.proofs.lemmas.List.Sums.{sum_by-cons, sum_by-le-sum_by, length-filter, count_by-le-length}
 use Rattle.ken_model.specs.declared.messages.Message.{Message}
-use Rattle.ken_model.specs.declared.facts.Facts.{Facts}
+use Rattle.ken_model.specs.Game.{Game}
 use Rattle.ken_model.specs.declared.facts.Input.{Input}
 use Rattle.ken_model.specs.Network.{Turn, outside, inputs_from}
 use Rattle.ken_model.specs.History.{sent_by, messages}
@@ -95,9 +95,9 @@ some_sender [] some = absurd (omega arith)
 some_sender (m ∷ ms) some = (m.from, (let q : (m.from == m.from) ≡ true = eq-eqb m.from m.from refl in rw q (omega arith)))
 
 -- all messages of a link of a node are what its turns sent
-pub messages-inside : (f : Facts) (h : ℕ → List Turn) (u v : ℕ) → ((u ≡ outside) → ⊥) → messages f h u v ≡ sent_by u v 0 (h u)
+pub messages-inside : (game : Game) (h : ℕ → List Turn) (u v : ℕ) → ((u ≡ outside) → ⊥) → messages game h u v ≡ sent_by u v 0 (h u)
 unfolding messages
-messages-inside f h u v inside = let q : (u == outside) ≡ false = ne_eqb u outside inside in rw q
+messages-inside game h u v inside = let q : (u == outside) ≡ false = ne_eqb u outside inside in rw q
 
 -- no turns send nothing
 pub sent_by-nil : (u v n : ℕ) (ts : List Turn) → ts ≡ [] → sent_by u v n ts ≡ []
@@ -111,11 +111,11 @@ length-inputs_from v n (i ∷ is) =
     cond_both (i.node == v) _ _ (λ (ms : List Message). length ms ≤ suc (length is)) (λ _. omega (arith, length-inputs_from v (n + 1) is)) (λ _. omega (arith, length-inputs_from v n is))
 
 -- a sender is the outside, a node, or a stranger
-pub data IsKnown (f : Facts) (u : ℕ) : Type 0 where
-  input : u ≡ outside → IsKnown f u
-  node : u < f.nodes → IsKnown f u
-  stranger : f.nodes ≤ u → ((u ≡ outside) → ⊥) → IsKnown f u
+pub data IsKnown (game : Game) (u : ℕ) : Type 0 where
+  input : u ≡ outside → IsKnown game u
+  node : u < game.nodes → IsKnown game u
+  stranger : game.nodes ≤ u → ((u ≡ outside) → ⊥) → IsKnown game u
 
 -- each is one of these
-pub known_sender : (f : Facts) (u : ℕ) → IsKnown f u
-known_sender f u = ⊎_elim (λ e. IsKnown.input e) (λ ne. ⊎_elim (λ lt. IsKnown.node lt) (λ past. IsKnown.stranger past ne) (cases_lt u f.nodes)) (cases_eq u outside)
+pub known_sender : (game : Game) (u : ℕ) → IsKnown game u
+known_sender game u = ⊎_elim (λ e. IsKnown.input e) (λ ne. ⊎_elim (λ lt. IsKnown.node lt) (λ past. IsKnown.stranger past ne) (cases_lt u game.nodes)) (cases_eq u outside)

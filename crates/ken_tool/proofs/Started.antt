@@ -5,15 +5,15 @@ use Rattle.std.proofs.lemmas.Bool.{cases_eq}
 use Rattle.std.proofs.lemmas.List.{get_or-replicate, get_or_past, length-replicate}
 use Rattle.std.proofs.lemmas.Bool.{cases_lt}
 use Rattle.ken_model.specs.declared.messages.Message.{Message}
-use Rattle.ken_model.specs.declared.facts.Facts.{Facts}
+use Rattle.ken_model.specs.Game.{Game}
 use Rattle.ken_model.specs.declared.facts.Input.{Input}
-use Rattle.ken_model.specs.Facts.{IsWithinLimits, IsPlainRun, ArePlain}
-use Rattle.ken_model.specs.Network.{outside, inputs_from, inputs_for}
+use Rattle.ken_model.specs.Limits.{IsWithinLimits, IsPlainRun, ArePlain}
+use Rattle.ken_model.specs.Network.{outside, inputs_from, inputs_for, outputs_from}
 use Rattle.ken_model.specs.History.{AreTurns, sent_by}
 use Rattle.ken_model.specs.Spelling.{IsPrintableTurn}
 use Rattle.ken_tool.specs.declared.node.Node.{Node}
 use Rattle.ken_model.specs.Report.{IsOneLine}
-use Rattle.ken_tool.specs.Turns.{outputs_from, HoldsTexts}
+use Rattle.ken_tool.specs.Turns.{HoldsTexts}
 use Rattle.ken_tool.specs.Running.{IsStanding, IsRunning, IsLetter, from}
 use Rattle.ken_tool.specs.Drive.{IsGiven}
 use Rattle.ken_tool.proofs.Standing.{AllByRecursion-weaker}
@@ -38,32 +38,32 @@ inputs_nowhere v n nodes [] past known = refl
 inputs_nowhere v n nodes (i ∷ is) past known = let q : (i.node == v) ≡ false = ne_eqb i.node v (λ e. omega (arith, known.0.0)) in rw q (inputs_nowhere v n nodes is past known.1)
 
 -- what came on a link by the start
-first_flow : Facts → ℕ → ℕ → List Message
-first_flow f u v = if u == outside then inputs_for f v else []
+first_flow : Game → ℕ → ℕ → List Message
+first_flow g u v = if u == outside then inputs_for g v else []
 
-flow_inputs : (f : Facts) (v : ℕ) → first_flow f outside v ≡ inputs_for f v
+flow_inputs : (g : Game) (v : ℕ) → first_flow g outside v ≡ inputs_for g v
 unfolding first_flow
-flow_inputs f v = refl
+flow_inputs g v = refl
 
-flow_inside : (f : Facts) (u v : ℕ) → ((u ≡ outside) → ⊥) → first_flow f u v ≡ []
+flow_inside : (g : Game) (u v : ℕ) → ((u ≡ outside) → ⊥) → first_flow g u v ≡ []
 unfolding first_flow
-flow_inside f u v inside = let q : (u == outside) ≡ false = ne_eqb u outside inside in rw q
+flow_inside g u v inside = let q : (u == outside) ≡ false = ne_eqb u outside inside in rw q
 
 zero_count : (w : ℕ) → slice_index (replicate 8 0) w ≡ 0
 zero_count w = ⊎_elim (λ lt. get_or-replicate 8 w 0 0 lt) (λ past. get_or_past (replicate 8 0) w 0 (omega (arith, length-replicate {A = ℕ} 8 0))) (cases_lt w 8)
 
 -- a node that has its inputs stands for no turns
-standing_first : (f : Facts) (v base : ℕ) (n : Node) → IsWithinLimits f → IsPlainRun f → v < f.nodes → IsGiven f.size n [] (inputs_for f v) → IsStanding f v base (λ u. first_flow f u v) (first_flow f v) n [] [] []
+standing_first : (g : Game) (v base : ℕ) (n : Node) → IsWithinLimits g → IsPlainRun g → v < g.nodes → IsGiven g.size n [] (inputs_for g v) → IsStanding g v base (λ u. first_flow g u v) (first_flow g v) n [] [] []
 unfolding AreTurns sent_by outputs_from
-standing_first f v base n limits plain known given =
+standing_first g v base n limits plain known given =
     let fresh = given.fresh in
-    let inputs : n.inputs.items ≡ inputs_for f v = sym (append-nil n.inputs.items) ∙ given.inputs in
-    let letters = inputs_are_letters v 0 f.nodes (base + 0) f.inputs plain limits.inputs in
+    let inputs : n.inputs.items ≡ inputs_for g v = sym (append-nil n.inputs.items) ∙ given.inputs in
+    let letters = inputs_are_letters v 0 g.nodes (base + 0) g.inputs plain limits.inputs in
     let inside : (v ≡ outside) → ⊥ = λ e. omega (arith, limits.few_nodes) in
-    let from_outside : AllByRecursion (λ (m : Message). m.from ≡ outside) (inputs_for f v) = AllByRecursion-weaker _ _ (inputs_for f v) (λ m h. h.0) letters in
-    let reached : (u : ℕ) → from u (inputs_for f v) ≡ first_flow f u v = λ u. ⊎_elim
-    (λ e. subst (λ k. from k (inputs_for f v) ≡ first_flow f k v) (sym e) (from-all outside (inputs_for f v) from_outside ∙ sym (flow_inputs f v)))
-    (λ ne. from-none u outside (inputs_for f v) (λ e. ne (sym e)) from_outside ∙ sym (flow_inside f u v ne))
+    let from_outside : AllByRecursion (λ (m : Message). m.from ≡ outside) (inputs_for g v) = AllByRecursion-weaker _ _ (inputs_for g v) (λ m h. h.0) letters in
+    let reached : (u : ℕ) → from u (inputs_for g v) ≡ first_flow g u v = λ u. ⊎_elim
+    (λ e. subst (λ k. from k (inputs_for g v) ≡ first_flow g k v) (sym e) (from-all outside (inputs_for g v) from_outside ∙ sym (flow_inputs g v)))
+    (λ ne. from-none u outside (inputs_for g v) (λ e. ne (sym e)) from_outside ∙ sym (flow_inside g u v ne))
     (cases_eq u outside) in
     record {
       turns = tt;
@@ -80,27 +80,27 @@ standing_first f v base n limits plain known given =
       counts = λ w. ap (λ l. slice_index l w) fresh.sent ∙ zero_count w;
       few_sent = subst (λ l. AllByRecursion (λ k. k ≤ 16 * 0) l) (sym fresh.sent) (omega arith, (omega arith, (omega arith, (omega arith, (omega arith, (omega arith, (omega arith, (omega arith, tt))))))));
       reached = λ u. ap (λ l. from u l ++ from u n.inputs.items) fresh.mail ∙ ap (from u) inputs ∙ reached u;
-      sent = λ w. sym (append-nil (first_flow f v w) ∙ flow_inside f v w inside);
+      sent = λ w. sym (append-nil (first_flow g v w) ∙ flow_inside g v w inside);
       clock = omega (arith, fresh.stamp);
       queue = subst (AllByRecursion (IsLetter (base + 0))) (sym fresh.mail) tt;
-      senders = subst (AllByRecursion (λ (m : Message). m.from < f.nodes)) (sym fresh.mail) tt;
-      inputs = subst (AllByRecursion (IsLetter (base + 0))) (sym inputs) (AllByRecursion-weaker _ _ (inputs_for f v) (λ m h. h.1) letters);
+      senders = subst (AllByRecursion (λ (m : Message). m.from < g.nodes)) (sym fresh.mail) tt;
+      inputs = subst (AllByRecursion (IsLetter (base + 0))) (sym inputs) (AllByRecursion-weaker _ _ (inputs_for g v) (λ m h. h.1) letters);
       given = subst (AllByRecursion (λ (m : Message). m.from ≡ outside)) (sym inputs) from_outside;
       pending = tt;
     }
 
 -- the nodes at the start are running
-pub running_first : (f : Facts) (nodes : List Node) → IsWithinLimits f → IsPlainRun f → length nodes ≡ f.nodes → ((v : ℕ) (d : Node) → v < f.nodes → IsGiven f.size (slice_index_or nodes v d) [] (inputs_for f v)) → IsRunning f nodes
-running_first f nodes limits plain long given = record {
+pub running_first : (g : Game) (nodes : List Node) → IsWithinLimits g → IsPlainRun g → length nodes ≡ g.nodes → ((v : ℕ) (d : Node) → v < g.nodes → IsGiven g.size (slice_index_or nodes v d) [] (inputs_for g v)) → IsRunning g nodes
+running_first g nodes limits plain long given = record {
   width = long;
   history = λ v. [];
-  flow = first_flow f;
+  flow = first_flow g;
   nobody = λ v past. refl;
   nowhere = λ u v past. ⊎_elim
-      (λ e. subst (λ k. first_flow f k v ≡ []) (sym e) (flow_inputs f v ∙ inputs_nowhere v 0 f.nodes f.inputs past limits.inputs))
-      (λ ne. flow_inside f u v ne)
+      (λ e. subst (λ k. first_flow g k v ≡ []) (sym e) (flow_inputs g v ∙ inputs_nowhere v 0 g.nodes g.inputs past limits.inputs))
+      (λ ne. flow_inside g u v ne)
       (cases_eq u outside);
-  strangers = λ u v past ne. flow_inside f u v ne;
-  inputs = λ v lt. flow_inputs f v;
-  each = λ v d lt. standing_first f v _ (slice_index_or nodes v d) limits plain lt (given v d lt);
+  strangers = λ u v past ne. flow_inside g u v ne;
+  inputs = λ v lt. flow_inputs g v;
+  each = λ v d lt. standing_first g v _ (slice_index_or nodes v d) limits plain lt (given v d lt);
 }

@@ -8,7 +8,6 @@ use Rattle.ken_model.specs.Effects.{Effect, answered}
 use Rattle.ken_model.specs.Heap.{first_gap, with_block, without_block}
 use Rattle.ken_model.specs.KeyValue.{Command, Put, Get, Delete, at_space, put_of, key_of, command_in, command_of, is_key, pair_of, without_pair, put_at, get_from, delete_from, kv}
 use Rattle.ken_model.specs.Report.{IsOneLine}
-use Rattle.ken_app.specs.Turning.{AreShort}
 use Rattle.ken_tool.specs.Turns.{IsModest, IsPayload, HoldsTexts}
 
 -- what holds of both holds of one
@@ -78,31 +77,26 @@ pub record IsText (nodes : ℕ) (e : Effect) : Type 0 where
   pub modest : IsModest nodes e.sends e.outs
   pub texts : HoldsTexts e.value
 
-pub text_answered : (nodes : ℕ) (value : Value) (text : List ℕ) → HoldsTexts value → IsOneLine text → IsText nodes (answered value text)
-text_answered nodes value text texts line = record { modest = record { few_sends = omega arith; few_outs = omega arith; known = tt; one_line = (line, tt) }; texts = texts }
+pub text_answered : (nodes : ℕ) (value : Value) (text : List ℕ) → HoldsTexts value → IsPayload text → IsText nodes (answered value text)
+text_answered nodes value text texts payload = record { modest = record { few_sends = omega arith; few_outs = omega arith; known = tt; one_line = (payload.0, tt); short_outs = (payload.1, tt) }; texts = texts }
 
 text_put : (nodes : ℕ) (value : Value) (pair : List ℕ) (old : Option Block) (gap : Option ℕ) → HoldsTexts value → IsPayload pair → IsText nodes (put_at value pair old gap)
-text_put nodes value pair old None texts payload = text_answered nodes value (codes "full") texts (((λ e. cc), ((λ e. cc), ((λ e. cc), ((λ e. cc), tt)))))
-text_put nodes value pair old (Some place) texts payload = text_answered nodes _ (codes "ok") (texts_without_pair old _ (texts_with (record { place = place; bytes = pair }) value.blocks payload texts)) (((λ e. cc), ((λ e. cc), tt)))
+text_put nodes value pair old None texts payload = text_answered nodes value (codes "full") texts (((λ e. cc), ((λ e. cc), ((λ e. cc), ((λ e. cc), tt)))), omega arith)
+text_put nodes value pair old (Some place) texts payload = text_answered nodes _ (codes "ok") (texts_without_pair old _ (texts_with (record { place = place; bytes = pair }) value.blocks payload texts)) (((λ e. cc), ((λ e. cc), tt)), omega arith)
 
 text_get : (nodes : ℕ) (value : Value) (key : List ℕ) (o : Option Block) → HoldsTexts value → IfSome o (λ b. IsPayload b.bytes) → IsText nodes (get_from value key o)
-text_get nodes value key None texts found = text_answered nodes value (codes "none") texts (((λ e. cc), ((λ e. cc), ((λ e. cc), ((λ e. cc), tt)))))
-text_get nodes value key (Some b) texts found = text_answered nodes value (drop (length key + 1) b.bytes) texts (line_drop (length key + 1) b.bytes found.0)
+text_get nodes value key None texts found = text_answered nodes value (codes "none") texts (((λ e. cc), ((λ e. cc), ((λ e. cc), ((λ e. cc), tt)))), omega arith)
+text_get nodes value key (Some b) texts found = text_answered nodes value (drop (length key + 1) b.bytes) texts (payload_drop (length key + 1) b.bytes found)
 
 text_delete : (nodes : ℕ) (value : Value) (o : Option Block) → HoldsTexts value → IsText nodes (delete_from value o)
-text_delete nodes value None texts = text_answered nodes value (codes "none") texts (((λ e. cc), ((λ e. cc), ((λ e. cc), ((λ e. cc), tt)))))
-text_delete nodes value (Some b) texts = text_answered nodes _ (codes "ok") (texts_without b.place value.blocks texts) (((λ e. cc), ((λ e. cc), tt)))
+text_delete nodes value None texts = text_answered nodes value (codes "none") texts (((λ e. cc), ((λ e. cc), ((λ e. cc), ((λ e. cc), tt)))), omega arith)
+text_delete nodes value (Some b) texts = text_answered nodes _ (codes "ok") (texts_without b.place value.blocks texts) (((λ e. cc), ((λ e. cc), tt)), omega arith)
 
 text_of : (nodes : ℕ) (value : Value) (c : Option Command) → HoldsTexts value → FitsCommand c → IsText nodes (kv value c)
-text_of nodes value None texts fits = text_answered nodes value (codes "bad") texts (((λ e. cc), ((λ e. cc), ((λ e. cc), tt))))
+text_of nodes value None texts fits = text_answered nodes value (codes "bad") texts (((λ e. cc), ((λ e. cc), ((λ e. cc), tt))), omega arith)
 text_of nodes value (Some (Put key pair)) texts fits = text_put nodes value pair (pair_of key value.blocks) (first_gap value (length pair)) texts fits
 text_of nodes value (Some (Get key)) texts fits = text_get nodes value key (pair_of key value.blocks) texts (pair_text key value.blocks texts)
 text_of nodes value (Some (Delete key)) texts fits = text_delete nodes value (pair_of key value.blocks) texts
 
 pub text_kv : (nodes : ℕ) (value : Value) (payload : List ℕ) → HoldsTexts value → IsPayload payload → IsText nodes (kv value (command_of payload))
 text_kv nodes value payload texts fits = text_of nodes value (command_of payload) texts (command_fits payload fits)
-
--- a heap of texts has short blocks
-pub short_texts : (bs : List Block) → AllByRecursion (λ (b : Block). IsPayload b.bytes) bs → AreShort bs
-short_texts [] texts = tt
-short_texts (b ∷ bs) texts = (texts.0.1, short_texts bs texts.1)

@@ -7,8 +7,8 @@ use Rattle.std.proofs.lemmas.List.Elements.{filter-append, All-from_get_or}
 use Rattle.std.proofs.lemmas.List.Sums.{sum_by-set, sum-map, sum_by-le, get_or-le-sum_by}
 use Rattle.ken_model.specs.declared.messages.Message.{Message}
 use Rattle.ken_model.specs.declared.messages.Out.{Out}
-use Rattle.ken_model.specs.declared.facts.Facts.{Facts}
-use Rattle.ken_model.specs.Facts.{IsWithinLimits}
+use Rattle.ken_model.specs.Game.{Game}
+use Rattle.ken_model.specs.Limits.{IsWithinLimits}
 use Rattle.ken_model.specs.Network.{Place, Turn, outside, first_place, place_after}
 use Rattle.ken_model.specs.History.{AreTurns, place_of, consumed, line_at}
 use Rattle.ken_model.specs.Spelling.{IsPrintableTurn}
@@ -23,10 +23,10 @@ use Rattle.ken_tool.proofs.Sound.{length-outputs_from}
 use Rattle.ken_tool.proofs.Standing.{Stands, standing_runs, AllByRecursion-append, AllByRecursion-weaker}
 
 -- a node has made at most `turns` turns
-pub AreTurns-few : (f : Facts) (v : ℕ) (p : Place) (ts : List Turn) → p.turns ≤ f.turns → AreTurns f v p ts → p.turns + length ts ≤ f.turns
+pub AreTurns-few : (g : Game) (v : ℕ) (p : Place) (ts : List Turn) → p.turns ≤ g.turns → AreTurns g v p ts → p.turns + length ts ≤ g.turns
 unfolding AreTurns
-AreTurns-few f v p [] le turns = omega arith
-AreTurns-few f v p (t ∷ ts) le turns = omega (arith, AreTurns-few f v (place_after p t) ts (omega (arith, turns.0)) turns.2)
+AreTurns-few g v p [] le turns = omega arith
+AreTurns-few g v p (t ∷ ts) le turns = omega (arith, AreTurns-few g v (place_after p t) ts (omega (arith, turns.0)) turns.2)
 
 -- all messages are from one sender, or none is
 pub from-all : (u : ℕ) (ms : List Message) → AllByRecursion (λ (m : Message). m.from ≡ u) ms → from u ms ≡ ms
@@ -89,10 +89,10 @@ reached_more u cs mail inputs more arrived one reached =
     one
 
 -- a node that got more mail from node v
-pub standing_delivered : (f : Facts) (x v base later : ℕ) (arrived left : ℕ → List Message) (n new : Node) (ts : List Turn) (mail : List Message) (outs : List Out) (more : List Message)
-    → v < f.nodes → ((v ≡ outside) → ⊥) → base ≤ later → AllByRecursion (λ (m : Message). (m.from ≡ v) × IsLetter (later + length ts) m) more
-    → IsStanding f x base arrived left n ts mail outs → IsDelivered n new more → IsStanding f x later (λ u. arrived u ++ from u more) left new ts mail outs
-standing_delivered f x v base later arrived left n new ts mail outs more known inside le letters s got =
+pub standing_delivered : (g : Game) (x v base later : ℕ) (arrived left : ℕ → List Message) (n new : Node) (ts : List Turn) (mail : List Message) (outs : List Out) (more : List Message)
+    → v < g.nodes → ((v ≡ outside) → ⊥) → base ≤ later → AllByRecursion (λ (m : Message). (m.from ≡ v) × IsLetter (later + length ts) m) more
+    → IsStanding g x base arrived left n ts mail outs → IsDelivered n new more → IsStanding g x later (λ u. arrived u ++ from u more) left new ts mail outs
+standing_delivered g x v base later arrived left n new ts mail outs more known inside le letters s got =
     let from_v : AllByRecursion (λ (m : Message). m.from ≡ v) more = AllByRecursion-weaker _ _ more (λ m h. h.0) letters in
     let sent_same : new.sent ≡ n.sent = ap (λ (y : Node). y.sent) got.rest in
     let inputs_same : new.inputs.items ≡ n.inputs.items = ap (λ (y : Node). y.inputs.items) got.rest in
@@ -122,17 +122,17 @@ standing_delivered f x v base later arrived left n new ts mail outs more known i
       sent = s.sent;
       clock = omega (arith, s.clock);
       queue = subst Q (sym got.mail) (AllByRecursion-append (IsLetter (later + length ts)) n.mail.items more (older _ s.queue) (AllByRecursion-weaker _ (IsLetter (later + length ts)) more (λ m h. h.1) letters));
-      senders = subst (AllByRecursion (λ (m : Message). m.from < f.nodes)) (sym got.mail) (AllByRecursion-append (λ (m : Message). m.from < f.nodes) n.mail.items more s.senders (AllByRecursion-weaker _ _ more (λ m e. omega (arith, e, known)) from_v));
+      senders = subst (AllByRecursion (λ (m : Message). m.from < g.nodes)) (sym got.mail) (AllByRecursion-append (λ (m : Message). m.from < g.nodes) n.mail.items more s.senders (AllByRecursion-weaker _ _ more (λ m e. omega (arith, e, known)) from_v));
       inputs = subst Q (sym inputs_same) (older _ s.inputs);
       given = subst (AllByRecursion (λ (m : Message). m.from ≡ outside)) (sym inputs_same) s.given;
-      pending = AllByRecursion-weaker (IsPosted f x (base + length ts)) (IsPosted f x (later + length ts)) mail (λ m h. (h.0, h.1, (omega (arith, h.2.0), h.2.1))) s.pending;
+      pending = AllByRecursion-weaker (IsPosted g x (base + length ts)) (IsPosted g x (later + length ts)) mail (λ m h. (h.0, h.1, (omega (arith, h.2.0), h.2.1))) s.pending;
     }
 
 -- a node whose outputs were emitted, and whose mail has left
-pub standing_emitted : (f : Facts) (v base : ℕ) (arrived reached left gone : ℕ → List Message) (n new : Node) (ts : List Turn) (mail : List Message) (outs : List Out)
+pub standing_emitted : (g : Game) (v base : ℕ) (arrived reached left gone : ℕ → List Message) (n new : Node) (ts : List Turn) (mail : List Message) (outs : List Out)
     → ((u : ℕ) → arrived u ≡ reached u) → ((w : ℕ) → left w ++ sent_to w mail ≡ gone w) → new ≡ record n { emitted = new.emitted } → new.emitted.items ≡ n.emitted.items ++ outs
-    → IsStanding f v base arrived left n ts mail outs → IsStanding f v base reached gone new ts [] []
-standing_emitted f v base arrived reached left gone n new ts mail outs same_reached same_gone rest emitted s =
+    → IsStanding g v base arrived left n ts mail outs → IsStanding g v base reached gone new ts [] []
+standing_emitted g v base arrived reached left gone n new ts mail outs same_reached same_gone rest emitted s =
     let sent_same : new.sent ≡ n.sent = ap (λ (y : Node). y.sent) rest in
     let mail_same : new.mail.items ≡ n.mail.items = ap (λ (y : Node). y.mail.items) rest in
     let inputs_same : new.inputs.items ≡ n.inputs.items = ap (λ (y : Node). y.inputs.items) rest in
@@ -156,33 +156,33 @@ standing_emitted f v base arrived reached left gone n new ts mail outs same_reac
       sent = λ w. s.sent w ∙ same_gone w ∙ sym (append-nil (gone w));
       clock = omega (arith, s.clock);
       queue = subst Q (sym mail_same) s.queue;
-      senders = subst (AllByRecursion (λ (m : Message). m.from < f.nodes)) (sym mail_same) s.senders;
+      senders = subst (AllByRecursion (λ (m : Message). m.from < g.nodes)) (sym mail_same) s.senders;
       inputs = subst Q (sym inputs_same) s.inputs;
       given = subst (AllByRecursion (λ (m : Message). m.from ≡ outside)) (sym inputs_same) s.given;
       pending = tt;
     }
 
 -- turns are only added
-pub runs_longer : (f : Facts) (v : ℕ) (old n : Node) (p : Pending) → Runs f v old n p → turns_of old ≤ turns_of n
-runs_longer f v old n p (Runs.none _ no_mail no_outs) = omega arith
-runs_longer f v old n p (Runs.looked before _ _ runs found) = omega (arith, runs_longer f v old before p runs, ap (λ (y : Node). turns_of y) found.rest)
-runs_longer f v old n q (Runs.more before mid _ m p _ runs more takes turned) =
-    omega (arith, runs_longer f v old before p runs, ap (λ (y : Node). turns_of y) takes.rest, ap length turned.turns, length-append mid.turns.items (record { stamp = max mid.stamp m.stamp + 1; step = record { node = v; from = m.from; draws = turned.draws }; number = m.number } ∷ []))
+pub runs_longer : (g : Game) (v : ℕ) (old n : Node) (p : Pending) → Runs g v old n p → turns_of old ≤ turns_of n
+runs_longer g v old n p (Runs.none _ no_mail no_outs) = omega arith
+runs_longer g v old n p (Runs.looked before _ _ runs found) = omega (arith, runs_longer g v old before p runs, ap (λ (y : Node). turns_of y) found.rest)
+runs_longer g v old n q (Runs.more before mid _ m p _ runs more takes turned) =
+    omega (arith, runs_longer g v old before p runs, ap (λ (y : Node). turns_of y) takes.rest, ap length turned.turns, length-append mid.turns.items (record { stamp = max mid.stamp m.stamp + 1; step = record { node = v; from = m.from; draws = turned.draws }; number = m.number } ∷ []))
 
 -- what holds of node v holds of node x, where x is v
 at_node : (P : ℕ → Type 0) (v x : ℕ) → x ≡ v → P v → P x
 at_node P v x e p = subst P (sym e) p
 
-module _ (f : Facts) (v : ℕ) (old new : List Node) (limits : IsWithinLimits f) (r : IsRunning f old) (vis : IsVisited f v old new) (known : v < f.nodes) where
+module _ (g : Game) (v : ℕ) (old new : List Node) (limits : IsWithinLimits g) (r : IsRunning g old) (vis : IsVisited g v old new) (known : v < g.nodes) where
   abbrev pub before : Node
   before = slice_index_or old v vis.node
 
   base : ℕ
   base = turns_made old - turns_of before
 
-  stood : Stands f v base (λ u. r.flow u v) (r.flow v) vis.node vis.pending
+  stood : Stands g v base (λ u. r.flow u v) (r.flow v) vis.node vis.pending
   unfolding base
-  stood = standing_runs f v base (λ u. r.flow u v) (r.flow v) before vis.node (r.history v) vis.pending (limits.few_nodes) (r.each v vis.node known) (vis.runs vis.node)
+  stood = standing_runs g v base (λ u. r.flow u v) (r.flow v) before vis.node (r.history v) vis.pending (limits.few_nodes) (r.each v vis.node known) (vis.runs vis.node)
 
   in_old : v < length old
   in_old = omega (arith, r.width)
@@ -201,7 +201,7 @@ module _ (f : Facts) (v : ℕ) (old new : List Node) (limits : IsWithinLimits f)
   all_now = omega (arith, made, total, get_or-le-sum_by turns_of old v vis.node in_old)
 
   pub rose : turns_made old ≤ turns_made new
-  rose = omega (arith, total, runs_longer f v before vis.node vis.pending (vis.runs vis.node))
+  rose = omega (arith, total, runs_longer g v before vis.node vis.pending (vis.runs vis.node))
 
   inside : (v ≡ outside) → ⊥
   inside e = omega (arith, limits.few_nodes, known)
@@ -212,7 +212,7 @@ module _ (f : Facts) (v : ℕ) (old new : List Node) (limits : IsWithinLimits f)
   -- all that left node v is from it, and from no later stamp than the turns made by now
   posted : (w later : ℕ) → turns_made new ≤ later → AllByRecursion (λ (m : Message). (m.from ≡ v) × IsLetter later m) (more w)
   unfolding more
-  posted w later le = All-sent_to _ w vis.pending.mail.items (AllByRecursion-weaker (IsPosted f v (base + length stood.history)) _ vis.pending.mail.items (λ m h. (h.0, (omega (arith, h.2.0, all_now), h.2.1))) stood.standing.pending)
+  posted w later le = All-sent_to _ w vis.pending.mail.items (AllByRecursion-weaker (IsPosted g v (base + length stood.history)) _ vis.pending.mail.items (λ m h. (h.0, (omega (arith, h.2.0, all_now), h.2.1))) stood.standing.pending)
 
   flow_now : ℕ → ℕ → List Message
   flow_now u w = r.flow u w ++ from u (more w)
@@ -221,7 +221,7 @@ module _ (f : Facts) (v : ℕ) (old new : List Node) (limits : IsWithinLimits f)
   history_now x = if x == v then stood.history else r.history x
 
   -- node v itself
-  node_now : (d : Node) → IsStanding f v (turns_made new - turns_of (slice_index_or new v d)) (λ u. flow_now u v) (flow_now v) (slice_index_or new v d) stood.history [] []
+  node_now : (d : Node) → IsStanding g v (turns_made new - turns_of (slice_index_or new v d)) (λ u. flow_now u v) (flow_now v) (slice_index_or new v d) stood.history [] []
   unfolding flow_now more base
   node_now d =
       let mail = vis.pending.mail.items in
@@ -229,14 +229,14 @@ module _ (f : Facts) (v : ℕ) (old new : List Node) (limits : IsWithinLimits f)
       let same : turns_of (slice_index_or new v d) ≡ turns_of vis.node = ap (λ (y : Node). turns_of y) (vis.rest d) ∙ ap (λ (y : Node). turns_of y) vis.delivered.rest in
       let later : base ≡ turns_made new - turns_of (slice_index_or new v d) = omega (arith, total, get_or-le-sum_by turns_of old v vis.node in_old) in
       let letters = posted v (base + length stood.history) (omega (arith, all_now)) in
-      let delivered = standing_delivered f v v base base (λ u. r.flow u v) (r.flow v) vis.node vis.reached stood.history mail outs (more v) known inside (omega arith) letters stood.standing vis.delivered in
+      let delivered = standing_delivered g v v base base (λ u. r.flow u v) (r.flow v) vis.node vis.reached stood.history mail outs (more v) known inside (omega arith) letters stood.standing vis.delivered in
       let gone : (w : ℕ) → r.flow v w ++ sent_to w mail ≡ flow_now v w =
       λ w. ap (λ l. r.flow v w ++ l) (sym (from-all v (more w) (AllByRecursion-weaker _ _ (more w) (λ m h. h.0) (posted w (turns_made new) (omega arith))))) in
-      let B : ℕ → Type 0 = λ b. IsStanding f v b (λ u. flow_now u v) (flow_now v) (slice_index_or new v d) stood.history [] [] in
-      subst B later (standing_emitted f v base (λ u. r.flow u v ++ from u (more v)) (λ u. flow_now u v) (r.flow v) (flow_now v) vis.reached (slice_index_or new v d) stood.history mail outs (λ u. refl) gone (vis.rest d) (vis.emitted d) delivered)
+      let B : ℕ → Type 0 = λ b. IsStanding g v b (λ u. flow_now u v) (flow_now v) (slice_index_or new v d) stood.history [] [] in
+      subst B later (standing_emitted g v base (λ u. r.flow u v ++ from u (more v)) (λ u. flow_now u v) (r.flow v) (flow_now v) vis.reached (slice_index_or new v d) stood.history mail outs (λ u. refl) gone (vis.rest d) (vis.emitted d) delivered)
 
   -- another node
-  other_now : (x : ℕ) (d : Node) → x < f.nodes → ((x ≡ v) → ⊥) → IsStanding f x (turns_made new - turns_of (slice_index_or new x d)) (λ u. flow_now u x) (flow_now x) (slice_index_or new x d) (r.history x) [] []
+  other_now : (x : ℕ) (d : Node) → x < g.nodes → ((x ≡ v) → ⊥) → IsStanding g x (turns_made new - turns_of (slice_index_or new x d)) (λ u. flow_now u x) (flow_now x) (slice_index_or new x d) (r.history x) [] []
   unfolding flow_now more
   other_now x d lt ne =
       let in_old_x : x < length old = omega (arith, r.width) in
@@ -249,16 +249,16 @@ module _ (f : Facts) (v : ℕ) (old new : List Node) (limits : IsWithinLimits f)
       let count : length (r.history x) ≡ turns_of was = sym (ap length stands.lines ∙ length-map (r.history x) (line_at x)) in
       let most = get_or-le-sum_by turns_of new x d in_new_x in
       let letters = posted x (turns_made new - turns_of now + length (r.history x)) (omega (arith, most)) in
-      let delivered = standing_delivered f x v (turns_made old - turns_of was) (turns_made new - turns_of now) (λ u. r.flow u x) (r.flow x) was now (r.history x) [] [] (more x) known inside (omega (arith, rose)) letters stands got in
+      let delivered = standing_delivered g x v (turns_made old - turns_of was) (turns_made new - turns_of now) (λ u. r.flow u x) (r.flow x) was now (r.history x) [] [] (more x) known inside (omega (arith, rose)) letters stands got in
       let gone : (w : ℕ) → r.flow x w ++ sent_to w [] ≡ flow_now x w =
       λ w. ap (λ l. r.flow x w ++ l) (sym (from-none x v (more w) (λ e. ne (sym e)) (AllByRecursion-weaker _ _ (more w) (λ m h. h.0) (posted w (turns_made new) (omega arith))))) in
-      standing_emitted f x (turns_made new - turns_of now) (λ u. r.flow u x ++ from u (more x)) (λ u. flow_now u x) (r.flow x) (flow_now x) now now (r.history x) [] [] (λ u. refl) gone refl (sym (append-nil now.emitted.items)) delivered
+      standing_emitted g x (turns_made new - turns_of now) (λ u. r.flow u x ++ from u (more x)) (λ u. flow_now u x) (r.flow x) (flow_now x) now now (r.history x) [] [] (λ u. refl) gone refl (sym (append-nil now.emitted.items)) delivered
 
   -- past the nodes of the run nothing comes
-  nowhere_now : (u w : ℕ) → f.nodes ≤ w → flow_now u w ≡ []
+  nowhere_now : (u w : ℕ) → g.nodes ≤ w → flow_now u w ≡ []
   unfolding flow_now more
   nowhere_now u w past =
-      let none : sent_to w vis.pending.mail.items ≡ [] = sent_to-nobody w f.nodes vis.pending.mail.items past (AllByRecursion-weaker (IsPosted f v (base + length stood.history)) _ vis.pending.mail.items (λ m h. h.1) stood.standing.pending) in
+      let none : sent_to w vis.pending.mail.items ≡ [] = sent_to-nobody w g.nodes vis.pending.mail.items past (AllByRecursion-weaker (IsPosted g v (base + length stood.history)) _ vis.pending.mail.items (λ m h. h.1) stood.standing.pending) in
       ap (λ l. r.flow u w ++ from u l) none ∙ append-nil (r.flow u w) ∙ r.nowhere u w past
 
   history_here : (x : ℕ) → x ≡ v → history_now x ≡ stood.history
@@ -270,10 +270,10 @@ module _ (f : Facts) (v : ℕ) (old new : List Node) (limits : IsWithinLimits f)
   history_there x ne = let q : (x == v) ≡ false = ne_eqb x v ne in rw q
 
   -- a visit keeps the nodes running
-  pub running_visited : IsRunning f new
+  pub running_visited : IsRunning g new
   unfolding flow_now
   running_visited =
-      let Stand : List Turn → ℕ → Node → Type 0 = λ ts x d. IsStanding f x (turns_made new - turns_of (slice_index_or new x d)) (λ u. flow_now u x) (flow_now x) (slice_index_or new x d) ts [] [] in
+      let Stand : List Turn → ℕ → Node → Type 0 = λ ts x d. IsStanding g x (turns_made new - turns_of (slice_index_or new x d)) (λ u. flow_now u x) (flow_now x) (slice_index_or new x d) ts [] [] in
       record {
         width = vis.same_length ∙ r.width;
         history = history_now;
@@ -289,37 +289,37 @@ module _ (f : Facts) (v : ℕ) (old new : List Node) (limits : IsWithinLimits f)
       }
 
 -- letters are early for a node that can't pass the run's turns
-early_letters : (f : Facts) (n : Node) (latest : ℕ) (ms : List Message) → latest + f.turns ≤ 2 ^ 40 → AllByRecursion (IsLetter latest) ms → AllByRecursion (λ (m : Message). IsEarly f n m.stamp) ms
-early_letters f n latest ms room all = AllByRecursion-weaker (IsLetter latest) _ ms (λ m h. omega (arith, h.0)) all
+early_letters : (g : Game) (n : Node) (latest : ℕ) (ms : List Message) → latest + g.turns ≤ 2 ^ 40 → AllByRecursion (IsLetter latest) ms → AllByRecursion (λ (m : Message). IsEarly g n m.stamp) ms
+early_letters g n latest ms room all = AllByRecursion-weaker (IsLetter latest) _ ms (λ m h. omega (arith, h.0)) all
 
 -- a run makes at most `turns` turns at each node
-pub few_turns_made : (f : Facts) (nodes : List Node) (d : Node) → IsRunning f nodes → turns_made nodes ≤ length nodes * f.turns
-few_turns_made f nodes d r =
-    let each : (x : ℕ) → x < length nodes → turns_of (slice_index_or nodes x d) ≤ f.turns =
+pub few_turns_made : (g : Game) (nodes : List Node) (d : Node) → IsRunning g nodes → turns_made nodes ≤ length nodes * g.turns
+few_turns_made g nodes d r =
+    let each : (x : ℕ) → x < length nodes → turns_of (slice_index_or nodes x d) ≤ g.turns =
     λ x lt. (let s = r.each x d (omega (arith, r.width)) in
-    omega (arith, AreTurns-few f x (first_place f) (r.history x) (omega arith) s.turns, ap length s.lines, length-map (r.history x) (line_at x))) in
-    sum_by-le turns_of f.turns nodes (All-from_get_or (λ (n : Node). turns_of n ≤ f.turns) nodes d each)
+    omega (arith, AreTurns-few g x (first_place g) (r.history x) (omega arith) s.turns, ap length s.lines, length-map (r.history x) (line_at x))) in
+    sum_by-le turns_of g.turns nodes (All-from_get_or (λ (n : Node). turns_of n ≤ g.turns) nodes d each)
 
 -- no number of a node passes its type
-pub sound_running : (f : Facts) (nodes : List Node) (v : ℕ) (d : Node) → IsWithinLimits f → IsRunning f nodes → v < f.nodes → IsSound f (slice_index_or nodes v d) 0
-sound_running f nodes v d limits r lt =
+pub sound_running : (g : Game) (nodes : List Node) (v : ℕ) (d : Node) → IsWithinLimits g → IsRunning g nodes → v < g.nodes → IsSound g (slice_index_or nodes v d) 0
+sound_running g nodes v d limits r lt =
     let n = slice_index_or nodes v d in
     let s = r.each v d lt in
     let ts = r.history v in
     let count : turns_of n ≡ length ts = ap length s.lines ∙ length-map ts (line_at v) in
     let in_nodes : v < length nodes = omega (arith, r.width) in
     let few_nodes : length nodes ≤ 8 = omega (arith, r.width, limits.few_nodes) in
-    let few_turns : f.turns ≤ 100000 = limits.few_turns in
-    let most : turns_made nodes ≤ 800000 = omega (arith, few_turns_made f nodes d r, mul-le-mul few_nodes few_turns) in
+    let few_turns : g.turns ≤ 100000 = limits.few_turns in
+    let most : turns_made nodes ≤ 800000 = omega (arith, few_turns_made g nodes d r, mul-le-mul few_nodes few_turns) in
     let latest = turns_made nodes - turns_of n + length ts in
     let here : latest ≤ 800000 = omega (arith, get_or-le-sum_by turns_of nodes v d in_nodes) in
-    let room : latest + f.turns ≤ 2 ^ 40 = omega (arith, limits.few_turns) in
+    let room : latest + g.turns ≤ 2 ^ 40 = omega (arith, limits.few_turns) in
     let outs : length n.emitted.items + 0 ≤ 16 * turns_of n =
-    omega (arith, length-append n.emitted.items [], ap length s.outputs, length-outputs_from 0 (place_of f ts).outs, s.few_outputs) in
+    omega (arith, length-append n.emitted.items [], ap length s.outputs, length-outputs_from 0 (place_of g ts).outs, s.few_outputs) in
     record {
       clock = omega (arith, s.clock);
-      mail = early_letters f n latest n.mail.items room s.queue;
-      inputs = early_letters f n latest n.inputs.items room s.inputs;
+      mail = early_letters g n latest n.mail.items room s.queue;
+      inputs = early_letters g n latest n.inputs.items room s.inputs;
       short_mail = AllByRecursion-weaker (IsLetter latest) IsShort n.mail.items (λ m h. h.1) s.queue;
       short_inputs = AllByRecursion-weaker (IsLetter latest) IsShort n.inputs.items (λ m h. h.1) s.inputs;
       idle = s.idle;
@@ -329,17 +329,17 @@ sound_running f nodes v d limits r lt =
     }
 
 -- what a node sends is for nodes of the run
-pub known_pending : (f : Facts) (nodes : List Node) (v : ℕ) (d n : Node) (p : Pending) → IsWithinLimits f → IsRunning f nodes → v < f.nodes → Runs f v (slice_index_or nodes v d) n p → AllByRecursion (λ (m : Message). m.to < f.nodes) p.mail.items
-known_pending f nodes v d n p limits r lt runs =
-    let stands = standing_runs f v _ _ _ (slice_index_or nodes v d) n (r.history v) p limits.few_nodes (r.each v d lt) runs in
+pub known_pending : (g : Game) (nodes : List Node) (v : ℕ) (d n : Node) (p : Pending) → IsWithinLimits g → IsRunning g nodes → v < g.nodes → Runs g v (slice_index_or nodes v d) n p → AllByRecursion (λ (m : Message). m.to < g.nodes) p.mail.items
+known_pending g nodes v d n p limits r lt runs =
+    let stands = standing_runs g v _ _ _ (slice_index_or nodes v d) n (r.history v) p limits.few_nodes (r.each v d lt) runs in
     AllByRecursion-weaker _ _ p.mail.items (λ m h. h.1) stands.standing.pending
 
 -- a visit, by what its three calls leave
-pub visited_by : (f : Facts) (v : ℕ) (old delivered : List Node) (node e d d' : Node) (p : Pending) → v < length old → Runs f v (slice_index_or old v d) node p → IsIdle f node
+pub visited_by : (g : Game) (v : ℕ) (old delivered : List Node) (node e d d' : Node) (p : Pending) → v < length old → Runs g v (slice_index_or old v d) node p → IsIdle g node
     → ((w : ℕ) (x : Node) → w < length (slice_set old v node) → IsDelivered (slice_index_or (slice_set old v node) w x) (slice_index_or delivered w x) (sent_to w p.mail.items))
     → length delivered ≡ length (slice_set old v node) → e ≡ record (slice_index_or delivered v d') { emitted = e.emitted } → e.emitted.items ≡ (slice_index_or delivered v d').emitted.items ++ p.outs.items
-    → IsVisited f v old (slice_set delivered v e)
-visited_by f v old delivered node e d d' p in_old runs idle got long rest emitted =
+    → IsVisited g v old (slice_set delivered v e)
+visited_by g v old delivered node e d d' p in_old runs idle got long rest emitted =
     let in_set : v < length (slice_set old v node) = omega (arith, length-set old v node) in
     let in_delivered : v < length delivered = omega arith in
     let new : (x : Node) → slice_index_or (slice_set delivered v e) v x ≡ e = λ x. get_or-set_same delivered v e x in_delivered in
@@ -347,7 +347,7 @@ visited_by f v old delivered node e d d' p in_old runs idle got long rest emitte
       node = node;
       pending = p;
       reached = slice_index_or delivered v d';
-      runs = λ x. subst (λ y. Runs f v y node p) (get_or_default old v d x in_old) runs;
+      runs = λ x. subst (λ y. Runs g v y node p) (get_or_default old v d x in_old) runs;
       idle = idle;
       delivered = subst (λ y. IsDelivered y (slice_index_or delivered v d') (sent_to v p.mail.items)) (get_or-set_same old v node d' in_old) (got v d' in_set);
       emitted = λ x. ap (λ (y : Node). y.emitted.items) (new x) ∙ emitted;

@@ -7,9 +7,9 @@ use Rattle.std.proofs.lemmas.List.Elements.{All-from_get_or, filter-append}
 use Rattle.std.proofs.lemmas.List.FromFn.{length-range_with_len}
 use Rattle.std.proofs.lemmas.List.Sums.{sum_by-cons, sum_by-le, get_or-le-sum_by}
 use Rattle.ken_model.specs.declared.messages.Message.{Message}
-use Rattle.ken_model.specs.declared.facts.Facts.{Facts}
+use Rattle.ken_model.specs.Game.{Game}
 use Rattle.ken_model.specs.declared.facts.TheConstants.{MAX_NODES, MAX_TURNS}
-use Rattle.ken_model.specs.Facts.{IsWithinLimits}
+use Rattle.ken_model.specs.Limits.{IsWithinLimits}
 use Rattle.ken_model.specs.Network.{Place, Network, outside, first_place}
 use Rattle.ken_model.specs.History.{consumed, messages, line_at, Shows}
 use Rattle.ken_model.specs.Ending.{waiting, waiting_on, nodes_of, IsSettled, IsCut}
@@ -63,7 +63,7 @@ first_node : (nodes : List Node) → 0 < length nodes → Node
 first_node [] some = absurd (omega arith)
 first_node (n ∷ ns) some = n
 
-module _ (f : Facts) (nodes : List Node) (limits : IsWithinLimits f) (r : IsRunning f nodes) where
+module _ (g : Game) (nodes : List Node) (limits : IsWithinLimits g) (r : IsRunning g nodes) where
   -- what stands past the last node
   past_last : Node
   past_last = first_node nodes (omega (arith, r.width, limits.some_node))
@@ -73,21 +73,21 @@ module _ (f : Facts) (nodes : List Node) (limits : IsWithinLimits f) (r : IsRunn
   node_at v = slice_index_or nodes v past_last
 
   -- all inputs came by the start
-  flow-outside : (v : ℕ) → r.flow outside v ≡ messages f r.history outside v
+  flow-outside : (v : ℕ) → r.flow outside v ≡ messages g r.history outside v
   unfolding messages
-  flow-outside v = ⊎_elim (λ lt. r.inputs v lt) (λ past. r.nowhere outside v past ∙ sym (inputs_nowhere v 0 f.nodes f.inputs past limits.inputs)) (cases_lt v f.nodes)
+  flow-outside v = ⊎_elim (λ lt. r.inputs v lt) (λ past. r.nowhere outside v past ∙ sym (inputs_nowhere v 0 g.nodes g.inputs past limits.inputs)) (cases_lt v g.nodes)
 
   -- what came on a link is all that its sender sent
-  pub flow-messages : (u v : ℕ) → r.flow u v ≡ messages f r.history u v
-  flow-messages u v = go (known_sender f u)
+  pub flow-messages : (u v : ℕ) → r.flow u v ≡ messages g r.history u v
+  flow-messages u v = go (known_sender g u)
     where
-      go : IsKnown f u → r.flow u v ≡ messages f r.history u v
-      go (IsKnown.input e) = subst (λ k. r.flow k v ≡ messages f r.history k v) (sym e) (flow-outside v)
-      go (IsKnown.node lt) = sym (messages-inside f r.history u v (λ e. omega (arith, limits.few_nodes)) ∙ (r.each u past_last lt).sent v ∙ append-nil (r.flow u v))
-      go (IsKnown.stranger past ne) = r.strangers u v past ne ∙ sym (messages-inside f r.history u v ne ∙ sent_by-nil u v 0 (r.history u) (r.nobody u past))
+      go : IsKnown g u → r.flow u v ≡ messages g r.history u v
+      go (IsKnown.input e) = subst (λ k. r.flow k v ≡ messages g r.history k v) (sym e) (flow-outside v)
+      go (IsKnown.node lt) = sym (messages-inside g r.history u v (λ e. omega (arith, limits.few_nodes)) ∙ (r.each u past_last lt).sent v ∙ append-nil (r.flow u v))
+      go (IsKnown.stranger past ne) = r.strangers u v past ne ∙ sym (messages-inside g r.history u v ne ∙ sent_by-nil u v 0 (r.history u) (r.nobody u past))
 
   -- what came was consumed, or waits
-  length-flow : (u v : ℕ) → v < f.nodes → length (r.flow u v) ≡ length (consumed u (r.history v)) + length (from u (held (node_at v)))
+  length-flow : (u v : ℕ) → v < g.nodes → length (r.flow u v) ≡ length (consumed u (r.history v)) + length (from u (held (node_at v)))
   length-flow u v lt =
       let n = node_at v in
       ap length (sym ((r.each v past_last lt).reached u)) ∙ length-append (consumed u (r.history v)) _
@@ -98,47 +98,47 @@ module _ (f : Facts) (nodes : List Node) (limits : IsWithinLimits f) (r : IsRunn
   length-held v = length-append (node_at v).mail.items (node_at v).inputs.items
 
   -- all that waits is from the outside and the nodes
-  senders : (v : ℕ) → v < f.nodes → AllByRecursion (IsFromSender f.nodes) (held (node_at v))
+  senders : (v : ℕ) → v < g.nodes → AllByRecursion (IsFromSender g.nodes) (held (node_at v))
   senders v lt =
       let s = r.each v past_last lt in
-      AllByRecursion-append (IsFromSender f.nodes) (node_at v).mail.items (node_at v).inputs.items
-      (AllByRecursion-weaker _ (IsFromSender f.nodes) (node_at v).mail.items (λ m h. inr h) s.senders)
-      (AllByRecursion-weaker _ (IsFromSender f.nodes) (node_at v).inputs.items (λ m h. inl h) s.given)
+      AllByRecursion-append (IsFromSender g.nodes) (node_at v).mail.items (node_at v).inputs.items
+      (AllByRecursion-weaker _ (IsFromSender g.nodes) (node_at v).mail.items (λ m h. inr h) s.senders)
+      (AllByRecursion-weaker _ (IsFromSender g.nodes) (node_at v).inputs.items (λ m h. inl h) s.given)
 
   -- it is as much as waits from each of them together
-  sum_by-held : (v : ℕ) → v < f.nodes → sum_by (λ u. length (from u (held (node_at v)))) (outside ∷ nodes_of f) ≡ waits (node_at v)
-  sum_by-held v lt = sum_by-from f.nodes (held (node_at v)) (omega (arith, limits.few_nodes)) (senders v lt) ∙ length-held v
+  sum_by-held : (v : ℕ) → v < g.nodes → sum_by (λ u. length (from u (held (node_at v)))) (outside ∷ nodes_of g) ≡ waits (node_at v)
+  sum_by-held v lt = sum_by-from g.nodes (held (node_at v)) (omega (arith, limits.few_nodes)) (senders v lt) ∙ length-held v
 
   -- a node's turns are few
-  few_turns : (v : ℕ) → v < f.nodes → length (r.history v) ≤ f.turns
-  few_turns v lt = omega (arith, AreTurns-few f v (first_place f) (r.history v) (omega arith) (r.each v past_last lt).turns)
+  few_turns : (v : ℕ) → v < g.nodes → length (r.history v) ≤ g.turns
+  few_turns v lt = omega (arith, AreTurns-few g v (first_place g) (r.history v) (omega arith) (r.each v past_last lt).turns)
 
   -- a node for which something waits, and which can make no turn, has made all its turns
-  all_turns : (v : ℕ) → v < f.nodes → list_any (is_ready f) nodes ≡ false → 0 < length (held (node_at v)) → length (r.history v) ≡ f.turns
+  all_turns : (v : ℕ) → v < g.nodes → list_any (is_ready g) nodes ≡ false → 0 < length (held (node_at v)) → length (r.history v) ≡ g.turns
   all_turns v lt idle some =
       let count : length (node_at v).turns.items ≡ length (r.history v) = ap length (r.each v past_last lt).lines ∙ length-map (r.history v) (line_at v) in
       ⊎_elim
       (λ none. absurd (omega (arith, length-held v, ap length none.0, ap length none.1)))
       (λ full. omega (arith, few_turns v lt))
-      (not_ready_means f (node_at v) (none_passes (is_ready f) nodes idle v past_last (omega (arith, r.width))))
+      (not_ready_means g (node_at v) (none_passes (is_ready g) nodes idle v past_last (omega (arith, r.width))))
 
-  module _ (w : Network) (shows : Shows f r.history w) where
+  module _ (w : Network) (shows : Shows g r.history w) where
     -- what waits on a link waits for its node
-    waiting_on-held : (u v : ℕ) → v < f.nodes → waiting_on (w.link u v) ≡ length (from u (held (node_at v)))
+    waiting_on-held : (u v : ℕ) → v < g.nodes → waiting_on (w.link u v) ≡ length (from u (held (node_at v)))
     waiting_on-held u v lt = omega (arith, ap length (shows.sent u v), shows.taken u v, ap length (flow-messages u v), length-flow u v lt)
 
     -- past the nodes nothing waits
-    waiting_on-nowhere : (u v : ℕ) → f.nodes ≤ v → waiting_on (w.link u v) ≡ 0
+    waiting_on-nowhere : (u v : ℕ) → g.nodes ≤ v → waiting_on (w.link u v) ≡ 0
     waiting_on-nowhere u v past = omega (arith, ap length (shows.sent u v), ap length (flow-messages u v), ap length (r.nowhere u v past))
 
     -- what waits on all links is what waits for the nodes
-    pub waiting-running : waiting f w ≡ sum_by waits nodes
+    pub waiting-running : waiting g w ≡ sum_by waits nodes
     unfolding waiting
     waiting-running =
-        let on : ℕ → ℕ = λ v. sum_by (λ u. waiting_on (w.link u v)) (outside ∷ nodes_of f) in
+        let on : ℕ → ℕ = λ v. sum_by (λ u. waiting_on (w.link u v)) (outside ∷ nodes_of g) in
         let one : (v : ℕ) → v < length nodes → on (0 + v) ≡ waits (node_at v) =
-        λ v lt. (let known : v < f.nodes = omega (arith, r.width) in
-        ap on (omega arith) ∙ sum_by-same (λ u. waiting_on (w.link u v)) (λ u. length (from u (held (node_at v)))) (outside ∷ nodes_of f) (λ u. waiting_on-held u v known) ∙ sum_by-held v known) in
+        λ v lt. (let known : v < g.nodes = omega (arith, r.width) in
+        ap on (omega arith) ∙ sum_by-same (λ u. waiting_on (w.link u v)) (λ u. length (from u (held (node_at v)))) (outside ∷ nodes_of g) (λ u. waiting_on-held u v known) ∙ sum_by-held v known) in
         ap (λ k. sum_by on (range_with_len 0 k)) (sym r.width) ∙ sum_by-range_with_len on waits 0 nodes past_last one
 
     -- where nothing waits for a node, the network is settled
@@ -148,40 +148,40 @@ module _ (f : Facts) (nodes : List Node) (limits : IsWithinLimits f) (r : IsRunn
         (λ lt. (let known : v < length nodes = omega (arith, r.width) in
         omega (arith, waiting_on-held u v lt, length-from-le u (held (node_at v)), length-held v, get_or-le-sum_by waits nodes v past_last known)))
         (λ past. waiting_on-nowhere u v past)
-        (cases_lt v f.nodes)
+        (cases_lt v g.nodes)
 
     -- where something waits and no node can make a turn, the network is cut
-    pub cut-running : ((sum_by waits nodes ≡ 0) → ⊥) → list_any (is_ready f) nodes ≡ false → IsCut f w
+    pub cut-running : ((sum_by waits nodes ≡ 0) → ⊥) → list_any (is_ready g) nodes ≡ false → IsCut g w
     cut-running some idle =
         let found = some_waits nodes some in
-        let known : found.place < f.nodes = omega (arith, r.width, found.within) in
+        let known : found.place < g.nodes = omega (arith, r.width, found.within) in
         let sender = some_sender (held (node_at found.place)) (omega (arith, length-held found.place, found.some past_last)) in
         record {
           some = (sender.0, found.place, omega (arith, waiting_on-held sender.0 found.place known, sender.1));
           each = λ u v more. ⊎_elim
               (λ lt. (let full = all_turns v lt idle (omega (arith, waiting_on-held u v lt, length-from-le u (held (node_at v)))) in
-              omega (arith, ap (λ (p : Place). p.turns) (shows.place v), turns-places (first_place f) (r.history v), full)))
+              omega (arith, ap (λ (p : Place). p.turns) (shows.place v), turns-places (first_place g) (r.history v), full)))
               (λ past. absurd (omega (arith, waiting_on-nowhere u v past)))
-              (cases_lt v f.nodes);
+              (cases_lt v g.nodes);
         }
 
   -- little came on each link
-  few_flow : (u v : ℕ) → v < f.nodes → length (r.flow u v) ≤ most_on_link
-  few_flow u v known = go (known_sender f u)
+  few_flow : (u v : ℕ) → v < g.nodes → length (r.flow u v) ≤ most_on_link
+  few_flow u v known = go (known_sender g u)
     where
-      go : IsKnown f u → length (r.flow u v) ≤ most_on_link
-      go (IsKnown.input e) = omega (arith, ap (λ k. length (r.flow k v)) e, ap length (r.inputs v known), length-inputs_from v 0 f.inputs, limits.few_inputs)
+      go : IsKnown g u → length (r.flow u v) ≤ most_on_link
+      go (IsKnown.input e) = omega (arith, ap (λ k. length (r.flow k v)) e, ap length (r.inputs v known), length-inputs_from v 0 g.inputs, limits.few_inputs)
       go (IsKnown.node lt) =
           let s = r.each u past_last lt in
           omega (arith, ap length (s.sent v), ap length (append-nil (r.flow u v)), s.counts v, slice_index-at_most (16 * length (r.history u)) (node_at u).sent v s.few_sent, few_turns u lt, limits.few_turns)
       go (IsKnown.stranger past ne) = omega (arith, ap length (r.strangers u v past ne))
 
   -- and less waits for a node
-  few_waits : (v : ℕ) → v < f.nodes → waits (node_at v) ≤ most_waiting
+  few_waits : (v : ℕ) → v < g.nodes → waits (node_at v) ≤ most_waiting
   few_waits v lt =
       let many : ℕ → ℕ = λ u. length (from u (held (node_at v))) in
-      let each : All (λ u. many u ≤ most_on_link) (outside ∷ nodes_of f) = All-from_get_or (λ u. many u ≤ most_on_link) (outside ∷ nodes_of f) 0 (λ i in'. omega (arith, length-flow (slice_index (outside ∷ nodes_of f) i) v lt, few_flow (slice_index (outside ∷ nodes_of f) i) v lt)) in
-      omega (arith, sum_by-held v lt, sum_by-le many most_on_link (outside ∷ nodes_of f) each, length-range_with_len 0 f.nodes, limits.few_nodes)
+      let each : All (λ u. many u ≤ most_on_link) (outside ∷ nodes_of g) = All-from_get_or (λ u. many u ≤ most_on_link) (outside ∷ nodes_of g) 0 (λ i in'. omega (arith, length-flow (slice_index (outside ∷ nodes_of g) i) v lt, few_flow (slice_index (outside ∷ nodes_of g) i) v lt)) in
+      omega (arith, sum_by-held v lt, sum_by-le many most_on_link (outside ∷ nodes_of g) each, length-range_with_len 0 g.nodes, limits.few_nodes)
 
   -- what waits is little
   pub few_waiting : sum_by waits nodes < 2 ^ 64

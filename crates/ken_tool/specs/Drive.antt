@@ -1,17 +1,16 @@
 -- What a visit of a node changes.
 use Rattle.std.specs.Prelude.{◌≡◌, ℕ, ◌<◌, List, [], ◌++◌, length, replicate, Bool, ◌&&◌, ◌||◌, nat_lt, slice_index_or, None}
 use Rattle.ken_model.specs.declared.messages.Message.{Message}
-use Rattle.ken_model.specs.declared.facts.Facts.{Facts}
-use Rattle.ken_model.specs.declared.facts.Input.{Input}
-use Rattle.ken_model.specs.Network.{outside, empty_heap}
+use Rattle.ken_model.specs.Game.{Game}
+use Rattle.ken_model.specs.Network.{empty_heap}
 use Rattle.ken_tool.specs.declared.node.Node.{Node}
 use Rattle.ken_tool.specs.declared.node.Pending.{Pending}
 use Rattle.ken_tool.specs.Turned.{Runs, IsIdle}
 use Rattle.ken_tool.specs.Running.{sent_to}
 
 -- whether it can make a turn: something waits for it, and it has turns left
-abbrev pub is_ready : Facts → Node → Bool
-is_ready f n = nat_lt (length n.turns.items) f.turns && (nat_lt 0 (length n.mail.items) || nat_lt 0 (length n.inputs.items))
+abbrev pub is_ready : Game → Node → Bool
+is_ready g n = nat_lt (length n.turns.items) g.turns && (nat_lt 0 (length n.mail.items) || nat_lt 0 (length n.inputs.items))
 
 -- a node got some mail more, and nothing else changed
 pub record IsDelivered (old new : Node) (more : List Message) : Type 0 where
@@ -24,12 +23,12 @@ pub record IsDelivering (old new : Node) (left more : List Message) : Type 0 whe
   pub rest : new ≡ record old { mail = new.mail }
 
 -- node v made all its turns, the others got what it sent, and its outputs were emitted
-pub record IsVisited (f : Facts) (v : ℕ) (old new : List Node) : Type 0 where
+pub record IsVisited (g : Game) (v : ℕ) (old new : List Node) : Type 0 where
   pub node : Node
   pub pending : Pending
   pub reached : Node
-  pub runs : (d : Node) → Runs f v (slice_index_or old v d) node pending
-  pub idle : IsIdle f node
+  pub runs : (d : Node) → Runs g v (slice_index_or old v d) node pending
+  pub idle : IsIdle g node
   pub delivered : IsDelivered node reached (sent_to v pending.mail.items)
   pub emitted : (d : Node) → (slice_index_or new v d).emitted.items ≡ reached.emitted.items ++ pending.outs.items
   pub rest : (d : Node) → slice_index_or new v d ≡ record reached { emitted = (slice_index_or new v d).emitted }
@@ -45,10 +44,6 @@ pub record IsFresh (size : ℕ) (n : Node) : Type 0 where
   pub sent : n.sent ≡ replicate 8 0
   pub mail : n.mail.items ≡ []
   pub emitted : n.emitted.items ≡ []
-
--- an input as a message with that number
-abbrev pub input_at : ℕ → Input → Message
-input_at number i = record { from = outside; to = i.node; number = number; stamp = 0; bytes = i.text }
 
 -- a node that has made no turn, and has its inputs so far and `left` to come, which are `all` in order
 pub record IsGiven (size : ℕ) (n : Node) (left all : List Message) : Type 0 where

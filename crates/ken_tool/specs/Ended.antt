@@ -2,13 +2,13 @@
 use Rattle.std.specs.Prelude.{◌≡◌, ℕ, ◌+◌, ◌<◌, ◌≤◌, List, [], ◌∷◌, ◌++◌, map, length, ◌==◌, if◌then◌else◌, slice_index_or, sum_by}
 use Rattle.std.specs.List.{AllByRecursion}
 use Rattle.ken_model.specs.declared.messages.Out.{Out}
-use Rattle.ken_model.specs.declared.facts.Facts.{Facts}
+use Rattle.ken_model.specs.Game.{Game}
 use Rattle.ken_model.specs.declared.reports.TurnLine.{TurnLine}
 use Rattle.ken_model.specs.declared.reports.Emission.{Emission}
 use Rattle.ken_model.specs.declared.reports.Ending.TheVariants.{Settled, Cut}
 use Rattle.ken_model.specs.declared.reports.Lines.{Lines}
 use Rattle.ken_model.specs.Schedule.{IsLegal, play}
-use Rattle.ken_model.specs.History.{lines_at, Rises}
+use Rattle.ken_model.specs.History.{lines_by, Rises}
 use Rattle.ken_model.specs.Emissions.{AreLegalEmissions, AreByNode, AreOnce}
 use Rattle.ken_model.specs.Ending.{Ends}
 use Rattle.ken_model.specs.Report.{lines_of}
@@ -38,8 +38,8 @@ waits n = length n.mail.items + length n.inputs.items
 
 -- the lines say what the nodes hold
 pub record IsGathered (nodes : List Node) (l : Lines) : Type 0 where
-  pub parts : (v : ℕ) (d : Node) → v < length nodes → lines_at v l.turns ≡ (slice_index_or nodes v d).turns.items
-  pub others : (v : ℕ) → length nodes ≤ v → lines_at v l.turns ≡ []
+  pub parts : (v : ℕ) (d : Node) → v < length nodes → lines_by v l.turns ≡ (slice_index_or nodes v d).turns.items
+  pub others : (v : ℕ) → length nodes ≤ v → lines_by v l.turns ≡ []
   pub rises : Rises 0 0 l.turns
   pub count : length l.turns ≡ turns_made nodes
   pub emissions : l.emissions ≡ emissions_from 0 nodes
@@ -50,12 +50,12 @@ pub record IsGathered (nodes : List Node) (l : Lines) : Type 0 where
   pub ending : l.ending ≡ (if l.waiting == 0 then Settled else Cut)
 
 -- the lines are the report of a failure-free run: a legal schedule, what playing it shows, legal emissions, and its ending
-pub record IsRunOf (f : Facts) (l : Lines) : Type 0 where
-  pub legal : IsLegal f (steps_of l.turns)
-  pub lines : l ≡ lines_of f (steps_of l.turns) l.emissions l.restarts l.ending
-  pub emissions : AreLegalEmissions f (play f (steps_of l.turns)) l.emissions
-  pub by_node : AreByNode f.nodes 0 l.emissions
-  pub once : AreOnce f (play f (steps_of l.turns)) l.emissions
+pub record IsRunOf (g : Game) (l : Lines) : Type 0 where
+  pub legal : IsLegal g (steps_of l.turns)
+  pub lines : l ≡ lines_of g (steps_of l.turns) l.emissions l.restarts l.ending
+  pub emissions : AreLegalEmissions g (play g (steps_of l.turns)) l.emissions
+  pub by_node : AreByNode 0 l.emissions
+  pub once : AreOnce g (play g (steps_of l.turns)) l.emissions
   pub restarts : l.restarts ≡ []
-  pub ends : Ends f (play f (steps_of l.turns)) l.emissions l.ending
+  pub ends : Ends g (play g (steps_of l.turns)) l.emissions l.ending
   pub printable : IsPrintable l

@@ -11,13 +11,15 @@ use Rattle.ken_model.specs.declared.reports.Lines.{Lines}
 use Rattle.ken_io.specs.Transfers.{AppendsFront}
 use Rattle.ken_model.specs.Laws.{steps_of}
 use Rattle.ken_tool.specs.Ended.{IsRunOf}
-use Rattle.ken_tool.specs.Draws.{Telling, HasKept}
+use Rattle.ken_app.specs.Oracles.{Telling}
+use Rattle.ken_tool.specs.Draws.{HasKept, HasKeptNothing}
 use Rattle.ken_model.specs.Spelling.{spell}
 use Rattle.ken_script.specs.declared.scripts.Script.{Script}
 use Rattle.ken_script.specs.Says.{Says}
 use Rattle.ken_script.specs.Faults.{Breaks}
 use Rattle.ken_tool.specs.declared.status.Status.{Status}
 use Rattle.ken_tool.specs.declared.status.Status.TheVariants as status
+use Rattle.ken_model.specs.Game.{game_of}
 
 -- the words are the program's name and `run`
 abbrev pub are_plain : List (List ℕ) → Bool
@@ -29,24 +31,20 @@ abbrev pub AreTold : Option (List ℕ) → List ℕ → Type 0
 AreTold None b = ⊤
 AreTold (Some xs) b = b ≡ xs
 
--- a world kept no oracle
-abbrev pub HasKeptNothing : {O : Type 0} → (ℕ → Option O) → Type 0
-HasKeptNothing kept = (v : ℕ) → kept v ≡ None
-
 -- w is the report of a failure-free run of what b says. The run is the one that w spells: its schedule is legal, its
 -- turns, heaps and ending are those of playing the schedule, its emissions are legal and stand node by node, and what its
 -- turns drew is what the kept oracles answered. Today no node restarts, so each output is emitted once
 pub record IsReport {O : Type 0} (telling : Telling O) (kept : ℕ → Option O) (b : List ℕ) (ending : Ending) (w : List ℕ) : Type 0 where
   pub script : Script
   pub says : Says b script
-  pub text : w ≡ report script.facts (spell w).schedule (spell w).emissions (spell w).restarts ending
-  pub legal : IsLegal script.facts (spell w).schedule
-  pub emissions : AreLegalEmissions script.facts (play script.facts (spell w).schedule) (spell w).emissions
-  pub by_node : AreByNode script.facts.nodes 0 (spell w).emissions
+  pub text : w ≡ report (game_of script.facts) (spell w).schedule (spell w).emissions (spell w).restarts ending
+  pub legal : IsLegal (game_of script.facts) (spell w).schedule
+  pub emissions : AreLegalEmissions (game_of script.facts) (play (game_of script.facts) (spell w).schedule) (spell w).emissions
+  pub by_node : AreByNode 0 (spell w).emissions
   pub restarts : (spell w).restarts ≡ []
-  pub once : AreOnce script.facts (play script.facts (spell w).schedule) (spell w).emissions
-  pub ends : Ends script.facts (play script.facts (spell w).schedule) (spell w).emissions ending
-  pub drawn : HasKept telling kept script.facts (spell w).schedule
+  pub once : AreOnce (game_of script.facts) (play (game_of script.facts) (spell w).schedule) (spell w).emissions
+  pub ends : Ends (game_of script.facts) (play (game_of script.facts) (spell w).schedule) (spell w).emissions ending
+  pub drawn : HasKept telling kept (game_of script.facts) script.seed (spell w).schedule
 
 -- w is a front of such a report
 pub record IsFront {O : Type 0} (telling : Telling O) (kept : ℕ → Option O) (b w : List ℕ) : Type 0 where
@@ -97,8 +95,8 @@ pub record IsRunOfSource {O : Type 0} (telling : Telling O) (kept : ℕ → Opti
   pub told : AreTold left read
   pub script : Script
   pub says : Says read script
-  pub run : IsRunOf script.facts l
-  pub drawn : HasKept telling kept script.facts (steps_of l.turns)
+  pub run : IsRunOf (game_of script.facts) l
+  pub drawn : HasKept telling kept (game_of script.facts) script.seed (steps_of l.turns)
 
 -- why there are none
 abbrev pub IsRefusal : Option (List ℕ) → Status → Type 0

@@ -7,4 +7,5 @@ pub mod Oracles
 pub mod Timeline
 pub mod Ended
 pub mod Headline
+pub mod InMemory
 pub mod Statuses

@@ -2,20 +2,20 @@
 use Rattle.std.specs.Prelude.{◌≡◌, ℕ, ◌+◌, ◌-◌, ◌*◌, ◌<◌, ◌≤◌, ◌^◌, max, ◌⊎◌, List, length, [], ◌∷◌, ◌++◌, Some, None, vec_len}
 use Rattle.std.specs.List.{AllByRecursion}
 use Rattle.ken_model.specs.declared.messages.Message.{Message}
-use Rattle.ken_model.specs.Handler.{after}
 use Rattle.ken_model.specs.Effects.{Effect}
-use Rattle.ken_model.specs.declared.facts.Facts.{Facts}
+use Rattle.ken_model.specs.Game.{Game}
 use Rattle.ken_model.specs.Spelling.{IsWord}
 use Rattle.ken_tool.specs.declared.node.Node.{Node}
 use Rattle.ken_tool.specs.declared.node.Pending.{Pending}
-use Rattle.ken_tool.specs.Turns.{IsPayload, IsModest, HoldsTexts, posted, counted, outputs_from}
+use Rattle.ken_tool.specs.Turns.{IsPayload, IsModest, HoldsTexts, posted, counted}
+use Rattle.ken_model.specs.Network.{outputs_from}
 
 -- node v took a message and drew: its heap, stamp, turns and counts are new, and what it sent and output is pending
-pub record IsTurned (f : Facts) (v : ℕ) (m : Message) (old new : Node) (before later : Pending) : Type 0 where
+pub record IsTurned (g : Game) (v : ℕ) (m : Message) (old new : Node) (before later : Pending) : Type 0 where
   pub draws : List ℕ
   pub effect : Effect
-  pub defined : after f.kind v f.nodes old.objects.value m draws ≡ Some effect
-  pub modest : IsModest f.nodes effect.sends effect.outs
+  pub defined : g.handler.after v g.nodes old.objects.value m draws ≡ Some effect
+  pub modest : IsModest g.nodes effect.sends effect.outs
   pub value : new.objects.value ≡ effect.value
   pub idle : new.objects.begun ≡ None
   pub texts : HoldsTexts new.objects.value
@@ -46,18 +46,18 @@ pub record FindsNone (old new : Node) : Type 0 where
   pub rest : new ≡ record old { mail = new.mail; inputs = new.inputs }
 
 -- the node made turns one after another, each with the message that came next
-pub data Runs (f : Facts) (v : ℕ) (old : Node) : Node → Pending → Type 0 where
-  none : (p : Pending) → p.mail.items ≡ [] → p.outs.items ≡ [] → Runs f v old old p
-  looked : (n new : Node) (p : Pending) → Runs f v old n p → FindsNone n new → Runs f v old new p
-  more : (n mid new : Node) (m : Message) (p q : Pending) → Runs f v old n p → length n.turns.items < f.turns → Takes n m mid → IsTurned f v m mid new p q → Runs f v old new q
+pub data Runs (g : Game) (v : ℕ) (old : Node) : Node → Pending → Type 0 where
+  none : (p : Pending) → p.mail.items ≡ [] → p.outs.items ≡ [] → Runs g v old old p
+  looked : (n new : Node) (p : Pending) → Runs g v old n p → FindsNone n new → Runs g v old new p
+  more : (n mid new : Node) (m : Message) (p q : Pending) → Runs g v old n p → length n.turns.items < g.turns → Takes n m mid → IsTurned g v m mid new p q → Runs g v old new q
 
 -- how many turns it may still make
-abbrev pub turns_left : Facts → Node → ℕ
-turns_left f n = f.turns - length n.turns.items
+abbrev pub turns_left : Game → Node → ℕ
+turns_left g n = g.turns - length n.turns.items
 
 -- a stamp that no turn of the node takes past its type
-abbrev pub IsEarly : Facts → Node → ℕ → Type 0
-IsEarly f n stamp = stamp + turns_left f n ≤ 2 ^ 40
+abbrev pub IsEarly : Game → Node → ℕ → Type 0
+IsEarly g n stamp = stamp + turns_left g n ≤ 2 ^ 40
 
 -- a message with a payload that it may have
 abbrev pub IsShort : Message → Type 0
@@ -65,10 +65,10 @@ IsShort m = IsPayload m.bytes
 
 -- no number of the node passes its type, however many turns it makes; what waits for it is short, and no turn of its heap
 -- is begun
-pub record IsSound (f : Facts) (n : Node) (pending : ℕ) : Type 0 where
-  pub clock : IsEarly f n n.stamp
-  pub mail : AllByRecursion (λ (m : Message). IsEarly f n m.stamp) n.mail.items
-  pub inputs : AllByRecursion (λ (m : Message). IsEarly f n m.stamp) n.inputs.items
+pub record IsSound (g : Game) (n : Node) (pending : ℕ) : Type 0 where
+  pub clock : IsEarly g n n.stamp
+  pub mail : AllByRecursion (λ (m : Message). IsEarly g n m.stamp) n.mail.items
+  pub inputs : AllByRecursion (λ (m : Message). IsEarly g n m.stamp) n.inputs.items
   pub short_mail : AllByRecursion IsShort n.mail.items
   pub short_inputs : AllByRecursion IsShort n.inputs.items
   pub counts : AllByRecursion (λ k. k ≤ 16 * length n.turns.items) n.sent
@@ -77,5 +77,5 @@ pub record IsSound (f : Facts) (n : Node) (pending : ℕ) : Type 0 where
   pub outs : length n.emitted.items + pending ≤ 16 * length n.turns.items
 
 -- it can make no turn now
-abbrev pub IsIdle : Facts → Node → Type 0
-IsIdle f n = HasNone n ⊎ (f.turns ≤ length n.turns.items)
+abbrev pub IsIdle : Game → Node → Type 0
+IsIdle g n = HasNone n ⊎ (g.turns ≤ length n.turns.items)

@@ -7,7 +7,6 @@ use Rattle.ken_model.specs.declared.values.Block.{Block}
 use Rattle.ken_model.specs.declared.values.Value.{Value}
 use Rattle.ken_model.specs.declared.messages.Message.{Message}
 use Rattle.ken_model.specs.declared.messages.Send.{Send}
-use Rattle.ken_model.specs.declared.messages.Out.{Out}
 
 -- a payload that a message may have: no line feed, and no more than a message may hold
 abbrev pub IsPayload : List ℕ → Type 0
@@ -17,12 +16,13 @@ IsPayload bytes = IsOneLine bytes × (length bytes ≤ MAX_TEXT)
 abbrev pub HoldsTexts : Value → Type 0
 HoldsTexts value = AllByRecursion (λ (b : Block). IsPayload b.bytes) value.blocks
 
--- few sends and outputs, the sends for nodes of the run, and no line feed
+-- few sends and outputs, all short, the sends for nodes of the run, and no line feed
 pub record IsModest (nodes : ℕ) (sends : List Send) (outs : List (List ℕ)) : Type 0 where
   pub few_sends : length sends ≤ 16
   pub few_outs : length outs ≤ 16
   pub known : AllByRecursion (λ (s : Send). (s.to < nodes) × IsPayload s.bytes) sends
   pub one_line : AllByRecursion IsOneLine outs
+  pub short_outs : AllByRecursion (λ x. length x ≤ MAX_TEXT) outs
 
 -- what a turn of node v with that stamp sends, numbered after the counts of what it sent to each node
 unfoldable pub posted : ℕ → ℕ → List ℕ → List Send → List Message
@@ -33,11 +33,6 @@ posted v stamp counts (s ∷ ss) = record { from = v; to = s.to; number = slice_
 unfoldable pub counted : List ℕ → List Send → List ℕ
 counted counts [] = counts
 counted counts (s ∷ ss) = counted (slice_set counts s.to (slice_index counts s.to + 1)) ss
-
--- outputs, numbered on from n
-unfoldable pub outputs_from : ℕ → List (List ℕ) → List Out
-outputs_from n [] = []
-outputs_from n (x ∷ xs) = record { number = n + 1; text = x } ∷ outputs_from (n + 1) xs
 
 -- all counts have room for k more
 abbrev pub HasRoom : ℕ → List ℕ → Type 0

@@ -1,15 +1,17 @@
 // A run on one thread: the nodes in turn, until none of them can make a turn.
 ghost use Rattle.std.specs.Prelude.{◌≡◌, ◌<◌, ◌≤◌, ◌++◌, [], ℕ, true, false, length, slice_index_or, Some, IfOk, OnOk, OnErr};
 ghost use Rattle.std.specs.List.{AllByRecursion, list_any};
-ghost use Rattle.ken_model.specs.Facts.{IsWithinLimits, IsPlainRun};
+ghost use Rattle.ken_model.specs.Limits.{IsWithinLimits, IsPlainRun};
 ghost use Rattle.ken_model.specs.Network.{inputs_for};
 ghost use Rattle.ken_tool.specs.declared.node.Node.{Node};
 ghost use Rattle.ken_tool.specs.Running.{sent_to, IsRunning, turns_made};
 ghost use Rattle.ken_model.specs.declared.facts.TheConstants.{MAX_NODES};
 ghost use Rattle.ken_model.specs.Laws.{steps_of};
-ghost use Rattle.ken_tool.specs.Draws.{AreAsked, AreUnasked, HasKept};
+ghost use Rattle.ken_tool.specs.Draws.{AreAsked, AreUnasked, KeepOrigins, HasKept, HasKeptNothing};
 ghost use Rattle.ken_tool.specs.Drive.{IsDelivered, IsVisited, IsFresh, IsGiven, is_ready};
 ghost use Rattle.ken_tool.specs.Ended.{IsRunOf};
+ghost use Rattle.ken_model.specs.Game.{game_of};
+ghost use Rattle.ken_model.specs.Kinds.{handler_of};
 
 use crate::ended::gather;
 use crate::node::Node;
@@ -21,7 +23,7 @@ use std::alloc::{AllocError, Global};
 
 /// Nodes that have made no turn, without their inputs.
 fn fresh(alloc: Global, facts: &Facts) -> Result<Vec<Node>, AllocError>
-    requires { IsWithinLimits facts.now }
+    requires { IsWithinLimits (game_of facts.now) }
     ensures long { IfOk result (λ nodes. length nodes.items ≡ facts.now.nodes) }
     ensures fresh { IfOk result (λ nodes. AllByRecursion (λ n. IsFresh facts.now.size n × (n.inputs.items ≡ [])) nodes.items) }
 {
@@ -34,11 +36,11 @@ fn fresh(alloc: Global, facts: &Facts) -> Result<Vec<Node>, AllocError>
 
 /// Puts all inputs where their nodes find them, in order. After an error the run can't go on.
 fn give_inputs(alloc: Global, facts: &Facts, nodes: &mut [Node]) -> Result<(), AllocError>
-    requires limits { IsWithinLimits facts.now }
+    requires limits { IsWithinLimits (game_of facts.now) }
     requires long { length nodes.old ≡ facts.now.nodes }
     requires fresh { AllByRecursion (λ n. IsFresh facts.now.size n × (n.inputs.items ≡ [])) nodes.old }
     ensures { OnOk result ((v : ℕ) (d : Node) → v < facts.now.nodes
-        → IsGiven facts.now.size (slice_index_or nodes.new v d) [] (inputs_for facts.now v)) }
+        → IsGiven facts.now.size (slice_index_or nodes.new v d) [] (inputs_for (game_of facts.now) v)) }
 {
     for input in facts.inputs.as_slice() {
         nodes[input.node as usize].give(alloc, input)?;
@@ -48,9 +50,9 @@ fn give_inputs(alloc: Global, facts: &Facts, nodes: &mut [Node]) -> Result<(), A
 
 /// The nodes at the start: empty heaps, no turns, and the inputs of each in order.
 fn start(alloc: Global, facts: &Facts) -> Result<Vec<Node>, AllocError>
-    requires limits { IsWithinLimits facts.now }
-    requires plain { IsPlainRun facts.now }
-    ensures running { IfOk result (λ nodes. IsRunning facts.now nodes.items) }
+    requires limits { IsWithinLimits (game_of facts.now) }
+    requires plain { IsPlainRun (game_of facts.now) }
+    ensures running { IfOk result (λ nodes. IsRunning (game_of facts.now) nodes.items) }
     ensures first { IfOk result (λ nodes. (v : ℕ) (d : Node) → v < facts.now.nodes → (slice_index_or nodes.items v d).turns.items ≡ []) }
 {
     let mut nodes = fresh(alloc, facts)?;
@@ -88,13 +90,14 @@ fn visit<O: Oracle>(
     oracles: &mut [O],
     node: u8,
 ) -> Result<(), AllocError>
-    requires limits { IsWithinLimits facts.now }
+    requires limits { IsWithinLimits (game_of facts.now) }
     requires known { node < facts.now.nodes }
-    requires running { IsRunning facts.now nodes.old }
-    requires asked { AreAsked (record { clocks = O.clocks; words = O.words }) facts.now.kind nodes.old oracles.old }
-    ensures running { OnOk result (IsRunning facts.now nodes.new) }
-    ensures visited { OnOk result (IsVisited facts.now node nodes.old nodes.new) }
-    ensures asked { OnOk result (AreAsked (record { clocks = O.clocks; words = O.words }) facts.now.kind nodes.new oracles.new) }
+    requires running { IsRunning (game_of facts.now) nodes.old }
+    requires asked { AreAsked O.telling (handler_of facts.now.kind) nodes.old oracles.old }
+    ensures running { OnOk result (IsRunning (game_of facts.now) nodes.new) }
+    ensures visited { OnOk result (IsVisited (game_of facts.now) node nodes.old nodes.new) }
+    ensures asked { OnOk result (AreAsked O.telling (handler_of facts.now.kind) nodes.new oracles.new) }
+    ensures origins { KeepOrigins O.telling oracles.old oracles.new }
 {
     let at = node as usize;
     let pending = nodes[at].run(alloc, facts, node, &mut oracles[at])?;
@@ -109,12 +112,13 @@ fn pass<O: Oracle>(
     nodes: &mut [Node],
     oracles: &mut [O],
 ) -> Result<(), AllocError>
-    requires limits { IsWithinLimits facts.now }
-    requires running { IsRunning facts.now nodes.old }
-    requires asked { AreAsked (record { clocks = O.clocks; words = O.words }) facts.now.kind nodes.old oracles.old }
-    ensures running { OnOk result (IsRunning facts.now nodes.new) }
-    ensures asked { OnOk result (AreAsked (record { clocks = O.clocks; words = O.words }) facts.now.kind nodes.new oracles.new) }
-    ensures grown { OnOk result (list_any (is_ready facts.now) nodes.old ≡ true → turns_made nodes.old < turns_made nodes.new) }
+    requires limits { IsWithinLimits (game_of facts.now) }
+    requires running { IsRunning (game_of facts.now) nodes.old }
+    requires asked { AreAsked O.telling (handler_of facts.now.kind) nodes.old oracles.old }
+    ensures running { OnOk result (IsRunning (game_of facts.now) nodes.new) }
+    ensures asked { OnOk result (AreAsked O.telling (handler_of facts.now.kind) nodes.new oracles.new) }
+    ensures origins { KeepOrigins O.telling oracles.old oracles.new }
+    ensures grown { OnOk result (list_any (is_ready (game_of facts.now)) nodes.old ≡ true → turns_made nodes.old < turns_made nodes.new) }
 {
     for node in 0..facts.nodes {
         visit(alloc, facts, nodes, oracles, node)?;
@@ -124,7 +128,7 @@ fn pass<O: Oracle>(
 
 /// Whether some node can make a turn.
 fn is_any_ready(facts: &Facts, nodes: &[Node]) -> bool
-    ensures { result ≡ list_any (is_ready facts.now) nodes.now }
+    ensures { result ≡ list_any (is_ready (game_of facts.now)) nodes.now }
 {
     nodes.iter().any(|node| node.is_ready(facts))
 }
@@ -136,12 +140,13 @@ fn drain<O: Oracle>(
     nodes: &mut [Node],
     oracles: &mut [O],
 ) -> Result<(), AllocError>
-    requires limits { IsWithinLimits facts.now }
-    requires running { IsRunning facts.now nodes.old }
-    requires asked { AreAsked (record { clocks = O.clocks; words = O.words }) facts.now.kind nodes.old oracles.old }
-    ensures running { OnOk result (IsRunning facts.now nodes.new) }
-    ensures asked { OnOk result (AreAsked (record { clocks = O.clocks; words = O.words }) facts.now.kind nodes.new oracles.new) }
-    ensures idle { OnOk result (list_any (is_ready facts.now) nodes.new ≡ false) }
+    requires limits { IsWithinLimits (game_of facts.now) }
+    requires running { IsRunning (game_of facts.now) nodes.old }
+    requires asked { AreAsked O.telling (handler_of facts.now.kind) nodes.old oracles.old }
+    ensures running { OnOk result (IsRunning (game_of facts.now) nodes.new) }
+    ensures asked { OnOk result (AreAsked O.telling (handler_of facts.now.kind) nodes.new oracles.new) }
+    ensures origins { KeepOrigins O.telling oracles.old oracles.new }
+    ensures idle { OnOk result (list_any (is_ready (game_of facts.now)) nodes.new ≡ false) }
 {
     'passes: while is_any_ready(facts, nodes) {
         pass(alloc, facts, nodes, oracles)?;
@@ -149,14 +154,14 @@ fn drain<O: Oracle>(
     Ok(())
 }
 
-/// The oracles of all nodes, none of which has answered anything.
+/// An oracle of each node, none of which has answered anything.
 fn oracles<W: World>(
     alloc: Global,
     script: &Script,
     world: &mut W,
 ) -> Result<Vec<W::Luck>, AllocError>
-    requires limits { IsWithinLimits script.now.facts }
-    ensures unasked { IfOk result (λ oracles. AreUnasked (record { clocks = W.Luck.clocks; words = W.Luck.words }) script.now.facts.nodes oracles.items) }
+    requires limits { IsWithinLimits (game_of script.now.facts) }
+    ensures unasked { IfOk result (λ oracles. AreUnasked W.Luck.telling script.now.facts.nodes script.now.seed oracles.items) }
     ensures kept { (v : ℕ) → W.kept world.new v ≡ W.kept world.old v }
 {
     let mut oracles = Vec::new(alloc);
@@ -169,7 +174,8 @@ fn oracles<W: World>(
 /// Gives the oracles of all nodes back.
 fn keep<W: World>(world: &mut W, oracles: Vec<W::Luck>)
     requires few { length oracles.items ≤ MAX_NODES }
-    ensures { (v : ℕ) (e : W.Luck) → v < length oracles.items → W.kept world.new v ≡ Some (slice_index_or oracles.items v e) }
+    ensures each { (v : ℕ) (e : W.Luck) → v < length oracles.items → W.kept world.new v ≡ Some (slice_index_or oracles.items v e) }
+    ensures others { (v : ℕ) → length oracles.items ≤ v → W.kept world.new v ≡ W.kept world.old v }
 {
     let mut node = 0;
     for oracle in oracles {
@@ -185,11 +191,12 @@ pub(crate) fn run<W: World>(
     script: &Script,
     world: &mut W,
 ) -> Result<Lines, AllocError>
-    requires limits { IsWithinLimits script.now.facts }
-    requires plain { IsPlainRun script.now.facts }
-    ensures ran { IfOk result (IsRunOf script.now.facts) }
-    ensures kept { IfOk result (λ lines. HasKept (record { clocks = W.Luck.clocks; words = W.Luck.words }) (W.kept world.new) script.now.facts (steps_of lines.turns)) }
-    ensures err { OnErr result ((v : ℕ) → W.kept world.new v ≡ W.kept world.old v) }
+    requires limits { IsWithinLimits (game_of script.now.facts) }
+    requires plain { IsPlainRun (game_of script.now.facts) }
+    requires none { HasKeptNothing (W.kept world.old) }
+    ensures ran { IfOk result (IsRunOf (game_of script.now.facts)) }
+    ensures kept { IfOk result (λ lines. HasKept W.Luck.telling (W.kept world.new) (game_of script.now.facts) script.now.seed (steps_of lines.turns)) }
+    ensures err { OnErr result (HasKeptNothing (W.kept world.new)) }
 {
     let mut nodes = start(alloc, &script.facts)?;
     let mut oracles = oracles(alloc, script, world)?;

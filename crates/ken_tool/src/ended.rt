@@ -3,7 +3,7 @@ ghost use Rattle.std.specs.Prelude.{◌≡◌, ◌≢◌, ℕ, ◌+◌, ◌<◌,
 ghost use Rattle.std.specs.List.{AllByRecursion};
 ghost use Rattle.ken_model.specs.declared.reports.Ending.TheVariants.{Settled, Cut};
 ghost use Rattle.ken_model.specs.declared.reports.TurnLine.{TurnLine};
-ghost use Rattle.ken_model.specs.History.{lines_at, Rises};
+ghost use Rattle.ken_model.specs.History.{lines_by, Rises};
 ghost use Rattle.ken_tool.specs.Timeline.{StampsRise};
 ghost use Rattle.ken_tool.specs.Ended.{AreInTurn, emissions_at, waits, IsGathered};
 
@@ -42,10 +42,10 @@ impl Summary {
     fn add(&mut self, alloc: Global, node: u8, state: Node) -> Result<(), AllocError>
         requires own { AllByRecursion (λ (l : TurnLine). l.step.node ≡ node) state.turns.items }
         requires rise { StampsRise 0 state.turns.items }
-        requires fresh { lines_at node self.old.timeline ≡ [] }
+        requires fresh { lines_by node self.old.timeline ≡ [] }
         requires room { self.old.waiting + waits state < 2 ^ 64 }
-        ensures its_turns { OnOk result (lines_at node self.new.timeline ≡ state.turns.items) }
-        ensures others { OnOk result ((v : ℕ) → v ≢ node → lines_at v self.new.timeline ≡ lines_at v self.old.timeline) }
+        ensures its_turns { OnOk result (lines_by node self.new.timeline ≡ state.turns.items) }
+        ensures others { OnOk result ((v : ℕ) → v ≢ node → lines_by v self.new.timeline ≡ lines_by v self.old.timeline) }
         ensures count { OnOk result (length self.new.timeline ≡ length self.old.timeline + length state.turns.items) }
         ensures emissions { OnOk result (self.new.emissions.items ≡ self.old.emissions.items ++ emissions_at node state.emitted.items) }
         ensures heaps { OnOk result (self.new.heaps.items ≡ self.old.heaps.items ++ state.objects.value ∷ []) }

@@ -1,17 +1,19 @@
 // A node of a run: its heap, its turns, and what waits for it.
 ghost use Rattle.std.specs.Prelude.{◌≡◌, ℕ, ◌+◌, ◌*◌, ◌<◌, ◌≤◌, ◌^◌, max, [], ◌∷◌, ◌++◌, length, slice_index, Some, None, IfOk, OnOk, MatchOption, vec_len};
 ghost use Rattle.std.specs.List.{AllByRecursion};
-ghost use Rattle.ken_model.specs.declared.facts.TheConstants.{PAGE, MAX_PAGES};
-ghost use Rattle.ken_model.specs.Facts.{IsWithinLimits};
+ghost use Rattle.ken_model.specs.declared.facts.TheConstants.{PAGE, MAX_PAGES, MAX_TURNS};
+ghost use Rattle.ken_model.specs.Limits.{IsWithinLimits};
 ghost use Rattle.ken_model.specs.Laws.{steps_of};
-ghost use Rattle.ken_model.specs.Handler.{after, clocks_in, words_in};
 ghost use Rattle.ken_model.specs.Spelling.{IsWord};
 ghost use Rattle.ken_app.specs.Oracles.{Answers};
 ghost use Rattle.ken_app.specs.Turning.{IsPlaced};
 ghost use Rattle.ken_tool.specs.Draws.{IsAskedFor};
-ghost use Rattle.ken_tool.specs.Turns.{posted, counted, outputs_from, HasRoom, IsPayload, IsModest, HoldsTexts};
+ghost use Rattle.ken_tool.specs.Turns.{posted, counted, HasRoom, IsPayload, IsModest, HoldsTexts};
 ghost use Rattle.ken_tool.specs.Turned.{IsTurned, FindsNone, Takes, Runs, IsSound, IsIdle};
-ghost use Rattle.ken_tool.specs.Drive.{is_ready, input_at, IsFresh};
+ghost use Rattle.ken_tool.specs.Drive.{is_ready, IsFresh};
+ghost use Rattle.ken_model.specs.Network.{outputs_from, input_at};
+ghost use Rattle.ken_model.specs.Game.{game_of};
+ghost use Rattle.ken_model.specs.Kinds.{handler_of};
 
 use ken_alloc::Objects;
 use ken_app::{Made, Oracle, take_turn};
@@ -58,17 +60,18 @@ fn handle<O: Oracle>(
     message: &Message,
     oracle: &mut O,
 ) -> Result<Made, AllocError>
-    requires placed { IsPlaced node facts.now.nodes message.now }
+    requires placed { IsPlaced node facts.now.nodes }
     requires payload { IsPayload message.now.bytes }
     requires idle { objects.old.begun ≡ None }
     requires texts { HoldsTexts objects.old.value }
-    ensures handled { IfOk result (λ made. after facts.now.kind node facts.now.nodes objects.old.value message.now made.draws.items
+    ensures handled { IfOk result (λ made. (handler_of facts.now.kind).after node facts.now.nodes objects.old.value message.now made.draws.items
         ≡ Some (record { value = objects.new.value; sends = made.sends.items; outs = made.outs.items })) }
     ensures idle { OnOk result (objects.new.begun ≡ None) }
     ensures texts { OnOk result (HoldsTexts objects.new.value) }
     ensures modest { IfOk result (λ made. IsModest facts.now.nodes made.sends.items made.outs.items) }
-    ensures clocks { IfOk result (λ made. Answers (O.clocks oracle.old) (O.clocks oracle.new) (clocks_in facts.now.kind made.draws.items)) }
-    ensures words { IfOk result (λ made. Answers (O.words oracle.old) (O.words oracle.new) (words_in facts.now.kind made.draws.items)) }
+    ensures clocks { IfOk result (λ made. Answers (O.telling.clocks oracle.old) (O.telling.clocks oracle.new) ((handler_of facts.now.kind).clocks made.draws.items)) }
+    ensures words { IfOk result (λ made. Answers (O.telling.words oracle.old) (O.telling.words oracle.new) ((handler_of facts.now.kind).words made.draws.items)) }
+    ensures origin { O.telling.origin oracle.new ≡ O.telling.origin oracle.old }
 {
     let app = KindApp(facts.kind);
     objects.begin();
@@ -136,7 +139,7 @@ impl Node {
 
     /// Whether it can make a turn: something waits for it, and it has turns left.
     pub(crate) fn is_ready(&self, facts: &Facts) -> bool
-        ensures { result ≡ is_ready facts.now self.now }
+        ensures { result ≡ is_ready (game_of facts.now) self.now }
     {
         (self.turns.len() as u64) < facts.turns && !(self.mail.is_empty() && self.inputs.is_empty())
     }
@@ -201,7 +204,7 @@ impl Node {
     }
 
     /// Numbers the outputs of a turn, in order.
-    #[tactic(auto, unfolding(crate::specs::Turns::outputs_from))]
+    #[tactic(auto, unfolding(ken_model::specs::Network::outputs_from))]
     fn output_all(&self, outs: Vec<Octets>, made: &mut Vec<Out>) -> Result<(), AllocError>
         requires { vec_len self.now.emitted + vec_len made.old + length outs.items < 2 ^ 64 }
         ensures { OnOk result (made.new.items ≡ made.old.items ++ outputs_from (vec_len self.now.emitted + vec_len made.old) outs.items) }
@@ -223,16 +226,18 @@ impl Node {
         oracle: &mut O,
         pending: &mut Pending,
     ) -> Result<(), AllocError>
-        requires placed { IsPlaced node facts.now.nodes message }
+        requires placed { IsPlaced node facts.now.nodes }
         requires payload { IsPayload message.bytes }
         requires idle { self.old.objects.begun ≡ None }
         requires texts { HoldsTexts self.old.objects.value }
         requires clock { max self.old.stamp message.stamp + 1 < 2 ^ 64 }
         requires counts { HasRoom 16 self.old.sent }
         requires outs { vec_len self.old.emitted + vec_len pending.old.outs + 16 < 2 ^ 64 }
-        requires asked { IsAskedFor (record { clocks = O.clocks; words = O.words }) oracle.old facts.now.kind (steps_of self.old.turns.items) }
-        ensures turned { OnOk result (IsTurned facts.now node message self.old self.new pending.old pending.new) }
-        ensures asked { OnOk result (IsAskedFor (record { clocks = O.clocks; words = O.words }) oracle.new facts.now.kind (steps_of self.new.turns.items)) }
+        requires few { length self.old.turns.items < MAX_TURNS }
+        requires asked { IsAskedFor O.telling oracle.old (handler_of facts.now.kind) (steps_of self.old.turns.items) }
+        ensures turned { OnOk result (IsTurned (game_of facts.now) node message self.old self.new pending.old pending.new) }
+        ensures asked { OnOk result (IsAskedFor O.telling oracle.new (handler_of facts.now.kind) (steps_of self.new.turns.items)) }
+        ensures origin { O.telling.origin oracle.new ≡ O.telling.origin oracle.old }
     {
         let made = handle(alloc, facts, node, &mut self.objects, &message, oracle)?;
         let draws = recorded(alloc, made.draws.as_slice())?;
@@ -260,13 +265,14 @@ impl Node {
         node: u8,
         oracle: &mut O,
     ) -> Result<Pending, AllocError>
-        requires limits { IsWithinLimits facts.now }
+        requires limits { IsWithinLimits (game_of facts.now) }
         requires known { node < facts.now.nodes }
-        requires sound { IsSound facts.now self.old 0 }
-        requires asked { IsAskedFor (record { clocks = O.clocks; words = O.words }) oracle.old facts.now.kind (steps_of self.old.turns.items) }
-        ensures runs { IfOk result (Runs facts.now node self.old self.new) }
-        ensures idle { OnOk result (IsIdle facts.now self.new) }
-        ensures asked { OnOk result (IsAskedFor (record { clocks = O.clocks; words = O.words }) oracle.new facts.now.kind (steps_of self.new.turns.items)) }
+        requires sound { IsSound (game_of facts.now) self.old 0 }
+        requires asked { IsAskedFor O.telling oracle.old (handler_of facts.now.kind) (steps_of self.old.turns.items) }
+        ensures runs { IfOk result (Runs (game_of facts.now) node self.old self.new) }
+        ensures idle { OnOk result (IsIdle (game_of facts.now) self.new) }
+        ensures asked { OnOk result (IsAskedFor O.telling oracle.new (handler_of facts.now.kind) (steps_of self.new.turns.items)) }
+        ensures origin { O.telling.origin oracle.new ≡ O.telling.origin oracle.old }
     {
         let mut pending = Pending::new(alloc);
         'turns: while (self.turns.len() as u64) < facts.turns {

@@ -2,7 +2,7 @@
 ghost use Rattle.std.specs.Prelude.{◌≡◌, ◌≢◌, ◌+◌, ◌<◌, List, [], ℕ, length, IfOk, OnOk};
 ghost use Rattle.std.specs.List.{AllByRecursion};
 ghost use Rattle.ken_model.specs.declared.reports.TurnLine.{TurnLine};
-ghost use Rattle.ken_model.specs.History.{lines_at, Rises};
+ghost use Rattle.ken_model.specs.History.{lines_by, Rises};
 ghost use Rattle.ken_tool.specs.Timeline.{StampsRise};
 
 use ken_model::TurnLine;
@@ -42,9 +42,9 @@ impl Timeline {
     pub fn add(&mut self, node: u8, turns: Vec<TurnLine>) -> Result<(), AllocError>
         requires own { AllByRecursion (λ (l : TurnLine). l.step.node ≡ node) turns.items }
         requires rise { StampsRise 0 turns.items }
-        requires fresh { lines_at node self.old ≡ [] }
-        ensures its_lines { OnOk result (lines_at node self.new ≡ turns.items) }
-        ensures others { OnOk result ((v : ℕ) → v ≢ node → lines_at v self.new ≡ lines_at v self.old) }
+        requires fresh { lines_by node self.old ≡ [] }
+        ensures its_lines { OnOk result (lines_by node self.new ≡ turns.items) }
+        ensures others { OnOk result ((v : ℕ) → v ≢ node → lines_by v self.new ≡ lines_by v self.old) }
         ensures length { OnOk result (length self.new ≡ length self.old + length turns.items) }
     {
         for turn in turns {

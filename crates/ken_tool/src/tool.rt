@@ -2,7 +2,8 @@
 ghost use Rattle.std.specs.Prelude.{◌≡◌, ◌≢◌, ◌↔◌, ◌+◌, ◌≤◌, true, false, map, string_bytes, IfOk, IfErr, OnErr, IsErrOf};
 ghost use Rattle.ken_io.specs.Causes.{Rose};
 ghost use Rattle.ken_io.specs.Transfers.{TakesAtMost};
-ghost use Rattle.ken_tool.specs.Headline.{are_plain, Ran, IsQuiet, IsComplete, IsRunOfSource, IsRefusal, IsOut, HasKeptNothing};
+ghost use Rattle.ken_tool.specs.Headline.{are_plain, Ran, IsQuiet, IsComplete, IsRunOfSource, IsRefusal, IsOut};
+ghost use Rattle.ken_tool.specs.Draws.{HasKeptNothing};
 
 #[cfg(test)]
 mod tests;
@@ -30,7 +31,7 @@ pub fn ken<R, S: Source, K: Sink, W: World>(
 ) -> Status
     requires { HasKeptNothing (W.kept world.old) }
     ensures usage { (result ≡ Status.Usage) ↔ (are_plain (map string_bytes words.now) ≡ false) }
-    ensures runs { Ran (record { clocks = W.Luck.clocks; words = W.Luck.words }) (W.kept world.new) (S.left source.old) (K.took sink.old) (K.took sink.new) result }
+    ensures runs { Ran W.Luck.telling (W.kept world.new) (S.left source.old) (K.took sink.old) (K.took sink.new) result }
     ensures complete { are_plain (map string_bytes words.now) ≡ true
         → (Rose (S.faults source.old) (S.faults source.new) → ⊥)
         → (Rose (K.faults sink.old) (K.faults sink.new) → ⊥)
@@ -67,7 +68,7 @@ fn is_plain(words: &[String]) -> bool
 /// Reads a script and runs it.
 fn run<S: Source, W: World>(alloc: Global, source: &mut S, world: &mut W) -> Result<Lines, Status>
     requires { HasKeptNothing (W.kept world.old) }
-    ensures ran { IfOk result (IsRunOfSource (record { clocks = W.Luck.clocks; words = W.Luck.words }) (W.kept world.new) (S.left source.old)) }
+    ensures ran { IfOk result (IsRunOfSource W.Luck.telling (W.kept world.new) (S.left source.old)) }
     ensures refused { IfErr result (IsRefusal (S.left source.old)) }
     ensures kept { OnErr result (HasKeptNothing (W.kept world.new)) }
     ensures read { IsErrOf result Status.Read → Rose (S.faults source.old) (S.faults source.new) }

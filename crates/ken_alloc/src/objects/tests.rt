@@ -96,6 +96,48 @@ fn a_first_heap_has_its_bytes(rt: HostRuntime) -> Result<(), Fail> {
     Ok(())
 }
 
+// A heap over a page of nines, with a turn begun.
+fn over_nines(alloc: Global) -> Result<Objects, AllocError>
+    ensures { IfOk result (λ heap. IsSome heap.begun) }
+{
+    let mut pages = PageHeap::new(alloc, 1)?;
+    pages.begin();
+    pages.write(0, &[9; 256])?;
+    pages.commit();
+    let mut heap = Objects::format(pages)?;
+    heap.begin();
+    Ok(heap)
+}
+
+#[test]
+fn no_more_is_written_than_the_layout_asks_for(rt: HostRuntime) -> Result<(), Fail> {
+    let mut heap = over_nines(rt.alloc())?;
+    takes(&rt, &mut heap, 3, Some(32))?;
+    heap.set_root(0x0102)?;
+    takes(&rt, &mut heap, 1, Some(64))?;
+    release(&rt, &mut heap, 64)?;
+    heap.commit();
+    let pages = heap.into_pages();
+    assert!(rt; pages.pages() == 1);
+    let mut bytes = [0; 96];
+    pages.read(0, &mut bytes);
+    let wanted = [
+        [0, 0, 0, 0, 0, 0, 1, 2, 0x4b, 0x45, 0x4e, 0x48, 0, 0, 0, 1],
+        [0, 0, 0, 32, 0, 0, 0, 3, 0, 0, 0, 0, 0, 0, 0, 0],
+        [0, 0, 0, 9, 9, 9, 9, 9, 9, 9, 9, 9, 9, 9, 9, 9],
+        [0, 0, 0, 208, 0, 0, 0, 0, 0, 0, 0, 0, 0, 0, 0, 0],
+        [0, 9, 9, 9, 9, 9, 9, 9, 9, 9, 9, 9, 9, 9, 9, 9],
+        [0, 0, 0, 176, 0, 0, 0, 0, 0, 0, 0, 0, 0, 0, 0, 0],
+    ];
+    for piece in 0..6usize {
+        assert_eq!(rt;
+            &bytes[16 * piece..16 * piece + 16],
+            wanted[piece].as_slice()
+        );
+    }
+    Ok(())
+}
+
 #[test]
 fn a_block_goes_into_the_first_gap_that_fits(rt: HostRuntime) -> Result<(), Fail> {
     let mut heap = begun(rt.alloc(), 1)?;

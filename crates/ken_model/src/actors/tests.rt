@@ -1,5 +1,6 @@
 ghost use Rattle.std.specs.Prelude.{◌≡◌, ◌<◌, ◌≤◌, length, IfOk};
-ghost use Rattle.ken_model.specs.Facts.{IsWithinLimits};
+ghost use Rattle.ken_model.specs.Game.{game_of};
+ghost use Rattle.ken_model.specs.Limits.{IsWithinLimits};
 
 use super::Actors;
 use crate::{Done, Facts, Input, Items, Kind, MAX_TEXT, OUTSIDE, Octets, Step, StepFault, Value};
@@ -11,7 +12,7 @@ fn facts(alloc: Global, kind: Kind, nodes: u8, turns: u64, text: &[u8]) -> Resul
     requires nodes { (0 < nodes) × (nodes ≤ 8) }
     requires turns { (0 < turns) × (turns ≤ 100000) }
     requires text { length text.now ≤ 512 }
-    ensures limits { IfOk result IsWithinLimits }
+    ensures limits { IfOk result (λ f. IsWithinLimits (game_of f)) }
     ensures nodes { IfOk result (λ f. f.nodes ≡ nodes) }
 {
     let mut inputs = Vec::new(alloc);
@@ -32,7 +33,7 @@ fn facts(alloc: Global, kind: Kind, nodes: u8, turns: u64, text: &[u8]) -> Resul
 /// out.
 fn commands(alloc: Global, cases: &[(&str, &str)]) -> Result<Facts, AllocError>
     requires { length cases.now ≤ 100 }
-    ensures limits { IfOk result IsWithinLimits }
+    ensures limits { IfOk result (λ f. IsWithinLimits (game_of f)) }
     ensures nodes { IfOk result (λ f. f.nodes ≡ 1) }
 {
     let mut inputs = Vec::new(alloc);

@@ -1,4 +1,6 @@
-ghost use Rattle.std.specs.Prelude.{◌≤◌};
+ghost use Rattle.std.specs.Prelude.{◌≤◌, None, slice_index_or};
+ghost use Rattle.ken_tool.specs.Draws.{HasKeptNothing};
+ghost use Rattle.ken_tool.specs.InMemory.{HasEnded, RanInMemory};
 
 mod abstract_run;
 
@@ -57,6 +59,21 @@ fn sink(alloc: Global, failing: u64, piece: usize) -> Result<MemSink, AllocError
     MemSink::new(alloc, WHOLE, Items::new(fails), piece)
 }
 
+// A call over a world in memory: after a run each oracle that was kept is its node's, with the script's seed, and tells all
+// that the node's turns drew.
+fn ken_in_memory<S: Source, K: Sink>(
+    rt: &HostRuntime,
+    words: &[String],
+    source: &mut S,
+    sink: &mut K,
+    world: &mut MemWorld,
+) -> Status
+    requires { HasKeptNothing (λ v. slice_index_or world.old v None) }
+    ensures { HasEnded result → RanInMemory (λ v. slice_index_or world.new v None) (S.left source.old) (K.took sink.old) (K.took sink.new) }
+{
+    ken(rt, rt.alloc(), words, source, sink, world)
+}
+
 // The status of a call with these words.
 fn call(
     rt: &HostRuntime,
@@ -68,7 +85,7 @@ fn call(
     for word in words.split_whitespace() {
         texts.push(String::from_str(rt.alloc(), word)?)?;
     }
-    Ok(ken(rt, rt.alloc(), &texts, source, sink, &mut MemWorld::new()))
+    Ok(ken_in_memory(rt, &texts, source, sink, &mut MemWorld::new()))
 }
 
 // How the run of a script ends, and the sink with what is out.
@@ -161,6 +178,25 @@ fn what_a_run_drew_is_reported(rt: HostRuntime) -> Result<(), Fail> {
              emit 0 3 424\n\
              heap 0 2\n\
              end settled 3\n",
+        ),
+        // The words of node 0 begin at the seed, 5, and those of node 1 at 6.
+        (
+            "{\"nodes\":2,\"kind\":\"mix\",\"seed\":5,\"inputs\":[[0,\"2\"],[1,\"1\"],[0,\"x\"]]}",
+            "turn 1 0 out 1 1,1724882992\n\
+             turn 1 1 out 1 1,318282311\n\
+             turn 2 0 out 2 -\n\
+             turn 2 1 1 1 2,1176715502\n\
+             turn 3 0 0 1 2,301167773\n\
+             turn 4 1 0 1 3,1854437493\n\
+             emit 0 1 992\n\
+             emit 0 2 bad\n\
+             emit 0 3 773\n\
+             emit 1 1 311\n\
+             emit 1 2 502\n\
+             emit 1 3 493\n\
+             heap 0 2\n\
+             heap 1 3\n\
+             end settled 6\n",
         ),
     ];
     for (script, report) in cases {
@@ -274,16 +310,23 @@ fn a_run_that_is_cut_is_reported(rt: HostRuntime) -> Result<(), Fail> {
 #[test]
 fn nothing_is_written_for_a_script_that_breaks_a_rule(rt: HostRuntime) -> Result<(), Fail> {
     let nine = ring(rt.alloc(), 9, "[0,\"2\"]")?;
-    let long = ring(rt.alloc(), 1, &letters(rt.alloc(), 513)?)?;
+    let letters = letters(rt.alloc(), 513)?;
+    let long = ring(rt.alloc(), 1, &letters)?;
+    let second = ring(
+        rt.alloc(),
+        1,
+        &format!(in rt.alloc(); "[0,\"0\"],{letters}")?,
+    )?;
     let cases = [
-        ("", 1),
-        ("{\"nodes\":3", 1),
-        (nine.as_str(), 3),
-        (long.as_str(), 9),
+        ("", (1, 0)),
+        ("{\"nodes\":3", (1, 0)),
+        (nine.as_str(), (3, 0)),
+        (long.as_str(), (9, 0)),
+        (second.as_str(), (9, 1)),
     ];
-    for (script, rule) in cases {
+    for (script, (rule, index)) in cases {
         let (status, sink) = run_of(&rt, script)?;
-        assert_eq!(rt; status, Status::Script { rule, index: 0 }, "{script}");
+        assert_eq!(rt; status, Status::Script { rule, index }, "{script}");
         assert!(rt; sink.bytes().is_empty(), "{script}");
     }
     Ok(())

@@ -1,5 +1,5 @@
 use Rattle.std.proofs.Common.{sym, ◌∙◌}
-use Rattle.ken_alloc.specs.Blocks.{value_of}
+use Rattle.ken_model.specs.Reading.{value_of}
 use Rattle.ken_alloc.proofs.Walks.{IsFirst, is_first, copy_more}
 use Rattle.ken_alloc.proofs.copy.blocks.Goals as goal
 

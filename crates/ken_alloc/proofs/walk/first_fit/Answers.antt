@@ -1,5 +1,5 @@
 use Rattle.std.proofs.Common.{arith}
-use Rattle.ken_alloc.specs.Blocks.{value_of}
+use Rattle.ken_model.specs.Reading.{value_of}
 use Rattle.ken_alloc.proofs.Walks.{walk_all, none_fits}
 use Rattle.ken_alloc.proofs.walk.first_fit.Goals as goal
 

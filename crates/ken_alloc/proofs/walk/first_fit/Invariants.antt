@@ -1,5 +1,5 @@
 use Rattle.std.proofs.Common.{◌-◌, length}
-use Rattle.ken_alloc.specs.Blocks.{value_of}
+use Rattle.ken_model.specs.Reading.{value_of}
 use Rattle.ken_alloc.specs.Walk.{fit_from}
 use Rattle.ken_alloc.proofs.Walks.{IsSearch}
 use Rattle.ken_alloc.proofs.walk.first_fit.Given as goal

@@ -1,7 +1,7 @@
 use Rattle.std.proofs.Common.{◌≡◌, ℕ, List, [], ◌∷◌, ◌++◌, length, sym, ap, subst, ◌∙◌, arith}
 use Rattle.std.proofs.lemmas.List.{length_push}
 use Rattle.ken_model.specs.declared.messages.Send.{Send}
-use Rattle.ken_model.specs.Handler.{to_others}
+use Rattle.ken_model.specs.Kinds.{to_others}
 use Rattle.ken_model.proofs.Others.{to_others-other, to_others-same}
 use Rattle.ken_app.specs.Turning.{Turning, turning, oracle_of, IsOneTurn}
 use Rattle.ken_apps.proofs.tally.send_to_others.Goals as goal

@@ -1,5 +1,5 @@
 use Rattle.std.proofs.Common.{◌≡◌, ◌≤◌, length}
-use Rattle.ken_model.specs.Handler.{to_others}
+use Rattle.ken_model.specs.Kinds.{to_others}
 use Rattle.ken_app.specs.Turning.{turning, oracle_of, IsOneTurn}
 use Rattle.ken_apps.proofs.tally.send_to_others.Given as goal
 

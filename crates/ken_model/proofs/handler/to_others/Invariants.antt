@@ -1,7 +1,7 @@
 use Rattle.std.proofs.Common.{◌≡◌, ◌<◌}
 use Rattle.std.specs.List.{AllByRecursion}
 use Rattle.ken_model.specs.declared.messages.Send.{Send}
-use Rattle.ken_model.specs.Handler.{to_others}
+use Rattle.ken_model.specs.Kinds.{to_others}
 use Rattle.ken_model.proofs.handler.to_others.Given as goal
 
 -- the nodes so far have their messages

@@ -5,6 +5,7 @@ use Rattle.std.proofs.lemmas.List.Elements.{All-from_recursion}
 use Rattle.ken_model.specs.declared.facts.Facts.{Facts}
 use Rattle.ken_model.specs.declared.facts.Input.{Input}
 use Rattle.ken_model.specs.declared.node.Node.{Node}
+use Rattle.ken_model.specs.Game.{game_of}
 use Rattle.ken_model.specs.Network.{inputs_from, inputs_for}
 use Rattle.ken_model.specs.Held.{held_at}
 use Rattle.ken_model.specs.Nodes.{held_of, IsGiven}
@@ -28,5 +29,5 @@ loop-input-preserved c = λ v within.
     let n : Node = slice_index_or ns c.from.result c.index-nodes-from.result in
     let given = held_given f ns i.node n c.give.new.self i known (subst (λ j. n ≡ slice_index_or ns j n) at (ap (slice_index_or ns c.from.result) c.index-nodes-from.is)) c.in_ok-give.ensures.rest c.in_ok-give.ensures.inputs in
     let whole : map held_of (slice_set ns c.from.result c.give.new.self) ≡ slice_set (map held_of ns) i.node (given_to (held_at f (map held_of ns) i.node) i) = ap (λ j. map held_of (slice_set ns j c.give.new.self)) at ∙ given in
-    subst (λ hs. IsGiven f.nodes f.size (held_at f hs v) (inputs_from v (length (held_at f hs v).inputs) (drop (k + 1) f.inputs)) (inputs_for f v)) (sym whole)
-    (given_more f (map held_of ns) i (drop (k + 1) f.inputs) v (inputs_for f) (omega (arith, length-map ns held_of)) (rw rest at (c.loop-input.invariant v within)))
+    subst (λ hs. IsGiven f.nodes f.size (held_at f hs v) (inputs_from v (length (held_at f hs v).inputs) (drop (k + 1) f.inputs)) (inputs_for (game_of f) v)) (sym whole)
+    (given_more f (map held_of ns) i (drop (k + 1) f.inputs) v (inputs_for (game_of f)) (omega (arith, length-map ns held_of)) (rw rest at (c.loop-input.invariant v within)))

@@ -1,5 +1,5 @@
-use Rattle.std.proofs.Common.{◌≡◌, ℕ, ◌+◌, ◌<◌, ◌≤◌, ◌^◌, max, List, length, map, slice_index_or, Some, None, refl, sym, ap, subst, ◌∙◌, arith}
-use Rattle.std.specs.List.{All}
+use Rattle.std.proofs.Common.{◌≡◌, ℕ, ◌+◌, ◌<◌, ◌≤◌, max, List, length, map, slice_index_or, Some, None, refl, sym, ap, subst, ◌∙◌, arith}
+use Rattle.std.specs.List.{AllByRecursion}
 use Rattle.std.proofs.lemmas.Bool.{ltb-true}
 use Rattle.std.proofs.lemmas.List.{length-map, get_or_past}
 use Rattle.std.proofs.lemmas.List.Elements.{All-get_or, All-same, All-from_recursion, recursion_from_All}
@@ -7,7 +7,6 @@ use Rattle.ken_model.specs.declared.messages.Message.{Message}
 use Rattle.ken_model.specs.declared.messages.Send.{Send}
 use Rattle.ken_model.specs.declared.messages.Step.{Step}
 use Rattle.ken_model.specs.declared.facts.Facts.{Facts}
-use Rattle.ken_model.specs.declared.handler.Task.{Task}
 use Rattle.ken_model.specs.declared.node.Node.{Node}
 use Rattle.ken_model.specs.Effects.{Effect}
 use Rattle.ken_model.specs.Heap.{IsHeap}
@@ -16,7 +15,8 @@ use Rattle.ken_model.specs.Answers.{effect_by}
 use Rattle.ken_model.specs.Network.{front}
 use Rattle.ken_model.specs.Actors.{HasWrongDraws}
 use Rattle.ken_model.specs.Held.{Held, held_at, no_node, network_of, playing_of, IsOfRun}
-use Rattle.ken_model.specs.Nodes.{held_of, game_of}
+use Rattle.ken_model.specs.Nodes.{held_of, held_run}
+use Rattle.ken_model.specs.Spelling.{IsWord}
 use Rattle.ken_model.proofs.Elements.{All-unmap}
 use Rattle.ken_model.proofs.Heaps.{heap_after}
 use Rattle.ken_model.proofs.Moved.{few_made}
@@ -72,29 +72,31 @@ answer-requires-clause-heap c =
     subst (λ (h : Held). IsHeap h.place.value) (receiver at.In-Some) (heap at.In-Some)
 
 -- what was drawn
-words : (c : In-Some-of) → All (λ d. d < 2 ^ 64) c.args.step.now.draws
-words c = All-same (λ d. d < 2 ^ 64) c.args.step.now.draws c.as_slice.result.now (sym c.as_slice.ensures) c.of.ensures.words
+words : (c : In-Some-of) → AllByRecursion IsWord c.args.step.now.draws
+words c = recursion_from_All IsWord c.args.step.now.draws (All-same IsWord c.args.step.now.draws c.as_slice.result.now (sym c.as_slice.ensures) c.of.ensures.words)
 
 -- the node has turns left
 more : (f : Facts) (hs : List Held) (k : ℕ) (n : Node) → held_at f hs k ≡ held_of n → n.turns < f.turns → (held_at f hs k).place.turns < f.turns
 more f hs k n is few = omega (arith, ap (λ (h : Held). h.place.turns) is)
 
 -- the draws are right
-not_wrong : (f : Facts) (ns : List Node) (s : Step) (m : Message) (task : Task) → front ((network_of f (map held_of ns)).link s.from s.node) ≡ Some m → task_of f.kind (num m.bytes) s.draws ≡ Some task → HasWrongDraws (playing_of (game_of f ns)) s → ⊥
-not_wrong f ns s m task next is wrong = right_draws (playing_of (game_of f ns)) s m task next is wrong
+not_wrong : (c : In-Some-of) → front ((network_of c.args.facts.now (map held_of c.args.nodes.now)).link c.args.step.now.from c.args.step.now.node) ≡ Some c.in-Some-front.message.now → HasWrongDraws (playing_of (held_run c.args.facts.now c.args.nodes.now)) c.args.step.now → ⊥
+not_wrong c next wrong = right_draws c.args.facts.now (network_of c.args.facts.now (map held_of c.args.nodes.now)) c.args.step.now c.in-Some-front.message.now c.in-Some-of.task next (words c) (a_task c) wrong
 
 pub returns-in_default-of-clause-draws : goal.returns-in_default-of-clause-draws
 returns-in_default-of-clause-draws c =
-    let at = goal.at.returns-in_default-of-clause-draws c in (
-      (λ e. wrong_draws (playing_of (game_of c.args.facts.now c.args.nodes.now)) c.args.step.now c.in-Some-front.message.now
-          (more c.args.facts.now (map held_of c.args.nodes.now) c.args.step.now.node c.in-Some.receiver.now (receiver at.In-Some) c.if-receiver-facts.false) (waits at.In-Some-front) (no_task c)),
+    let at = goal.at.returns-in_default-of-clause-draws c in
+    let f : Facts = c.args.facts.now in
+    let hs : List Held = map held_of c.args.nodes.now in (
+      (λ e. wrong_draws f (network_of f hs) c.args.step.now c.in-Some-front.message.now
+          (more f hs c.args.step.now.node c.in-Some.receiver.now (receiver at.In-Some) c.if-receiver-facts.false) (waits at.In-Some-front) (no_task c)),
       (λ h. refl),
     )
 
 pub returns-in_err-answer-clause-draws : goal.returns-in_err-answer-clause-draws
 returns-in_err-answer-clause-draws c =
     let at = goal.at.returns-in_err-answer-clause-draws c in
-    let right = not_wrong c.args.facts.now c.args.nodes.now c.args.step.now c.in-Some-front.message.now c.in-Some-of.task (waits at.In-Some-front) (a_task at.In-Some-of) in
+    let right = not_wrong at.In-Some-of (waits at.In-Some-front) in
     ((λ e. let fault = rw e at c.from_residual.ensures.1 in absurd cc), (λ h. absurd (right h)))
 
 pub overflow_add-result : goal.overflow_add-result
@@ -124,11 +126,11 @@ returns-clause-planned c =
     let stamp = ap (λ (h : Held). h.place.stamp) is in
     record {
       turn = turn_by f (network_of f hs) s m c.in-Some-of.task;
-      defined = turn_of-task f (network_of f hs) s m c.in-Some-of.task turns_left (waits at.In-Some-front) (a_task at.In-Some-of);
+      defined = turn_of-task f (network_of f hs) s m c.in-Some-of.task turns_left (waits at.In-Some-front) (words at.In-Some-of) (a_task at.In-Some-of);
       stamp = ap (λ k. k + 1) (c.max.ensures ∙ ap (λ k. max k m.stamp) (sym stamp));
       number = refl;
       effect = subst (λ (h : Held). ◌≡◌ {A = Effect} (effect_of s.node f.nodes h.place.value m c.in-Some-of.task) (effect_by h.place.value c.in_ok-answer.answer)) (sym is) c.in_ok-answer.ensures.effect;
-      heap = heap_after f.kind s.node f.nodes (held_at f hs s.node).place.value m s.draws _ (heap at.In-Some) (recursion_from_All (λ d. d < 2 ^ 64) s.draws (words at.In-Some-of)) (after_by_task f (network_of f hs) s m c.in-Some-of.task (a_task at.In-Some-of));
+      heap = heap_after f.kind s.node f.nodes (held_at f hs s.node).place.value m s.draws _ (heap at.In-Some) (words at.In-Some-of) (after_by_task f (network_of f hs) s m c.in-Some-of.task (a_task at.In-Some-of));
       known = omega (arith, width, within at.In-Some);
       receivers = All-from_recursion (λ (x : Send). x.to < f.nodes) c.in_ok-answer.answer.sends.items c.in_ok-answer.ensures.known;
       sender = λ node. (let known = c.in-Some-front.ensures.sender node in omega arith);
@@ -140,5 +142,5 @@ returns-clause-planned c =
 pub returns-clause-draws : goal.returns-clause-draws
 returns-clause-draws c =
     let at = goal.at.returns-clause-draws c in
-    let right = not_wrong c.args.facts.now c.args.nodes.now c.args.step.now c.in-Some-front.message.now c.in-Some-of.task (waits at.In-Some-front) (a_task at.In-Some-of) in
+    let right = not_wrong at.In-Some-of (waits at.In-Some-front) in
     ((λ e. absurd cc), (λ h. absurd (right h)))

@@ -16,4 +16,5 @@ loop-oracle-preserved g c =
           (λ same. subst (λ k. g.W.World.kept c.keep.new.self k ≡ Some (slice_index_or c.args.oracles.items k e)) (sym same) (c.keep.ensures.given ∙ ap (λ o. Some o) (sym (next.item e))))
           (λ other. c.keep.ensures.others v other ∙ inv.kept v e (omega arith))
           (cases_eq v c.loop-oracle.node);
+      others = λ v past. c.keep.ensures.others v (λ e. omega (arith, past, e)) ∙ inv.others v (omega (arith, past));
     }

@@ -5,6 +5,7 @@ use Rattle.ken_tool.specs.Running.{IsRunning}
 use Rattle.ken_tool.proofs.Started.{running_first}
 use Rattle.ken_tool.proofs.drive.start.Goals as goal
 use Rattle.ken_tool.proofs.drive.start.Goals.{After-give_inputs}
+use Rattle.ken_model.specs.Game.{game_of}
 
 -- the vector holds the nodes with their inputs
 given : (c : After-give_inputs) → take c.in_ok-nodes.nodes.len (c.give_inputs.new.nodes ++ drop (length c.give_inputs.new.nodes) c.in_ok-nodes.nodes.items) ≡ c.give_inputs.new.nodes
@@ -12,8 +13,8 @@ given c = take_at c.give_inputs.new.nodes _ c.in_ok-nodes.nodes.len (omega (arit
 
 pub returns-clause-running : goal.returns-clause-running
 returns-clause-running c =
-    subst (IsRunning c.args.facts.now) (sym (given (goal.at.returns-clause-running c).After-give_inputs))
-    (running_first c.args.facts.now c.give_inputs.new.nodes c.requires.limits c.requires.plain (omega (arith, c.give_inputs.auto.nodes, c.in_ok-nodes.ensures.long)) c.in_ok-give_inputs.ensures)
+    subst (IsRunning (game_of c.args.facts.now)) (sym (given (goal.at.returns-clause-running c).After-give_inputs))
+    (running_first (game_of c.args.facts.now) c.give_inputs.new.nodes c.requires.limits c.requires.plain (omega (arith, c.give_inputs.auto.nodes, c.in_ok-nodes.ensures.long)) c.in_ok-give_inputs.ensures)
 
 pub returns-clause-first : goal.returns-clause-first
 returns-clause-first c = λ v d known.

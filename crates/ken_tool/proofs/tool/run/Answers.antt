@@ -13,4 +13,4 @@ pub returns-clause-ran : goal.returns-clause-ran
 returns-clause-ran g c =
     let left = g.S.Source.left c.args.source.now in
     let told = told_by left c.in_ok-bytes.bytes c.in_ok-bytes.ensures.bytes in
-    run_by (record { clocks = g.W.Luck.Oracle.clocks; words = g.W.Luck.Oracle.words }) (g.W.World.kept c.run.new.world) left c.in_ok-bytes.bytes c.in_ok-script.script c.in_ok-lines.lines told (rw c.as_slice.ensures at c.in_ok-script.ensures.says) c.in_ok-lines.ensures.ran c.in_ok-lines.ensures.kept
+    run_by g.W.Luck.Oracle.telling (g.W.World.kept c.run.new.world) left c.in_ok-bytes.bytes c.in_ok-script.script c.in_ok-lines.lines told (rw c.as_slice.ensures at c.in_ok-script.ensures.says) c.in_ok-lines.ensures.ran c.in_ok-lines.ensures.kept

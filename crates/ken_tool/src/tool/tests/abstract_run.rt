@@ -1,6 +1,7 @@
 // Random small scripts, run by the program and played by the abstract network.
 ghost use Rattle.std.specs.Prelude.{◌≡◌, ◌≤◌};
-ghost use Rattle.ken_model.specs.Facts.{IsWithinLimits};
+ghost use Rattle.ken_model.specs.Limits.{IsWithinLimits};
+ghost use Rattle.ken_model.specs.Game.{game_of};
 
 use super::*;
 use ken_model::{Actors, Done, Facts, MAX_NODES, OUTSIDE, Step};
@@ -178,7 +179,7 @@ fn heaps(alloc: Global, actors: &Actors<'_>, nodes: u8) -> Result<String, AllocE
     let mut text = String::new(alloc);
     for node in 0..nodes {
         let value = actors.value(node);
-        let root = value.root();
+        let root = value.root;
         text.push_str(&format!(in alloc; "heap {node} {root}")?)?;
         for block in value.blocks.as_slice() {
             let (place, len) = (block.place, block.bytes.len());
@@ -191,7 +192,7 @@ fn heaps(alloc: Global, actors: &Actors<'_>, nodes: u8) -> Result<String, AllocE
 
 // The report of the run that a report spells, as the abstract network plays it: none where a step isn't defined.
 fn replayed(alloc: Global, facts: &Facts, report: &str) -> Result<Option<String>, AllocError>
-    requires { IsWithinLimits facts.now }
+    requires { IsWithinLimits (game_of facts.now) }
 {
     let mut actors = Actors::start(alloc, facts)?;
     let mut played = Played::new(alloc, facts)?;

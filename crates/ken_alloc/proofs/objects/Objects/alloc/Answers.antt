@@ -1,10 +1,12 @@
-use Rattle.std.proofs.Common.{◌+◌, Option, length, sym, ap, ◌∙◌, arith}
+use Rattle.std.proofs.Common.{◌≡◌, ℕ, ◌+◌, List, Option, length, sym, ap, ◌∙◌, arith}
 use Rattle.std.specs.Prelude.{option_map}
 use Rattle.ken_model.specs.Heap.{rounded}
 use Rattle.ken_alloc.specs.declared.walk.Gap.{Gap}
-use Rattle.ken_alloc.proofs.Unique.{value_of-unique}
+use Rattle.ken_alloc.specs.Objects.{Heap}
+use Rattle.ken_alloc.specs.Changes.{room_end, with_zeros_at}
+use Rattle.ken_model.proofs.Unique.{IsSized, IsSized-from_stands, value_of-unique}
 use Rattle.ken_alloc.proofs.Cells.{IsRoom}
-use Rattle.ken_alloc.proofs.Held.{stands_seen, value_seen, fit_seen, place_of_first, room_seen, stands_with, stands_inside, held_by, on_err_any}
+use Rattle.ken_alloc.proofs.Held.{stands_seen, value_seen, fit_seen, place_of_first, room_seen, room_end_seen, stands_with, stands_inside, held_by, on_err_any}
 use Rattle.ken_alloc.proofs.objects.Objects.alloc.Goals as goal
 
 pub returns-in_default-clause-place : goal.returns-in_default-clause-place
@@ -22,14 +24,14 @@ carve-requires-clause-fits c =
     let room : IsRoom (length xs) (16 + rounded c.args.size) 16 c.in-Some.gap = room_seen xs v stands c.args.size c.in-Some.gap fit in
     omega (arith, room.fits)
 
-pub carve-requires-clause-even : goal.carve-requires-clause-even
-carve-requires-clause-even c =
+pub carve-requires-clause-rest : goal.carve-requires-clause-rest
+carve-requires-clause-rest c =
     let xs = c.self.inside.pages.bytes in
     let v = c.args.self.now.value in
     let stands = stands_seen c.self.inside.pages c.args.self.now c.self.invariant c.self.view_is in
     let fit = fit_seen xs v c.args.size c.first_fit.result c.in-Some.gap (value_seen c.self.inside.pages c.args.self.now c.self.view_is) c.in-Some.is c.first_fit.ensures in
     let room : IsRoom (length xs) (16 + rounded c.args.size) 16 c.in-Some.gap = room_seen xs v stands c.args.size c.in-Some.gap fit in
-    omega (arith, room.fits, room.even, room.even_to)
+    λ some. omega (arith, room.fits, room.even, room.even_to)
 
 pub carve-requires-clause-within : goal.carve-requires-clause-within
 carve-requires-clause-within c =
@@ -38,6 +40,16 @@ carve-requires-clause-within c =
     let stands = stands_seen c.self.inside.pages c.args.self.now c.self.invariant c.self.view_is in
     let fit = fit_seen xs v c.args.size c.first_fit.result c.in-Some.gap (value_seen c.self.inside.pages c.args.self.now c.self.view_is) c.in-Some.is c.first_fit.ensures in
     (room_seen xs v stands c.args.size c.in-Some.gap fit).within
+
+pub overflow_add-result : goal.overflow_add-result
+overflow_add-result c =
+    let xs = c.self.inside.pages.bytes in
+    let v = c.args.self.now.value in
+    let stands = stands_seen c.self.inside.pages c.args.self.now c.self.invariant c.self.view_is in
+    let fit = fit_seen xs v c.args.size c.first_fit.result c.in-Some.gap (value_seen c.self.inside.pages c.args.self.now c.self.view_is) c.in-Some.is c.first_fit.ensures in
+    let room : IsRoom (length xs) (16 + rounded c.args.size) 16 c.in-Some.gap = room_seen xs v stands c.args.size c.in-Some.gap fit in
+    let sized : IsSized xs = IsSized-from_stands xs v stands in
+    omega (arith, room.fits, room.within, sized.small)
 
 pub invariant_of-self : goal.invariant_of-self
 invariant_of-self c =
@@ -62,7 +74,7 @@ invariant_of-self-2 c =
     let e = c.in_ok-carve.ensures in
     let stands = stands_seen c.self.inside.pages c.args.self.now c.self.invariant c.self.view_is in
     let fit = fit_seen xs v c.args.size c.first_fit.result c.in-Some.gap (value_seen c.self.inside.pages c.args.self.now c.self.view_is) c.in-Some.is c.first_fit.ensures in
-    held_by c.self.inside.pages c.carve.new.pages _ c.self.invariant (stands_with xs v stands c.carve.new.pages.bytes c.args.size c.in-Some.gap c.requires.some fit e.others e.head e.zeros e.rest) c.carve.ensures.begun
+    held_by c.self.inside.pages c.carve.new.pages _ c.self.invariant (stands_with xs v stands c.carve.new.pages.bytes c.args.size c.in-Some.gap c.requires.some fit e.bytes) c.carve.ensures.begun
 
 pub returns-clause-place : goal.returns-clause-place
 returns-clause-place c =
@@ -77,4 +89,13 @@ returns-clause-value c =
     let e = c.in_ok-carve.ensures in
     let stands = stands_seen c.self.inside.pages c.args.self.now c.self.invariant c.self.view_is in
     let fit = fit_seen xs v c.args.size c.first_fit.result c.in-Some.gap (value_seen c.self.inside.pages c.args.self.now c.self.view_is) c.in-Some.is c.first_fit.ensures in
-    value_of-unique c.carve.new.pages.bytes _ (stands_with xs v stands c.carve.new.pages.bytes c.args.size c.in-Some.gap c.requires.some fit e.others e.head e.zeros e.rest)
+    value_of-unique c.carve.new.pages.bytes _ (stands_with xs v stands c.carve.new.pages.bytes c.args.size c.in-Some.gap c.requires.some fit e.bytes)
+
+pub returns-clause-bytes : goal.returns-clause-bytes
+returns-clause-bytes c =
+    let xs = c.self.inside.pages.bytes in
+    let v = c.args.self.now.value in
+    let stands = stands_seen c.self.inside.pages c.args.self.now c.self.invariant c.self.view_is in
+    let fit = fit_seen xs v c.args.size c.first_fit.result c.in-Some.gap (value_seen c.self.inside.pages c.args.self.now c.self.view_is) c.in-Some.is c.first_fit.ensures in
+    let seen : xs ≡ c.args.self.now.bytes = ap (λ (h : Heap). h.bytes) c.self.view_is in
+    c.in_ok-carve.ensures.bytes ∙ ap (λ (k : ℕ). with_zeros_at (c.in-Some.gap.from + 16) c.args.size k xs) (sym (room_end_seen xs v stands c.args.size c.in-Some.gap fit)) ∙ ap (λ (ws : List ℕ). with_zeros_at (c.in-Some.gap.from + 16) c.args.size (room_end v (c.in-Some.gap.from + 16)) ws) seen

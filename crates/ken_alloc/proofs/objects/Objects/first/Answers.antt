@@ -1,5 +1,5 @@
 use Rattle.ken_alloc.proofs.Held.{stands_seen}
-use Rattle.ken_alloc.proofs.Valid.{IsHeap-stands}
+use Rattle.ken_model.proofs.Valid.{IsHeap-stands}
 use Rattle.ken_alloc.proofs.objects.Objects.first.Goals as goal
 
 pub returns-clause-heap : goal.returns-clause-heap

@@ -1,5 +1,6 @@
 use Rattle.std.proofs.Common.{◌≡◌, ℕ, List, length, take, drop, Option, IfSome, sym, ap, ◌∙◌, subst, arith}
-use Rattle.ken_alloc.proofs.Held.{IsWithin, stands_seen, part_seen, part_of_part}
+use Rattle.ken_model.proofs.Heads.{part_of_part}
+use Rattle.ken_alloc.proofs.Held.{IsWithin, stands_seen, part_seen}
 use Rattle.ken_alloc.proofs.objects.Objects.read.Goals as goal
 
 pub overflow_add-place : goal.overflow_add-place

@@ -1,6 +1,6 @@
 use Rattle.std.proofs.Common.{arith}
 use Rattle.std.proofs.lemmas.Result.{on_ok_weaker}
-use Rattle.ken_alloc.proofs.Unique.{value_of-unique}
+use Rattle.ken_model.proofs.Unique.{value_of-unique}
 use Rattle.ken_alloc.proofs.Held.{stands_seen, stands_rooted, held_after, err_same, begun_same}
 use Rattle.ken_alloc.proofs.objects.Objects.set_root.Goals as goal
 

@@ -1,7 +1,7 @@
 use Rattle.std.proofs.Common.{length, arith}
 use Rattle.std.proofs.lemmas.Result.{on_ok_weaker}
 use Rattle.ken_alloc.specs.Objects.{rewritten}
-use Rattle.ken_alloc.proofs.Unique.{value_of-unique}
+use Rattle.ken_model.proofs.Unique.{value_of-unique}
 use Rattle.ken_alloc.proofs.Held.{IsWithin, stands_seen, part_seen, stands_rewritten, held_after, err_same, begun_same}
 use Rattle.ken_alloc.proofs.objects.Objects.write.Goals as goal
 

@@ -11,10 +11,10 @@ use Rattle.ken_model.specs.Effects.{Effect}
 use Rattle.ken_model.specs.Heap.{IsHeap}
 use Rattle.ken_model.specs.Answers.{value_after}
 use Rattle.ken_model.specs.Actors.{IsStep}
-use Rattle.ken_model.specs.Held.{Held, Game, held_at, playing_of, IsGame}
-use Rattle.ken_model.specs.Nodes.{held_of, game_of, IsMade}
+use Rattle.ken_model.specs.Held.{Held, HeldRun, held_at, playing_of, IsHeldRun}
+use Rattle.ken_model.specs.Nodes.{held_of, held_run, IsMade}
 use Rattle.ken_model.specs.Planned.{IsPlanned}
-use Rattle.ken_model.proofs.Moved.{game_moved, step_told}
+use Rattle.ken_model.proofs.Moved.{run_moved, step_told}
 use Rattle.ken_model.proofs.Prepared.{held_node}
 use Rattle.ken_model.proofs.actors.Actors.step.Goals as goal
 use Rattle.ken_model.proofs.actors.Actors.step.Goals.{After-from_residual-in_err-made, After-new-2}
@@ -24,7 +24,7 @@ refused : (c : After-from_residual-in_err-made) → map held_of (slice_set c.sel
 refused c = map-set_same held_of c.self.inside.nodes.items c.from.result c.make.new.self c.index_mut-node.result.now (c.in_err-made.ensures.err ∙ ap held_of c.index_mut-node.ensures.value)
 
 pub invariant_of-self : goal.invariant_of-self
-invariant_of-self c = subst (λ (hs : List Held). IsGame (record { facts = c.self.inside.facts.now; nodes = hs })) (sym (refused c)) c.self.invariant
+invariant_of-self c = subst (λ (hs : List Held). IsHeldRun (record { facts = c.self.inside.facts.now; nodes = hs })) (sym (refused c)) c.self.invariant
 
 on_err : {T E : Type 0} (P : Type 0) (r : Result T E) → P → OnErr r P
 on_err P (Ok x) h = tt
@@ -32,12 +32,12 @@ on_err P (Err e) h = h
 
 pub returns-in_err-made-clause-unchanged : goal.returns-in_err-made-clause-unchanged
 returns-in_err-made-clause-unchanged c =
-    let game : List Held → Game = λ hs. record { facts = c.self.inside.facts.now; nodes = hs } in
-    let same : ◌≡◌ {A = Game} (game (map held_of (slice_set c.self.inside.nodes.items c.from.result c.make.new.self))) c.args.self.now = ap game (refused c) ∙ c.self.view_is in
-    on_err (◌≡◌ {A = Game} (game (map held_of (slice_set c.self.inside.nodes.items c.from.result c.make.new.self))) c.args.self.now) c.from_residual-in_err-made.result same
+    let run : List Held → HeldRun = λ hs. record { facts = c.self.inside.facts.now; nodes = hs } in
+    let same : ◌≡◌ {A = HeldRun} (run (map held_of (slice_set c.self.inside.nodes.items c.from.result c.make.new.self))) c.args.self.now = ap run (refused c) ∙ c.self.view_is in
+    on_err (◌≡◌ {A = HeldRun} (run (map held_of (slice_set c.self.inside.nodes.items c.from.result c.make.new.self))) c.args.self.now) c.from_residual-in_err-made.result same
 
-planned : (c : After-new-2) → IsPlanned (game_of c.self.inside.facts.now c.self.inside.nodes.items) c.args.step.now c.in_ok-plan.plan
-planned c = subst (λ (ns : List Node). IsPlanned (game_of c.self.inside.facts.now ns) c.args.step.now c.in_ok-plan.plan) c.deref.ensures.value c.in_ok-plan.ensures.planned
+planned : (c : After-new-2) → IsPlanned (held_run c.self.inside.facts.now c.self.inside.nodes.items) c.args.step.now c.in_ok-plan.plan
+planned c = subst (λ (ns : List Node). IsPlanned (held_run c.self.inside.facts.now ns) c.args.step.now c.in_ok-plan.plan) c.deref.ensures.value c.in_ok-plan.ensures.planned
 
 -- the node's heap after it
 abbrev after_turn : After-new-2 → Value
@@ -75,8 +75,8 @@ invariant_of-self-2 c =
     let hs : List Held = map held_of c.self.inside.nodes.items in
     let p = planned c in
     let m = moved c in
-    subst (λ (gs : List Held). IsGame (record { facts = f; nodes = gs })) (sym m.whole)
-    (game_moved f hs c.args.step.now _ _ _ _ (held_of c.make.new.self) c.in_ok-made.made c.self.invariant m.within p.more p.early (subst (λ (e : Effect). IsHeap e.value) p.effect p.heap) m.moved)
+    subst (λ (gs : List Held). IsHeldRun (record { facts = f; nodes = gs })) (sym m.whole)
+    (run_moved f hs c.args.step.now _ _ _ _ (held_of c.make.new.self) c.in_ok-made.made c.self.invariant m.within p.more p.early (subst (λ (e : Effect). IsHeap e.value) p.effect p.heap) m.moved)
 
 pub returns-clause-done : goal.returns-clause-done
 returns-clause-done c =
@@ -90,4 +90,4 @@ returns-clause-done c =
     (record { stamp = c.in_ok-plan.plan.stamp; value = after_turn c; sends = c.in_ok-plan.plan.answer.sends.items; outs = c.in_ok-plan.plan.answer.outs.items; is_stamp = p.stamp; effect = p.effect; moved = m.moved })
     p.stamp p.number c.new.ensures c.new-2.ensures in
     let later = subst (λ (gs : List Held). IsStep (playing_of (record { facts = f; nodes = hs })) (playing_of (record { facts = f; nodes = gs })) s done) (sym m.whole) is in
-    subst (λ (g : Game). IsStep (playing_of g) (playing_of (record { facts = f; nodes = map held_of (slice_set c.self.inside.nodes.items c.from.result c.make.new.self) })) s done) c.self.view_is later
+    subst (λ (r : HeldRun). IsStep (playing_of r) (playing_of (record { facts = f; nodes = map held_of (slice_set c.self.inside.nodes.items c.from.result c.make.new.self) })) s done) c.self.view_is later

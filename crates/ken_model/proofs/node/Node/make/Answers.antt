@@ -6,8 +6,8 @@ use Rattle.ken_model.proofs.Posting.{items_of}
 use Rattle.ken_model.specs.declared.messages.Send.{Send}
 use Rattle.ken_model.specs.declared.node.Letter.{Letter}
 use Rattle.ken_model.specs.declared.values.Value.{Value}
-use Rattle.ken_model.specs.Network.{Place, numbered}
-use Rattle.ken_model.specs.Actors.{posted_after, outs_after}
+use Rattle.ken_model.specs.Network.{Place, numbered, outputs_from}
+use Rattle.ken_model.specs.Actors.{posted_after}
 use Rattle.ken_model.specs.Answers.{changed}
 use Rattle.ken_model.specs.Letters.{send_of, copy_of, count_at}
 use Rattle.ken_model.proofs.Elements.{All-unmap}
@@ -46,5 +46,5 @@ returns-clause-made c =
       done_sends = c.in_ok-post_all.ensures.mail ∙ ap (λ l. l ++ posted_after v stamp (count_at (map items_of c.deref_mut-2.result.now)) (map copy_of letters)) c.in_ok-mail.ensures.items
           ∙ ap (λ ls. posted_after v stamp (count_at ls) (map copy_of letters)) same
           ∙ ap (posted_after v stamp (count_at (map items_of self.sent.items))) c.in_ok-letters.ensures.copies;
-      done_outs = c.in_ok-copies.ensures ∙ ap (λ k. outs_after k c.deref.result.now) (c.len.ensures ∙ self.outs.ok.0) ∙ ap (outs_after (length self.outs.items)) c.deref.ensures.value;
+      done_outs = c.in_ok-copies.ensures ∙ ap (λ k. outputs_from k c.deref.result.now) (c.len.ensures ∙ self.outs.ok.0) ∙ ap (outputs_from (length self.outs.items)) c.deref.ensures.value;
     }

@@ -1,7 +1,7 @@
 use Rattle.std.proofs.Common.{◌≡◌, ◌+◌, ◌<◌, ◌^◌, ◌++◌, length, vec_len}
 use Rattle.std.specs.Vec.Iter.{into_iter_items}
-use Rattle.ken_tool.specs.Turns.{outputs_from}
 use Rattle.ken_tool.proofs.node.Node.output_all.Given as goal
+use Rattle.ken_model.specs.Network.{outputs_from}
 
 -- what is numbered, and what numbering the rest would add, are what numbering all would give
 abbrev pub invariant-loop-text : goal.invariant-loop-text

@@ -30,7 +30,7 @@ returns-clause-turned g c = on_ok_weaker c.output_all.result
 
 pub returns-clause-asked : goal.returns-clause-asked
 returns-clause-asked g c = on_ok_weaker c.output_all.result
-    (λ outs. asked_turn _ c.args.oracle.now c.handle.new.oracle c.args.facts.now.kind c.args.self.now.turns.items c.post_all.new.self.turns.items _ _
+    (λ outs. asked_turn _ c.args.oracle.now c.handle.new.oracle c.args.facts.now.kind c.args.self.now.turns.items c.post_all.new.self.turns.items _ _ c.requires.few
     (ap (λ (n : Node). n.turns.items) c.in_ok-post_all.ensures.rest ∙ c.in_ok-push.ensures.items)
     (c.in_ok-draws.ensures.same ∙ c.as_slice.ensures.value)
     c.in_ok-made.ensures.clocks c.in_ok-made.ensures.words c.requires.asked)
