@@ -1,0 +1,10 @@
+pub mod Turns
+pub mod Nodes
+pub mod Packets
+pub mod Enabled
+pub mod Steps
+pub mod Clusters
+pub mod Accord
+pub mod Runs
+pub mod Calls
+pub mod Laws

@@ -1,0 +1,13 @@
+//! What a node may do, and what a group of nodes comes to whatever happens in whatever order. The definitions are in
+//! `specs/`.
+#![tactic(auto)]
+
+mod events;
+mod laws;
+
+pub use events::{Effects, Event, Outcome, Told};
+pub use laws::{
+    call_keeps_accord, events_keep_accord, history_is_legal, puts_are_handed_in,
+    restart_keeps_heap, runs_keep_accord, seal_in_doubt, start_is_in_accord, step_keeps_accord,
+    turnover_in_doubt,
+};

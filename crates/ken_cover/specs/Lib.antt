@@ -1,0 +1,4 @@
+pub mod Overlay
+pub mod Sides
+pub mod Covers
+pub mod Laws
