@@ -1,0 +1,11 @@
+//! What a node has sent and output and may still have to send or emit.
+#![tactic(auto)]
+
+mod copies;
+mod line;
+mod lines;
+mod outbox;
+#[cfg(test)]
+mod tests;
+
+pub use outbox::Outbox;

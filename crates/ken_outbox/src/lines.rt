@@ -1,0 +1,74 @@
+// The lines of all nodes.
+ghost use Rattle.std.specs.Prelude.{◌≡◌, ◌<◌, ◌≤◌, ℕ, length, map, take, replicate, slice_index_or, IfOk, OnOk};
+ghost use Rattle.ken_outbox.specs.declared.line.Line.{Line};
+ghost use Rattle.ken_outbox.specs.Waiting.{no_line, sent_to, with_sends, AreFor};
+ghost use Rattle.ken_outbox.specs.Lines.{shown, HasRoom, bare_lines};
+
+use crate::line::Line;
+use ken_model::Message;
+use std::alloc::{AllocError, Global};
+
+pub(crate) fn new(alloc: Global, nodes: u8) -> Result<Vec<Line>, AllocError>
+    ensures { IfOk result (λ lines. map shown lines.items ≡ replicate nodes no_line) }
+{
+    let mut lines = Vec::new(alloc);
+    for _node in 0..nodes {
+        lines.push(Line::new(alloc))?;
+    }
+    Ok(lines)
+}
+
+// How many messages wait for a node.
+fn count_for(node: u8, waiting: &[Message]) -> u64
+    ensures { result ≡ length (sent_to node waiting.now) }
+{
+    let mut count = 0;
+    for message in waiting {
+        if message.to == node {
+            count += 1;
+        }
+    }
+    count
+}
+
+// Lines without messages, by how many messages were ever sent to each node and what still waits.
+pub(crate) fn resumed(
+    alloc: Global,
+    nodes: u8,
+    sent: &[u64],
+    waiting: &[Message],
+) -> Result<Vec<Line>, AllocError>
+    requires { nodes ≤ length sent.now }
+    ensures { IfOk result (λ lines. map shown lines.items ≡ bare_lines 0 (take nodes sent.now) waiting.now) }
+{
+    let mut lines = Vec::new(alloc);
+    for node in 0..nodes {
+        let mut line = Line::new(alloc);
+        line.acked = sent[usize::from(node)].saturating_sub(count_for(node, waiting));
+        lines.push(line)?;
+    }
+    Ok(lines)
+}
+
+// Makes room for so many more messages of each line. After an error some lines have it.
+pub(crate) fn reserve(lines: &mut [Line], more: usize) -> Result<(), AllocError>
+    ensures same { map shown lines.new ≡ map shown lines.old }
+    ensures room { OnOk result ((v : ℕ) (d : Line) → v < length lines.new → HasRoom more (slice_index_or lines.new v d)) }
+{
+    for node in 0..lines.len() {
+        lines[node].reserve(more)?;
+    }
+    Ok(())
+}
+
+// Puts each message behind those to its node. There is room for all of them in each line.
+pub(crate) fn push_all(lines: &mut [Line], sends: Vec<Message>)
+    requires known { AreFor (length lines.old) sends.items }
+    requires room { (v : ℕ) (d : Line) → v < length lines.old → HasRoom (length sends.items) (slice_index_or lines.old v d) }
+    ensures { map shown lines.new ≡ with_sends 0 (map shown lines.old) sends.items }
+{
+    for message in sends {
+        let to = usize::from(message.to);
+        lines[to].push(message);
+    }
+}
