@@ -5,14 +5,18 @@ use thiserror::Error;
 /// Why there are no figures.
 #[derive(Clone, Copy, Debug, PartialEq, Eq, Error)]
 pub(crate) enum Fault {
-    #[error("usage: ken_bench copy|seal|mount RECORDS CUTS ROUNDS")]
+    #[error("usage: ken_bench copy|seal|mount|turn RECORDS CUTS ROUNDS")]
     Usage,
     #[error("the record has no spelling")]
     Record,
+    #[error("the base has no spelling")]
+    Base,
     #[error("the log is full")]
     Full,
     #[error("the disk failed before there was a log")]
     Format,
+    #[error("the disk failed")]
+    Disk,
     #[error("no log was mounted: {0}")]
     Mount(LogFault),
     #[error("out of memory")]

@@ -7,8 +7,8 @@ ghost use Rattle.ken_bench.specs.Logs.{TakesSeals};
 
 use crate::fault::Fault;
 use crate::sample;
-use ken_disk::{Disk, MAX_LEN};
-use ken_log::{Log, SealFault};
+use ken_disk::{Disk, MAX_LEN, crashes};
+use ken_log::{Log, SealFault, counting, mounting};
 use ken_memdisk::{Cut, MemDisk};
 use ken_record::{Header, MAX_FIELDS, Record, lengths};
 use std::alloc::Global;
@@ -23,7 +23,7 @@ const HEADER: Header = Header {
 };
 
 // A record, its length, its gate and the next gate end within the disk's limit from here on.
-const MAX_END: u64 = MAX_LEN - MAX_FIELDS as u64 - 6;
+pub(crate) const MAX_END: u64 = MAX_LEN - MAX_FIELDS as u64 - 6;
 
 /// A log, and how many of the seals that made it answered Ok.
 #[derive(Debug, Drop)]
@@ -35,7 +35,7 @@ pub(crate) struct Sealed {
 /// A log with no records on a disk with these cuts.
 pub(crate) fn format(alloc: Global, cuts: &[Cut]) -> Result<Log<MemDisk>, Fault>
     ensures settled { IfOk result (λ log. TakesSeals log) }
-    ensures none { IfOk result (λ log. log.records ≡ 0) }
+    ensures none { IfOk result (λ log. (log.records ≡ 0) × (log.header.turns ≡ 0)) }
 {
     let disk = MemDisk::new(alloc, cuts)?;
     match Log::format(alloc, disk, &HEADER) {
@@ -67,7 +67,11 @@ fn seal_next(alloc: Global, log: Log<MemDisk>, item: &Record) -> Result<(Log<Mem
     ensures acknowledged { IfOk result (λ x. x.1 ≡ true → x.0.records ≡ log.records + 1) }
 {
     let mut log = log;
+    // A record is at most a mebibyte long. What a restart leaves is the log before the seal or after it.
     lengths();
+    crashes();
+    mounting();
+    counting::<MemDisk>();
     match log.seal(alloc, item) {
         Ok(()) => Ok((log, true)),
         Err(SealFault::Memory) => Err(Fault::Memory),

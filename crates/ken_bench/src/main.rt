@@ -1,6 +1,7 @@
 //! Makes logs over disks in memory, and mounts them, so that someone can take the time: `ken_bench WORK RECORDS CUTS ROUNDS`.
 //! Each round makes a log by RECORDS seals on a disk of its own with CUTS cuts. WORK is `seal`, or `mount`, which mounts that
-//! log too, or `copy`, which copies the bytes of as many records and makes no log.
+//! log too, or `turn`, where the log goes over to another disk every 32 records and no disk fails, or `copy`, which copies the
+//! bytes of as many records and makes no log.
 #![tactic(auto)]
 
 mod copies;
@@ -8,6 +9,7 @@ mod fault;
 mod logs;
 mod plan;
 mod sample;
+mod turns;
 mod work;
 
 use fault::Fault;

@@ -5,7 +5,7 @@ ghost use Rattle.ken_bench.specs.Plans.{IsPlan};
 use ken_num::num;
 
 /// The most records of a log.
-const MAX_RECORDS: u64 = 1_000_000;
+pub(crate) const MAX_RECORDS: u64 = 1_000_000;
 
 /// The most cuts of a disk.
 const MAX_CUTS: u64 = 256;
@@ -15,6 +15,7 @@ pub(crate) enum Work {
     Copy,
     Seal,
     Mount,
+    Turn,
 }
 
 /// What is done, how often, and with logs of how many records.
@@ -32,6 +33,7 @@ impl Work {
             "copy" => Some(Work::Copy),
             "seal" => Some(Work::Seal),
             "mount" => Some(Work::Mount),
+            "turn" => Some(Work::Turn),
             _ => None,
         }
     }

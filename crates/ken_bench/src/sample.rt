@@ -1,11 +1,12 @@
 // A record that is sealed again and again.
-ghost use Rattle.std.specs.Prelude.{◌≤◌, IfOk};
-ghost use Rattle.ken_record.specs.Grammar.{IsRecord};
+ghost use Rattle.std.specs.Prelude.{◌≤◌, ◌<◌, ◌^◌, length, IfOk};
+ghost use Rattle.ken_record.specs.Grammar.{IsBase, IsRecord};
+ghost use Rattle.ken_record.specs.Spelling.{base_bytes};
 ghost use Rattle.ken_record.specs.Versions.{One};
 
 use crate::fault::Fault;
-use ken_model::{Items, OUTSIDE, Octets, Out};
-use ken_record::{Page, Record, Sent};
+use ken_model::{Items, MAX_NODES, OUTSIDE, Octets, Out};
+use ken_record::{Base, Page, Record, SENDERS, Sent};
 use std::alloc::Global;
 
 const PAGE: usize = 256;
@@ -41,6 +42,31 @@ pub(crate) fn record(alloc: Global) -> Result<Record, Fault>
         Ok(item)
     } else {
         Err(Fault::Record)
+    }
+}
+
+// A base of no messages and no outputs, with one page.
+pub(crate) fn base(alloc: Global) -> Result<Base, Fault>
+    ensures fits { IfOk result (λ base. IsBase One base) }
+    ensures short { IfOk result (λ base. length (base_bytes One base) < 2 ^ 32) }
+{
+    let page = Page {
+        page: 0,
+        bytes: Octets::new(vec![in alloc; 0x5a; PAGE]?),
+    };
+    let base = Base {
+        stamp: 1,
+        consumed: Items::new(vec![in alloc; 1; SENDERS]?),
+        sent: Items::new(vec![in alloc; 1; usize::from(MAX_NODES)]?),
+        outputs: 1,
+        messages: Items::new(Vec::new(alloc)),
+        outs: Items::new(Vec::new(alloc)),
+        pages: Items::new(vec![in alloc; page]?),
+    };
+    if base.fits() && base.spelled_len() < 1 << 32 {
+        Ok(base)
+    } else {
+        Err(Fault::Base)
     }
 }
 

@@ -8,7 +8,9 @@ use crate::fault::Fault;
 use crate::logs::{Sealed, format, mount, seal_all};
 use crate::plan::{Plan, Work};
 use crate::sample;
-use ken_memdisk::Cut;
+use crate::turns::turn_all;
+use ken_log::counting;
+use ken_memdisk::{Cut, MemDisk};
 use std::alloc::{AllocError, Global};
 use std::fmt;
 
@@ -32,6 +34,11 @@ pub(crate) enum Done {
         records: u64,
         end: u64,
     },
+    Turned {
+        turns: u64,
+        records: u64,
+        end: u64,
+    },
 }
 
 impl fmt::Display for Done {
@@ -49,6 +56,11 @@ impl fmt::Display for Done {
                 )
             }
             Done::Mounted { records, end } => write!(f, "{records} records mounted up to {end}"),
+            Done::Turned {
+                turns,
+                records,
+                end,
+            } => write!(f, "{records} records up to {end} after {turns} turns"),
         }
     }
 }
@@ -77,6 +89,17 @@ pub(crate) fn work(alloc: Global, plan: &Plan) -> Result<Done, Fault>
         let bytes = copy_all(alloc, &item, plan.records)?;
         return Ok(Done::Copied { bytes });
     }
+    if plan.work == Work::Turn {
+        let base = sample::base(alloc)?;
+        let log = format(alloc, &[])?;
+        let other = MemDisk::new(alloc, &[])?;
+        let log = turn_all(alloc, log, other, &mut item, &base, plan.records)?;
+        return Ok(Done::Turned {
+            turns: log.header().turns,
+            records: log.records(),
+            end: log.end(),
+        });
+    }
     let log = format(alloc, &cuts(alloc, plan)?)?;
     let Sealed { log, acknowledged } = seal_all(alloc, log, &mut item, plan.records)?;
     if plan.work == Work::Seal {
@@ -86,6 +109,7 @@ pub(crate) fn work(alloc: Global, plan: &Plan) -> Result<Done, Fault>
             end: log.end(),
         });
     }
+    counting::<MemDisk>();
     let log = mount(alloc, log.release())?;
     Ok(Done::Mounted {
         records: log.records(),
@@ -132,6 +156,17 @@ mod tests {
                 Done::Mounted {
                     records: 2,
                     end: 668,
+                },
+            ),
+            // The base takes 422 bytes.
+            (
+                Work::Turn,
+                70,
+                0,
+                Done::Turned {
+                    turns: 64,
+                    records: 6,
+                    end: 2_362,
                 },
             ),
         ];

@@ -1,165 +1,284 @@
--- A log is made on a disk that has none.
-use Rattle.std.proofs.Common.{◌≡◌, ℕ, ◌+◌, ◌<◌, ◌≤◌, false, List, [], ◌∷◌, ◌++◌, length, get_or, drop, refl, sym, ap, subst, ◌∙◌, append_assoc, arith, inl, inr, ⊎_elim, ◌⊎◌, Option, Some, None, Result, Ok, Err}
-use Rattle.std.specs.Prelude.{OnOk}
+-- A log is made.
+use Rattle.std.proofs.Common.{◌≡◌, ℕ, ◌+◌, ◌<◌, ◌≤◌, false, List, [], ◌∷◌, ◌++◌, length, get_or, drop, refl, sym, ap, subst, ◌∙◌, append_assoc, arith, length-append, inl, inr, ⊎_elim, ◌⊎◌, Option, Result, Ok, Err}
+use Rattle.std.specs.Prelude.{◌==◌}
+use Rattle.std.proofs.lemmas.Bool.{ne_eqb}
+use Rattle.std.proofs.lemmas.Bool.Decides.{eqb_tells}
 use Rattle.std.proofs.lemmas.List.{append-nil}
 use Rattle.ken_disk.specs.declared.faults.DiskFault.{DiskFault}
 use Rattle.ken_disk.specs.declared.faults.DiskFault.TheVariants.{Failed, Memory}
-use Rattle.ken_disk.specs.Story.{DiskState, Story, IsAtRest, Through, Tells, empty}
-use Rattle.ken_disk.specs.Through.{Torn, IsWritten, WroteThrough}
+use Rattle.ken_disk.specs.Bytes.{overwrite}
+use Rattle.ken_disk.specs.Story.{Story, IsAtRest, Tells, Follows}
+use Rattle.ken_disk.specs.Through.{Torn}
+use Rattle.ken_disk.specs.Moments.{Through}
+use Rattle.ken_disk.specs.Writes.{Made}
 use Rattle.ken_disk.proofs.Images.{at_rest_leaves}
-use Rattle.ken_disk.proofs.Moments.{stays, weaker, joined}
+use Rattle.ken_log.proofs.Overwritten.{tears_weaker}
+use Rattle.ken_disk.proofs.Made.{Tears, made_more, made_no_more, none_made, rests-made_none, rests-after_some}
+use Rattle.ken_disk.proofs.Since.{stays, weaker}
+use Rattle.ken_disk.proofs.Told.{by_none, one_by_one, weakened, tells_after}
 use Rattle.ken_record.specs.declared.header.Header.{Header}
-use Rattle.ken_record.specs.Spelling.{header_bytes}
-use Rattle.ken_record.proofs.Sizes.{header_long}
-use Rattle.ken_log.specs.declared.faults.SealFault.TheVariants as seals
+use Rattle.ken_record.specs.declared.base.Base.{Base}
 use Rattle.ken_log.specs.declared.log.Log.{Log}
+use Rattle.ken_log.specs.declared.faults.SealFault.{SealFault}
+use Rattle.ken_log.specs.declared.faults.SealFault.TheVariants as seals
+use Rattle.ken_log.specs.Calls.{gate_writes, closing, first_writes, log_writes, MadeAfterRead}
 use Rattle.ken_log.specs.Mounts.{Mounted, Unformatted, Whole, mount_of}
-use Rattle.ken_log.specs.Layout.{log_bytes, IsLogHeader, IsLogOf}
-use Rattle.ken_log.specs.Seals.{MountsAs, MountsAsEither, Changes, as_fault, as_seal}
-use Rattle.ken_log.specs.Opening.{IsClosedBehind, IsOpenBehind, IsGateOf, Opens}
-use Rattle.ken_log.specs.Formats.{IsBlank, Closes, Formats}
+use Rattle.ken_log.specs.Layout.{head_bytes, log_bytes, IsHead, IsLogOf}
+use Rattle.ken_log.specs.Seals.{MountsAs, MountsAsEither, as_fault, as_seal, as_disk}
+use Rattle.ken_log.specs.Opening.{IsClosedBehind, IsGateOf}
+use Rattle.ken_log.specs.Formats.{MountsAsAny, Replaces}
 use Rattle.ken_log.specs.Settled.{Holds, IsSettled}
-use Rattle.ken_log.proofs.Sealed.{told_after}
-use Rattle.ken_log.proofs.LogMounts.{log_mounts, short_mounts, closed_mounts, open_is_short}
-
--- a disk that was always empty has no log
-pub blank_is_blank : IsBlank empty
-unfolding mount_of
-blank_is_blank = record { rests = record { safe = refl; none = λ place within. within; within = omega arith }; blank = refl }
+use Rattle.ken_log.proofs.Changed.{changed_any, changed_ok, changed_memory, changed_failed}
+use Rattle.ken_log.proofs.LogMounts.{log_mounts, short_mounts, closed_mounts, closed_gate, head_long}
+use Rattle.ken_log.proofs.Parts.{torn_byte}
+use Rattle.ken_log.proofs.Openings.{body_quiet, gate_inside, gate_torn, gate_holds, gate_over}
 
 -- the log that is made
-first_lies : (head : Header) (free : List ℕ) → IsLogHeader head → IsLogOf (165 ∷ ((header_bytes head ++ 0 ∷ []) ++ free)) head [] 32
-first_lies head free is =
-    let front : log_bytes head [] ≡ 165 ∷ header_bytes head = append-nil (165 ∷ header_bytes head) in
+first_lies : (head : Header) (base : Option Base) (free : List ℕ) → IsHead head base → IsLogOf (165 ∷ ((head_bytes head base ++ 0 ∷ []) ++ free)) head base [] (32 + head.base_len)
+first_lies head base free is =
+    let front : log_bytes head base [] ≡ 165 ∷ head_bytes head base = append-nil (165 ∷ head_bytes head base) in
     record {
       gate = 0;
       free = free;
-      parts = ap (λ (l : List ℕ). 165 ∷ l) (append_assoc (header_bytes head) (0 ∷ []) free) ∙ ap (λ (l : List ℕ). l ++ 0 ∷ free) (sym front);
+      parts = ap (λ (l : List ℕ). 165 ∷ l) (append_assoc (head_bytes head base) (0 ∷ []) free) ∙ ap (λ (l : List ℕ). l ++ 0 ∷ free) (sym front);
       closed = λ e. absurd (let no : ⊥ = omega (arith, e) in no);
       header = is;
       items = tt;
-      place = omega (arith, ap length front, header_long head);
+      place = omega (arith, ap length front, head_long head base is);
     }
 
-header_gate : (head : Header) → IsLogHeader head → IsGateOf [] (header_bytes head ++ 0 ∷ []) Unformatted (Whole head [])
-header_gate head is = record {
+head_gate : (head : Header) (base : Option Base) (bytes : List ℕ) → IsHead head base → bytes ≡ head_bytes head base ++ 0 ∷ [] → IsGateOf [] bytes Unformatted (Whole head base [])
+head_gate head base bytes is spells = subst (λ (b : List ℕ). IsGateOf [] b Unformatted (Whole head base [])) (sym spells) (record {
   closed = λ gate free closed. closed_mounts gate free closed;
-  opened = λ free. log_mounts _ head [] 32 (first_lies head free is);
-}
-
--- one sync and no change before
-later : {T : Type 0} (before after : Mounted) (r : Result T DiskFault) (h m : Story) (told : Option Story) → Through (MountsAs before) h m → m.now.syncs ≡ h.now.syncs + 1 → Changes before after 2 (as_seal r) m told → Changes before after 3 (as_seal r) h told
-later {T = T} before after r h m told still synced c = record {
-  new = c.new;
-  tells = c.tells;
-  any_moment = joined (MountsAsEither before after) h m c.new (weaker (MountsAs before) (MountsAsEither before after) h m (λ image e. inl e) still) c.any_moment;
-  ok = c.ok;
-  memory = λ is. joined (MountsAs before) h m c.new still (c.memory is);
-  syncs = more r c.syncs;
-  in_doubt = λ is. ⊎_elim (λ t. inl (joined (MountsAs before) h m c.new still t)) (λ e. inr (omega (arith, e, synced))) (c.in_doubt is);
-}
-  where
-    more : (q : Result T DiskFault) → OnOk (as_seal q) (c.new.now.syncs ≡ m.now.syncs + 2) → OnOk (as_seal q) (c.new.now.syncs ≡ h.now.syncs + 3)
-    more (Ok x) e = omega (arith, e, synced)
-    more (Err e) is = tt
-
-pub make_formats : {T U : Type 0} (head : Header) (bytes : List ℕ) (x : U) (first : Result U DiskFault) (second : Result T DiskFault) (h : Story) (mid told : Option Story) → IsLogHeader head → bytes ≡ header_bytes head ++ 0 ∷ [] → first ≡ Ok x → Closes first h mid
-    → Tells mid (λ m. (front : List ℕ) (before after : Mounted) → length front ≡ 0 → IsClosedBehind front m.now → IsGateOf front bytes before after → Opens front bytes before after second m told) → Formats head second h told
-unfolding later
-make_formats {T = T} {U = U} head bytes x first second h mid told is spells was closes story =
-    let c : Closes (Ok x) h mid = subst (λ (r : Result U DiskFault). Closes r h mid) was closes in
-    let o = story c.new c.tells [] Unformatted (Whole head []) refl c.ok.0 (subst (λ (b : List ℕ). IsGateOf [] b Unformatted (Whole head [])) (sym spells) (header_gate head is)) in
-    record {
-      changes = later Unformatted (Whole head []) second h c.new told c.any_moment c.ok.1 o.changes;
-      ok = subst (λ (b : List ℕ). OnOk second (IsOpenBehind [] b o.changes.new.now)) spells o.ok;
-      memory = λ m. (o.memory m).rests;
-    }
-
--- the first gate could not be closed
-pub make_stops : {T : Type 0} (head : Header) (e : DiskFault) (h : Story) (told : Option Story) → IsBlank h.now → Closes {T = T} (Err e) h told → Formats {T = T} head (Err e) h told
-make_stops head e h told blank c = record {
-  changes = record {
-    new = c.new;
-    tells = c.tells;
-    any_moment = weaker (MountsAs Unformatted) (MountsAsEither Unformatted (Whole head [])) h c.new (λ image s. inl s) c.any_moment;
-    ok = tt;
-    memory = λ _. c.any_moment;
-    syncs = tt;
-    in_doubt = λ _. inl c.any_moment;
-  };
-  ok = tt;
-  memory = λ m. subst (λ (s : Story). IsAtRest s.now) (sym (c.memory m)) blank.rests;
-}
-
--- what the format leaves is a log that takes seals
-pub format_settled : {D T : Type 0} (told : D → Option Story) (size : D → ℕ) (old : D) (new : Log D) (x : T) → Tells (told old) (λ h. Formats new.header (Ok x) h (told new.disk)) → (told old ≡ None → told new.disk ≡ None) → IsLogHeader new.header → new.spent ≡ false → new.records ≡ 0 → new.end ≡ 32 → 33 ≤ size new.disk → IsSettled told size new
-format_settled {T = T} told size old new x story silent is sound records end room = record {
-  sound = sound;
-  few = omega (arith, records, end);
-  room = omega (arith, room, end);
-  rests = told_after (told old) (told new.disk) (λ h. IsAtRest h.now) silent (λ h before. let f = story h before in (f.changes.new, f.changes.tells, f.ok.rests));
-  holds = told_after (told old) (told new.disk) (λ h. Holds new h.now.seen) silent (λ h before. let f = story h before in (f.changes.new, f.changes.tells, held f.changes.new f.ok));
-}
-  where
-    held : (s : Story) → IsOpenBehind [] (header_bytes new.header ++ 0 ∷ []) s.now → Holds new s.now.seen
-    held s stands =
-        let first : IsLogOf s.now.seen new.header [] 32 = subst (λ (b : List ℕ). IsLogOf b new.header [] 32) (sym stands.parts) (first_lies new.header stands.free is) in
-        let lies : IsLogOf s.now.seen new.header [] new.end = subst (λ (e : ℕ). IsLogOf s.now.seen new.header [] e) (sym end) first in
-        record { items = []; lies = lies; count = records }
-
--- after Memory nothing is pending
-pub format_rests : {D T : Type 0} (told : D → Option Story) (old new : D) (head : Header) (fault : DiskFault) → Tells (told old) (λ h. Formats {T = T} head (Err fault) h (told new)) → (told old ≡ None → told new ≡ None) → as_fault fault ≡ seals.Memory → Tells (told new) (λ h. IsAtRest h.now)
-format_rests told old new head Failed story silent is = absurd (let no : ⊥ = cc in no)
-format_rests told old new head Memory story silent is =
-    told_after (told old) (told new) (λ h. IsAtRest h.now) silent (λ h before. let f = story h before in (f.changes.new, f.changes.tells, f.memory refl))
+  opened = λ free. log_mounts _ head base [] (32 + head.base_len) (first_lies head base free is);
+})
 
 -- ---- the first gate is closed
 
-closes : {T : Type 0} (at : ℕ) (bytes : List ℕ) (r : Result T DiskFault) (h : Story) (told : Option Story) → ((image : List ℕ) → Torn at (length bytes) h.now.seen image → mount_of image ≡ Unformatted) → ((s : DiskState) → IsWritten at bytes h.now s → IsClosedBehind [] s) → WroteThrough at bytes r h told → Closes r h told
-closes {T = T} at bytes r h told torn shut w = record {
-  new = w.new;
-  tells = w.tells;
-  any_moment = weaker (Torn at (length bytes) h.now.seen) (MountsAs Unformatted) h w.new torn w.any_moment;
-  ok = at_ok r w.ok w.synced;
-  memory = w.memory;
-}
+not_empty : (gate : ℕ) (free : List ℕ) → (length (gate ∷ free) == 0) ≡ false
+not_empty gate free = ne_eqb (length (gate ∷ free)) 0 (λ e. let no : ⊥ = omega (arith, e) in no)
+
+-- by a write of no bytes where it is there and closed, and else by a closed gate
+pub closing_none : (seen : List ℕ) → 1 ≤ length seen → (get_or seen 0 0 ≡ 165 → ⊥) → closing seen ≡ []
+closing_none [] long shut = absurd (omega (arith, long))
+closing_none (gate ∷ free) long shut = rw (not_empty gate free, closed_gate gate shut) refl
+
+pub closing_some : (seen : List ℕ) → (length seen ≡ 0) ⊎ (get_or seen 0 0 ≡ 165) → closing seen ≡ 0 ∷ []
+closing_some [] which = refl
+closing_some (gate ∷ free) which = ⊎_elim (λ none. absurd (omega (arith, none))) (λ stands. let open_one : gate ≡ 165 = stands in rw (not_empty gate free, open_one) refl) which
+
+-- which of the two it is
+data Closing (seen : List ℕ) : Type 0 where
+  Shut : closing seen ≡ [] → 1 ≤ length seen → (get_or seen 0 0 ≡ 165 → ⊥) → Closing seen
+  Stands : closing seen ≡ 0 ∷ [] → (length seen ≡ 0) ⊎ (get_or seen 0 0 ≡ 165) → Closing seen
+
+closing_is : (seen : List ℕ) → Closing seen
+closing_is [] = Stands refl (inl refl)
+closing_is (gate ∷ free) =
+    let long : 1 ≤ length (gate ∷ free) = omega arith in
+    ⊎_elim
+    (λ stands. Stands (closing_some (gate ∷ free) (inr stands.1)) (inr stands.1))
+    (λ shut. Shut (closing_none (gate ∷ free) long shut.1) long shut.1)
+    (eqb_tells gate 165)
+
+shut_already : (seen : List ℕ) → 1 ≤ length seen → (get_or seen 0 0 ≡ 165 → ⊥) → IsClosedBehind [] seen
+shut_already [] long shut = absurd (omega (arith, long))
+shut_already (gate ∷ free) long shut = record { gate = gate; free = free; parts = refl; closed = shut }
+
+pub closed_first : (seen : List ℕ) → IsClosedBehind [] (overwrite 0 (closing seen) seen)
+closed_first seen = at (closing_is seen)
   where
-    at_ok : (q : Result T DiskFault) → OnOk q (IsWritten at bytes h.now w.new.now) → OnOk q (w.new.now.syncs ≡ h.now.syncs + 1) → OnOk q (IsClosedBehind [] w.new.now × (w.new.now.syncs ≡ h.now.syncs + 1))
-    at_ok (Ok x) is synced = (shut w.new.now is, synced)
-    at_ok (Err e) is synced = tt
+    at : Closing seen → IsClosedBehind [] (overwrite 0 (closing seen) seen)
+    at (Shut is long shut) = subst (λ (b : List ℕ). IsClosedBehind [] (overwrite 0 b seen)) (sym is) (shut_already seen long shut)
+    at (Stands is which) =
+        subst (λ (b : List ℕ). IsClosedBehind [] (overwrite 0 b seen)) (sym is) (record { gate = 0; free = drop 1 seen; parts = refl; closed = λ e. absurd (let no : ⊥ = omega (arith, e) in no) })
 
--- by a write of no bytes, where it is there and closed
-nothing_torn : (old image : List ℕ) → mount_of old ≡ Unformatted → Torn 0 0 old image → mount_of image ≡ Unformatted
-nothing_torn old image is torn =
-    let same : image ≡ old = torn.after in
-    ap mount_of same ∙ is
+-- a torn write of a closed gate over an open one leaves what was there, or no log
+gate_torn_shut : (seen image : List ℕ) → (length seen ≡ 0) ⊎ (get_or seen 0 0 ≡ 165) → Torn 0 1 seen image → MountsAsEither (mount_of seen) Unformatted image
+gate_torn_shut [] image which torn = inr (short_mounts image (omega (arith, torn.no_longer)))
+gate_torn_shut (gate ∷ free) image which torn =
+    let t = torn_byte [] 0 gate free image refl torn in
+    let open_one : gate ≡ 165 = ⊎_elim (λ none. absurd (let no : ⊥ = omega (arith, none) in no)) (λ stands. stands) which in
+    ⊎_elim
+    (λ stands. inl (ap mount_of (t.1 ∙ ap (λ (b : ℕ). b ∷ free) (stands.1 ∙ sym open_one))))
+    (λ shut. inr (ap mount_of t.1 ∙ closed_mounts t.0 free shut.1))
+    (eqb_tells t.0 165)
 
-shut_already : (old new : List ℕ) → 1 ≤ length old → (get_or old 0 0 ≡ 165 → ⊥) → new ≡ old → (gate : ℕ) × (free : List ℕ) × (new ≡ gate ∷ free) × (gate ≡ 165 → ⊥)
-shut_already [] new long closed is = absurd (omega (arith, long))
-shut_already (gate ∷ free) new long closed is = (gate, free, is, closed)
+closing_torn : (seen image : List ℕ) → Torn 0 (length (closing seen)) seen image → MountsAsEither (mount_of seen) Unformatted image
+closing_torn seen image torn = at (closing_is seen)
+  where
+    at : Closing seen → MountsAsEither (mount_of seen) Unformatted image
+    at (Shut is long shut) =
+        let t : Torn 0 0 seen image = subst (λ (b : List ℕ). Torn 0 (length b) seen image) is torn in
+        let same : image ≡ seen = t.after in
+        inl (ap mount_of same)
+    at (Stands is which) =
+        gate_torn_shut seen image which (subst (λ (b : List ℕ). Torn 0 (length b) seen image) is torn)
 
-pub closes_by_none : {T : Type 0} (r : Result T DiskFault) (h : Story) (told : Option Story) → IsBlank h.now → 1 ≤ length h.now.seen → (get_or h.now.seen 0 0 ≡ 165 → ⊥) → WroteThrough 0 [] r h told → Closes r h told
-closes_by_none r h told blank long closed w =
-    closes 0 [] r h told (λ image torn. nothing_torn h.now.seen image blank.blank torn)
-    (λ s is. let q = shut_already h.now.seen s.seen long closed is.seen in record { rests = is.rests; gate = q.0; free = q.1; parts = q.2; closed = q.3 }) w
+-- ---- the writes of a format and of a turnover
 
--- by a closed gate, where there is none or an open one
-byte_torn : (old image : List ℕ) → mount_of old ≡ Unformatted → (length old ≡ 0) ⊎ (get_or old 0 0 ≡ 165) → Torn 0 1 old image → mount_of image ≡ Unformatted
-byte_torn old image is gate torn =
-    let short : length old < 32 = ⊎_elim (λ none. let l : length old < 32 = omega (arith, none) in l) (λ stands. open_is_short old is stands) gate in
-    short_mounts image (omega (arith, short, torn.no_longer))
+module _ (head : Header) (base : Option Base) (bytes : List ℕ) (is : IsHead head base) (spells : bytes ≡ head_bytes head base ++ 0 ∷ []) where
+  abbrev after : Mounted
+  after = Whole head base []
 
-pub closes_by_gate : {T : Type 0} (r : Result T DiskFault) (h : Story) (told : Option Story) → IsBlank h.now → (length h.now.seen ≡ 0) ⊎ (get_or h.now.seen 0 0 ≡ 165) → WroteThrough 0 (0 ∷ []) r h told → Closes r h told
-closes_by_gate r h told blank gate w =
-    closes 0 (0 ∷ []) r h told (λ image torn. byte_torn h.now.seen image blank.blank gate torn)
-    (λ s is. record { rests = is.rests; gate = 0; free = drop 1 h.now.seen; parts = is.seen; closed = λ e. absurd (let no : ⊥ = omega (arith, e) in no) }) w
+  module _ (h new : Story) (rests : IsAtRest h.now) where
+    abbrev before : Mounted
+    before = mount_of h.now.seen
+
+    abbrev shut_seen : List ℕ
+    shut_seen = overwrite 0 (closing h.now.seen) h.now.seen
+
+    shut : IsClosedBehind [] shut_seen
+    shut = closed_first h.now.seen
+
+    early : (image : List ℕ) → MountsAsEither before Unformatted image → MountsAsAny before after image
+    early image e = ⊎_elim (λ same. inl same) (λ none. inr (inl none)) e
+
+    late : (image : List ℕ) → MountsAsEither Unformatted after image → MountsAsAny before after image
+    late image e = inr e
+
+    quiet : Tears (MountsAsEither before Unformatted) ((0, closing h.now.seen) ∷ (1, bytes) ∷ []) h.now.seen
+    quiet =
+        let inside : 0 ≤ length h.now.seen = omega arith in
+        let behind = tears_weaker (MountsAs Unformatted) (MountsAsEither before Unformatted) (λ image e. inr e) ((1, bytes) ∷ []) shut_seen (body_quiet [] bytes shut_seen 0 refl shut Unformatted after (head_gate head base bytes is spells)) in
+        (inside, closing_torn h.now.seen, behind)
+
+    any : {T : Type 0} (r : Result T DiskFault) → Made r (first_writes bytes h.now.seen) h new → Through (MountsAsAny before after) h new
+    any r made = changed_any (MountsAsEither before Unformatted) (MountsAsEither Unformatted after) (MountsAs after) (MountsAsAny before after) early late ((0, closing h.now.seen) ∷ (1, bytes) ∷ []) (0, 165 ∷ []) h rests
+        quiet (gate_inside [] bytes shut_seen 0 refl shut) (gate_torn [] bytes shut_seen 0 refl shut Unformatted after (head_gate head base bytes is spells)) (gate_holds [] bytes shut_seen 0 refl shut Unformatted after (head_gate head base bytes is spells)) r new made
+
+    replaced : {T : Type 0} (r : Result T DiskFault) → Made r (first_writes bytes h.now.seen) h new → Replaces before after (as_seal r) h new
+    replaced (Ok x) made = record {
+      any_moment = any (Ok x) made;
+      ok = changed_ok (MountsAsEither before Unformatted) (MountsAsEither Unformatted after) (MountsAs after) (MountsAsAny before after) early late ((0, closing h.now.seen) ∷ (1, bytes) ∷ []) (0, 165 ∷ []) h rests
+          quiet (gate_inside [] bytes shut_seen 0 refl shut) (gate_torn [] bytes shut_seen 0 refl shut Unformatted after (head_gate head base bytes is spells)) (gate_holds [] bytes shut_seen 0 refl shut Unformatted after (head_gate head base bytes is spells)) (Ok x) new made;
+      memory = λ m. absurd (let no : ⊥ = cc in no);
+      in_doubt = λ m. absurd (let no : ⊥ = cc in no);
+    }
+    replaced {T = T} (Err Failed) made = record {
+      any_moment = any {T = T} (Err Failed) made;
+      ok = tt;
+      memory = λ m. absurd (let no : ⊥ = cc in no);
+      in_doubt = λ m. changed_failed (MountsAsEither before Unformatted) (MountsAsEither Unformatted after) (MountsAs after) (MountsAsAny before after) early late ((0, closing h.now.seen) ∷ (1, bytes) ∷ []) (0, 165 ∷ []) h rests
+          quiet (gate_inside [] bytes shut_seen 0 refl shut) (gate_torn [] bytes shut_seen 0 refl shut Unformatted after (head_gate head base bytes is spells)) (gate_holds [] bytes shut_seen 0 refl shut Unformatted after (head_gate head base bytes is spells)) T new made;
+    }
+    replaced {T = T} (Err Memory) made = record {
+      any_moment = any {T = T} (Err Memory) made;
+      ok = tt;
+      memory = λ m. changed_memory (MountsAsEither before Unformatted) (MountsAsEither Unformatted after) (MountsAs after) (MountsAsAny before after) early late ((0, closing h.now.seen) ∷ (1, bytes) ∷ []) (0, 165 ∷ []) h rests
+          quiet (gate_inside [] bytes shut_seen 0 refl shut) (gate_torn [] bytes shut_seen 0 refl shut Unformatted after (head_gate head base bytes is spells)) (gate_holds [] bytes shut_seen 0 refl shut Unformatted after (head_gate head base bytes is spells)) T new made;
+      in_doubt = λ m. absurd (let no : ⊥ = cc in no);
+    }
+
+    -- the read before them failed
+    unread : (T : Type 0) → new ≡ h → Replaces {T = T} before after (as_seal {T = T} (Err Failed)) h new
+    unread T same =
+        let still : Through (MountsAsEither before Unformatted) h h = stays (MountsAsEither before Unformatted) h (at_rest_leaves (MountsAsEither before Unformatted) h.now rests (inl refl)) in
+        record {
+          any_moment = subst (Through (MountsAsAny before after) h) (sym same) (weaker (MountsAsEither before Unformatted) (MountsAsAny before after) h h early still);
+          ok = tt;
+          memory = λ m. absurd (let no : ⊥ = cc in no);
+          in_doubt = λ _. inl (subst (Through (MountsAsEither before Unformatted) h) (sym same) still);
+        }
+
+    pub replaced_after_read : {T : Type 0} (r : Result T DiskFault) → MadeAfterRead r (first_writes bytes h.now.seen) h new → Replaces before after (as_seal r) h new
+    replaced_after_read (Ok x) made = replaced (Ok x) made
+    replaced_after_read {T = T} (Err Failed) made = ⊎_elim (unread T) (replaced {T = T} (Err Failed)) made
+    replaced_after_read {T = T} (Err Memory) made = replaced {T = T} (Err Memory) made
+
+  abbrev Begun : {T : Type 0} → Result T DiskFault → Story → Story → Type 0
+  Begun r h s = MadeAfterRead r (first_writes bytes h.now.seen) h s
+
+  pub begun_replaces : {T : Type 0} (r : Result T DiskFault) (old new : Option Story) → Follows (Begun r) old new → Follows (λ h s. IsAtRest h.now → Replaces (mount_of h.now.seen) after (as_seal r) h s) old new
+  begun_replaces r old new made =
+      weakened (Begun r) (λ h s. IsAtRest h.now → Replaces (mount_of h.now.seen) after (as_seal r) h s) old new made (λ h s _ m rests. replaced_after_read h s rests r m)
+
+  pub begun_calls : {T : Type 0} (r : Result T DiskFault) (old new : Option Story) → Follows (Begun r) old new → Follows (λ h s. MadeAfterRead r (log_writes head base h.now.seen) h s) old new
+  begun_calls r old new made =
+      subst (λ (b : List ℕ). Follows (λ h s. MadeAfterRead r (first_writes b h.now.seen) h s) old new) spells made
+
+  -- what they leave is a log that takes seals
+  pub begun_settled : {D T : Type 0} (told : D → Option Story) (size : D → ℕ) (old : Option Story) (log : Log D) (x : T) → Follows (Begun (Ok x)) old (told log.disk) → log.header ≡ head → log.base ≡ base → log.spent ≡ false → log.records ≡ 0 → log.end ≡ 32 + head.base_len → 1 + length bytes ≤ size log.disk → IsSettled told size log
+  begun_settled told size old log x made header under sound records end room = record {
+    sound = sound;
+    header = rw (header, under) is;
+    few = omega (arith, records, end);
+    room = omega (arith, room, end, head_long head base is, ap length spells, length-append (head_bytes head base) (0 ∷ []));
+    rests = tells_after (Begun (Ok x)) (λ h. IsAtRest h.now) old (told log.disk) made (λ h s _ m. subst (λ (t : Story). IsAtRest t.now) (sym m) (rests-after_some (0, closing h.now.seen) (gate_writes 0 bytes) h));
+    holds = tells_after (Begun (Ok x)) (λ h. Holds log h.now.seen) old (told log.disk) made (λ h s _ m. held s (overwrite 0 (closing h.now.seen) h.now.seen) (closed_first h.now.seen) (ap (λ (t : Story). t.now.seen) m));
+  }
+    where
+      held : (s : Story) (seen : List ℕ) → (shut : IsClosedBehind [] seen) → s.now.seen ≡ overwrite 0 (165 ∷ []) (overwrite 1 bytes seen) → Holds log s.now.seen
+      held s seen shut is_seen =
+          let free = drop (length bytes) shut.free in
+          let parts : s.now.seen ≡ 165 ∷ ((head_bytes head base ++ 0 ∷ []) ++ free) = is_seen ∙ gate_over [] bytes seen 0 refl shut ∙ ap (λ (b : List ℕ). 165 ∷ (b ++ free)) spells in
+          let first : IsLogOf s.now.seen head base [] (32 + head.base_len) = subst (λ (b : List ℕ). IsLogOf b head base [] (32 + head.base_len)) (sym parts) (first_lies head base free is) in
+          record { items = []; lies = rw (header, under, end) first; count = records }
+
+  -- after Memory nothing is pending that wasn't before
+  pub begun_rests : (T : Type 0) (old new : Option Story) → Follows (Begun {T = T} (Err Memory)) old new → Follows (λ h s. IsAtRest h.now → IsAtRest s.now) old new
+  begun_rests T old new made =
+      weakened (Begun {T = T} (Err Memory)) (λ h s. IsAtRest h.now → IsAtRest s.now) old new made (λ h s _ m rests. rests-made_none T (first_writes bytes h.now.seen) h s m rests)
+
+  -- there was no memory for the bytes
+  pub begun_none : (T : Type 0) (old new : Option Story) → new ≡ old → Follows (Begun {T = T} (Err Memory)) old new
+  begun_none T old new same = by_none (Begun {T = T} (Err Memory)) old new same (λ h. none_made T (0, closing h.now.seen) (gate_writes 0 bytes) h)
+
+  abbrev Told : Type 0 → SealFault → Option Story → Option Story → Type 0
+  Told U f old new = Follows (λ h s. IsAtRest h.now → Replaces {T = U} (mount_of h.now.seen) after (Err f) h s) old new × Follows (λ h s. MadeAfterRead (as_disk {T = U} (Err f)) (log_writes head base h.now.seen) h s) old new × (f ≡ seals.Memory → Follows (λ h s. IsAtRest h.now → IsAtRest s.now) old new)
+
+  -- told of the fault of a log
+  pub begun_faults : (T U : Type 0) (e : DiskFault) (f : SealFault) (old new : Option Story) → f ≡ as_fault e → Follows (Begun {T = T} (Err e)) old new
+      → Follows (λ h s. IsAtRest h.now → Replaces {T = U} (mount_of h.now.seen) after (Err f) h s) old new × Follows (λ h s. MadeAfterRead (as_disk {T = U} (Err f)) (log_writes head base h.now.seen) h s) old new × (f ≡ seals.Memory → Follows (λ h s. IsAtRest h.now → IsAtRest s.now) old new)
+  begun_faults T U Failed f old new tells made = subst (λ (g : SealFault). Told U g old new) (sym tells) (
+    begun_replaces {T = U} (Err Failed) old new made,
+    begun_calls {T = U} (Err Failed) old new made,
+    λ m. absurd (let no : ⊥ = cc m in no),
+  )
+  begun_faults T U Memory f old new tells made = subst (λ (g : SealFault). Told U g old new) (sym tells) (
+    begun_replaces {T = U} (Err Memory) old new made,
+    begun_calls {T = U} (Err Memory) old new made,
+    λ m. begun_rests T old new made,
+  )
+
+-- ---- as stories are told
+
+read_no_more : (T : Type 0) (e : DiskFault) (ws vs : List (ℕ × List ℕ)) (a b : Story) → MadeAfterRead {T = T} (Err e) ws a b → MadeAfterRead {T = T} (Err e) (ws ++ vs) a b
+read_no_more T Failed ws vs a b made = ⊎_elim (λ same. inl same) (λ m. inr (made_no_more ws vs T T Failed a b m)) made
+read_no_more T Memory ws vs a b made = made_no_more ws vs T T Memory a b made
+
+after_read : {T : Type 0} (r : Result T DiskFault) (ws : List (ℕ × List ℕ)) (a b : Story) → Made r ws a b → MadeAfterRead r ws a b
+after_read (Ok x) ws a b made = made
+after_read (Err Failed) ws a b made = inr made
+after_read (Err Memory) ws a b made = made
+
+nothing_read : (T : Type 0) (e : DiskFault) (w : ℕ × List ℕ) (h : Story) → MadeAfterRead {T = T} (Err e) (w ∷ []) h h
+nothing_read T Failed w h = inl refl
+nothing_read T Memory w h = none_made T w [] h
+
+abbrev Closed : {T : Type 0} → Result T DiskFault → Story → Story → Type 0
+Closed r h s = MadeAfterRead r ((0, closing h.now.seen) ∷ []) h s
 
 -- the first gate could not be looked at
-pub closes_not : {T : Type 0} (e : DiskFault) (h : Story) (told : Option Story) → IsBlank h.now → told ≡ Some h → Closes {T = T} (Err e) h told
-closes_not e h told blank tells = record {
-  new = h;
-  tells = tells;
-  any_moment = stays (MountsAs Unformatted) h (at_rest_leaves (MountsAs Unformatted) h.now blank.rests blank.blank);
-  ok = tt;
-  memory = λ _. refl;
-}
+pub closes_not : (T : Type 0) (e : DiskFault) (old new : Option Story) → new ≡ old → Follows (Closed {T = T} (Err e)) old new
+closes_not T e old new same =
+    by_none (Closed {T = T} (Err e)) old new same (λ h. nothing_read T e (0, closing h.now.seen) h)
+
+-- it was, and this closed it
+pub closes_by : {T : Type 0} (bytes : List ℕ) (r : Result T DiskFault) (old mid new : Option Story) → mid ≡ old → Tells old (λ h. closing h.now.seen ≡ bytes) → Follows (Made r ((0, bytes) ∷ [])) mid new → Follows (Closed r) old new
+closes_by bytes r old mid new same is made =
+    weakened (Made r ((0, bytes) ∷ [])) (Closed r) old new (subst (λ (o : Option Story). Follows (Made r ((0, bytes) ∷ [])) o new) same made) (λ h s t m.
+    subst (λ (b : List ℕ). MadeAfterRead r ((0, b) ∷ []) h s) (sym (is h t)) (after_read r ((0, bytes) ∷ []) h s m))
+
+module _ (bytes : List ℕ) where
+  abbrev Began : {T : Type 0} → Result T DiskFault → Story → Story → Type 0
+  Began r h s = MadeAfterRead r (first_writes bytes h.now.seen) h s
+
+  pub begin_stops : (T : Type 0) (e : DiskFault) (old new : Option Story) → Follows (Closed {T = T} (Err e)) old new → Follows (Began {T = T} (Err e)) old new
+  begin_stops T e old new made =
+      weakened (Closed {T = T} (Err e)) (Began {T = T} (Err e)) old new made (λ h s _ m. read_no_more T e ((0, closing h.now.seen) ∷ []) (gate_writes 0 bytes) h s m)
+
+  pub begin_goes_on : {T U : Type 0} (x : U) (r : Result T DiskFault) (old mid new : Option Story) → Follows (Closed (Ok x)) old mid → Follows (Made r (gate_writes 0 bytes)) mid new → Follows (Began r) old new
+  begin_goes_on x r old mid new first second =
+      one_by_one (Closed (Ok x)) (Made r (gate_writes 0 bytes)) (Began r) old mid new first second (λ a b c _ m n.
+      after_read r ((0, closing a.now.seen) ∷ gate_writes 0 bytes) a c (made_more ((0, closing a.now.seen) ∷ []) (gate_writes 0 bytes) x r a b c m n))

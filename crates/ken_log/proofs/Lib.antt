@@ -1,7 +1,10 @@
+pub mod Overwritten
 pub mod Parts
 pub mod LogMounts
+pub mod Changed
 pub mod Openings
 pub mod Sealed
 pub mod Formatted
+pub mod Turned
 pub mod Taken
 pub mod Restarts

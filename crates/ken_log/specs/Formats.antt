@@ -1,16 +1,18 @@
--- What a format makes of a disk that has no log.
-use Rattle.std.specs.Prelude.{◌≡◌, ◌+◌, [], ◌∷◌, ◌++◌, Option, Some, Result, Ok, Err, OnOk, IsErrOf}
-use Rattle.ken_disk.specs.declared.faults.DiskFault.{DiskFault}
-use Rattle.ken_disk.specs.declared.faults.DiskFault.TheVariants.{Memory}
-use Rattle.ken_disk.specs.Story.{DiskState, Story, IsAtRest, Through}
+-- A log takes the place of what a disk held: by a format, or by a turnover.
+use Rattle.std.specs.Prelude.{◌≡◌, ℕ, ◌+◌, ◌⊎◌, List, length, Result, Ok, Err, OnOk, IsErrOf}
+use Rattle.ken_disk.specs.Story.{Story, Leaves}
+use Rattle.ken_disk.specs.Moments.{Through}
 use Rattle.ken_record.specs.declared.header.Header.{Header}
-use Rattle.ken_record.specs.Spelling.{header_bytes}
+use Rattle.ken_record.specs.declared.base.Base.{Base}
+use Rattle.ken_record.specs.Versions.{version_of}
+use Rattle.ken_record.specs.Spelling.{base_bytes}
+use Rattle.ken_log.specs.declared.faults.SealFault.{SealFault}
+use Rattle.ken_log.specs.declared.faults.SealFault.TheVariants.{Disk, Memory}
 use Rattle.ken_log.specs.declared.log.Log.{Log}
-use Rattle.ken_log.specs.Mounts.{Unformatted, Whole, mount_of}
-use Rattle.ken_log.specs.Seals.{MountsAs, Changes, as_seal}
-use Rattle.ken_log.specs.Opening.{IsClosedBehind, IsOpenBehind}
+use Rattle.ken_log.specs.Mounts.{Mounted, Unformatted, mount_of}
+use Rattle.ken_log.specs.Seals.{MountsAs, MountsAsEither}
 
--- the disk is in the log, or beside the fault
+-- the disk of a format is in the log, or beside the fault
 abbrev pub disk_of : {D F : Type 0} → Result (Log D) (F × D) → D
 disk_of (Ok log) = log.disk
 disk_of (Err fault) = fault.1
@@ -19,21 +21,34 @@ abbrev pub answer_of : {D F : Type 0} → Result (Log D) (F × D) → Result (Lo
 answer_of (Ok log) = Ok log
 answer_of (Err fault) = Err fault.0
 
--- nothing is pending, and there is no log
-pub record IsBlank (s : DiskState) : Type 0 where
-  pub rests : IsAtRest s
-  pub blank : mount_of s.seen ≡ Unformatted
+-- of the two disks after a turnover the one that was written, and the one that wasn't: they changed places after Ok alone
+abbrev pub written_disk : {T D F : Type 0} → Result T F → Log D → D → D
+written_disk (Ok _) log other = log.disk
+written_disk (Err _) log other = other
 
--- the first gate was closed, where it wasn't: there was no log at any moment
-pub record Closes {T : Type 0} (result : Result T DiskFault) (old : Story) (told : Option Story) : Type 0 where
-  pub new : Story
-  pub tells : told ≡ Some new
-  pub any_moment : Through (MountsAs Unformatted) old new
-  pub ok : OnOk result (IsClosedBehind [] new.now × (new.now.syncs ≡ old.now.syncs + 1))
-  pub memory : IsErrOf result Memory → new ≡ old
+abbrev pub old_disk : {T D F : Type 0} → Result T F → Log D → D → D
+old_disk (Ok _) log other = other
+old_disk (Err _) log other = log.disk
 
--- a log with this header and no records was made
-pub record Formats {T : Type 0} (head : Header) (result : Result T DiskFault) (old : Story) (told : Option Story) : Type 0 where
-  pub changes : Changes Unformatted (Whole head []) 3 (as_seal result) old told
-  pub ok : OnOk result (IsOpenBehind [] (header_bytes head ++ 0 ∷ []) changes.new.now)
-  pub memory : IsErrOf result Memory → IsAtRest changes.new.now
+-- the header of the log after this one, with this base
+abbrev pub next_header : {D : Type 0} → Log D → Base → Header
+next_header log base = record log.header {
+  generation = log.header.generation + 1;
+  turns = log.header.turns + log.records;
+  base_len = length (base_bytes (version_of log.header) base);
+}
+
+-- an image mounts as before, as no log, or as after
+abbrev pub MountsAsAny : Mounted → Mounted → List ℕ → Type 0
+MountsAsAny before after image = (mount_of image ≡ before) ⊎ ((mount_of image ≡ Unformatted) ⊎ (mount_of image ≡ after))
+
+-- three writes: the first closes the first gate, so that there is no log, and the last opens it on another
+pub record Replaces {T : Type 0} (before after : Mounted) (result : Result T SealFault) (old new : Story) : Type 0 where
+  -- a crash at any moment of the call leaves what mounts as before, as no log, or as after
+  pub any_moment : Through (MountsAsAny before after) old new
+  -- then it leaves only what mounts as after
+  pub ok : OnOk result (Leaves (MountsAs after) new.now)
+  -- after Memory nothing that a crash leaves, or left since the call began, mounts as after
+  pub memory : IsErrOf result Memory → Through (MountsAsEither before Unformatted) old new
+  -- after Disk neither; or the last write is in doubt, all syncs but its own have answered Ok, and nothing is as before
+  pub in_doubt : IsErrOf result Disk → Through (MountsAsEither before Unformatted) old new ⊎ (Leaves (MountsAsEither Unformatted after) new.now × (new.now.syncs + 1 ≡ old.now.syncs + 3))

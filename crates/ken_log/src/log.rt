@@ -1,18 +1,22 @@
-ghost use Rattle.std.specs.Prelude.{◌≡◌};
+ghost use Rattle.std.specs.Prelude.{◌≡◌, None, Some, MatchOption};
 
 use ken_disk::Disk;
-use ken_record::Header;
+use ken_record::{Base, Header};
 
 // The bytes of a gate.
 pub(crate) const OPEN: u8 = 0xa5;
 
 pub(crate) const CLOSED: u8 = 0;
 
-/// A header, records, and then a closed gate, on a disk.
+// The bytes of a header with its gate.
+pub(crate) const HEADER_LEN: u64 = 32;
+
+/// A header, a base where it isn't a node's first log, records, and then a closed gate, on a disk.
 #[derive(Debug, Drop)]
 pub struct Log<D> {
     pub(crate) disk: D,
     pub(crate) header: Header,
+    pub(crate) base: Option<Base>,
     pub(crate) records: u64,
     // The place of the closed gate.
     pub(crate) end: u64,
@@ -27,6 +31,13 @@ impl<D: Disk> Log<D> {
         &self.header
     }
 
+    /// What the logs before it left, or nothing in a node's first log.
+    pub fn base(&self) -> Option<&Base>
+        ensures { MatchOption result (self.now.base ≡ None) (λ base. self.now.base ≡ Some base.now) }
+    {
+        self.base.as_ref()
+    }
+
     /// How many records it holds.
     pub fn records(&self) -> u64
         ensures { result ≡ self.now.records }
@@ -34,7 +45,7 @@ impl<D: Disk> Log<D> {
         self.records
     }
 
-    /// Where it ends: the place of its closed gate.
+    /// Where it ends: the place of its closed gate, in bytes.
     pub fn end(&self) -> u64
         ensures { result ≡ self.now.end }
     {

@@ -1,12 +1,13 @@
-ghost use Rattle.std.specs.Prelude.{◌≡◌, ◌+◌, ◌≤◌, ◌∷◌, ◌++◌, [], length, true, None, OnOk, OnErr, IfOk, IsErrOf};
-ghost use Rattle.ken_disk.specs.Story.{Tells};
+ghost use Rattle.std.specs.Prelude.{◌≡◌, ◌+◌, ◌≤◌, ◌∷◌, ◌++◌, [], length, true, OnOk, OnErr, IfOk, IsErrOf};
+ghost use Rattle.ken_disk.specs.Fates.{Suffers};
+ghost use Rattle.ken_disk.specs.Story.{Follows};
+ghost use Rattle.ken_disk.specs.Writes.{Made};
 ghost use Rattle.ken_record.specs.Grammar.{IsRecord};
 ghost use Rattle.ken_record.specs.Spelling.{record_bytes};
-ghost use Rattle.ken_record.specs.Versions.{One};
+ghost use Rattle.ken_record.specs.Versions.{One, version_of};
+ghost use Rattle.ken_log.specs.Calls.{seal_writes};
 ghost use Rattle.ken_log.specs.Mounts.{mount_of, with_record};
-ghost use Rattle.ken_log.specs.Seals.{Changes, HasLogCause};
-ghost use Rattle.ken_disk.specs.Steps.{went};
-ghost use Rattle.ken_log.specs.Calls.{seal_calls};
+ghost use Rattle.ken_log.specs.Seals.{Changes, HasLogCause, as_disk};
 ghost use Rattle.ken_log.specs.Settled.{IsSettled};
 
 use crate::SealFault;
@@ -23,18 +24,18 @@ impl<D: Disk> Log<D> {
     /// spent: which of the two a crash leaves is in doubt, and it takes no more seals.
     pub fn seal(&mut self, alloc: Global, item: &Record) -> Result<(), SealFault>
         requires settled { IsSettled D.told D.size self.old }
-        requires item { IsRecord One item.now }
-        requires room { self.old.end + (2 + length (record_bytes One item.now)) ≤ MAX_LEN }
-        ensures story { Tells (D.told self.old.disk) (λ h. Changes (mount_of h.now.seen) (with_record item.now (mount_of h.now.seen)) 2 result h (D.told self.new.disk)) }
-        ensures calls { OnOk result (D.told self.new.disk ≡ went (seal_calls self.old.end item.now) (D.told self.old.disk)) }
+        requires item { IsRecord (version_of self.old.header) item.now }
+        requires room { self.old.end + (2 + length (record_bytes (version_of self.old.header) item.now)) ≤ MAX_LEN }
+        ensures story { Follows (λ h s. Changes (mount_of h.now.seen) (with_record item.now (mount_of h.now.seen)) 2 result h s) (D.told self.old.disk) (D.told self.new.disk) }
+        ensures calls { Follows (Made (as_disk result) (seal_writes (version_of self.old.header) self.old.end item.now)) (D.told self.old.disk) (D.told self.new.disk) }
         ensures settled { OnOk result (IsSettled D.told D.size self.new) }
         ensures goes_on { IsErrOf result SealFault.Memory → IsSettled D.told D.size self.new }
         ensures spent { IsErrOf result SealFault.Disk → self.new.spent ≡ true }
-        ensures grown { OnOk result ((self.new.records ≡ self.old.records + 1) × (self.new.end ≡ self.old.end + (1 + length (record_bytes One item.now)))) }
+        ensures grown { OnOk result ((self.new.records ≡ self.old.records + 1) × (self.new.end ≡ self.old.end + (1 + length (record_bytes (version_of self.old.header) item.now)))) }
         ensures same { OnErr result ((self.new.records ≡ self.old.records) × (self.new.end ≡ self.old.end)) }
-        ensures header { self.new.header ≡ self.old.header }
-        ensures silent { D.told self.old.disk ≡ None → D.told self.new.disk ≡ None }
+        ensures head { (self.new.header ≡ self.old.header) × (self.new.base ≡ self.old.base) }
         ensures cause { HasLogCause (D.faults self.old.disk) (D.faults self.new.disk) result }
+        ensures fate { Follows (Suffers (as_disk result)) (D.fate self.old.disk) (D.fate self.new.disk) }
     {
         let body = staged(alloc, item)?;
         match open_gate(&mut self.disk, self.end, &body) {

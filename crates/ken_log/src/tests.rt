@@ -267,6 +267,13 @@ fn a_disk_without_a_log_is_formatted(rt: HostRuntime) -> Result<(), Fail> {
     Ok(())
 }
 
+// The laws do nothing: what they say is their contracts.
+#[test]
+fn laws_return(_rt: HostRuntime) {
+    mounting();
+    counting::<MemDisk>();
+}
+
 #[test]
 fn a_cut_format_is_made_again(rt: HostRuntime) -> Result<(), Fail> {
     for call in 1..5 {

@@ -1,12 +1,12 @@
-use Rattle.std.proofs.Common.{ap, sym, Some, arith}
+use Rattle.std.proofs.Common.{refl, ap, ◌∙◌, Some, arith}
 use Rattle.ken_disk.specs.Story.{Story}
-use Rattle.ken_log.proofs.Restarts.{mounted_anew}
-use Rattle.ken_bench.specs.Logs.{told, size}
+use Rattle.ken_memdisk.specs.declared.mem_disk.MemDisk.{MemDisk}
 use Rattle.ken_bench.proofs.work.work.Goals as goal
 
 pub returns : goal.returns
 returns c =
-    let here = ap told (sym c.release.ensures) in
-    let there = ap (λ (h : Story). Some h) c.in_ok-log-3.ensures.story in
-    let same = mounted_anew told size c.in_ok-log-2.field-0.log c.in_ok-log-3.log c.in_ok-log-2.ensures.settled c.in_ok-log-3.ensures.settled c.release.result.held.story here there in
-    omega (arith, same, c.records-2.ensures, c.in_ok-log-2.ensures.kept.1, c.in_ok-log.ensures.none)
+    let old = c.in_ok-log-4.field-0.log.disk.held.story in
+    let there = c.in_ok-log-5.ensures.story ∙ ap (λ (d : MemDisk). d.held.story) c.release.ensures in
+    let same = c.counting.ensures.anew c.in_ok-log-4.field-0.log c.in_ok-log-5.log _ (c.counting.ensures.settled c.in_ok-log-4.field-0.log c.in_ok-log-4.ensures.settled old refl)
+    (c.counting.ensures.settled c.in_ok-log-5.log c.in_ok-log-5.ensures.settled old (ap (λ (h : Story). Some h) there)) in
+    omega (arith, same, c.records-2.ensures, c.in_ok-log-4.ensures.kept.1, c.in_ok-log-3.ensures.none)

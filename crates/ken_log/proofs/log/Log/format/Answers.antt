@@ -1,34 +1,48 @@
-use Rattle.std.proofs.Common.{◌≡◌, ◌∙◌, [], ◌∷◌, length, refl, ap, arith, length-append}
+use Rattle.std.proofs.Common.{◌∙◌, [], ◌∷◌, ◌++◌, length, refl, ap, arith, length-append, None, Ok, Err}
+use Rattle.ken_disk.specs.declared.faults.DiskFault.TheVariants.{Memory}
 use Rattle.ken_record.specs.Spelling.{header_bytes}
 use Rattle.ken_record.proofs.Sizes.{header_long}
-use Rattle.ken_log.specs.declared.faults.SealFault.TheVariants as seals
-use Rattle.ken_log.specs.Seals.{as_fault}
-use Rattle.ken_log.proofs.Sealed.{nothing_done}
-use Rattle.ken_log.proofs.Formatted.{format_settled, format_rests}
+use Rattle.ken_log.proofs.Formatted.{begun_none, begun_replaces, begun_calls, begun_settled, begun_rests, begun_faults}
 use Rattle.ken_log.proofs.log.Log.format.Goals as goal
 
 pub returns-in-Err-clause-story : goal.returns-in-Err-clause-story
-returns-in-Err-clause-story g c = λ h told.
-    let b = c.requires.blank h told in
-    nothing_done _ _ 3 h _ told b.rests b.blank
+returns-in-Err-clause-story g c =
+    begun_replaces c.args.header.now None (header_bytes c.args.header.now ++ 0 ∷ []) c.requires refl (Err Memory) _ _ (begun_none c.args.header.now None (header_bytes c.args.header.now ++ 0 ∷ []) c.requires refl (Unit {0}) _ _ refl)
+
+pub returns-in-Err-clause-calls : goal.returns-in-Err-clause-calls
+returns-in-Err-clause-calls g c =
+    begun_none c.args.header.now None (header_bytes c.args.header.now ++ 0 ∷ []) c.requires refl (Unit {0}) _ _ refl
 
 pub returns-in-Err-clause-rests : goal.returns-in-Err-clause-rests
-returns-in-Err-clause-rests g c = λ _ h told. (c.requires.blank h told).rests
+returns-in-Err-clause-rests g c = λ _.
+    begun_rests c.args.header.now None (header_bytes c.args.header.now ++ 0 ∷ []) c.requires refl (Unit {0}) _ _ (begun_none c.args.header.now None (header_bytes c.args.header.now ++ 0 ∷ []) c.requires refl (Unit {0}) _ _ refl)
 
-pub make-requires : goal.make-requires
-make-requires g c =
+pub begin-requires : goal.begin-requires
+begin-requires g c =
     let long = ap length (c.deref.ensures.value ∙ c.in-Ok.ensures) in
     omega (arith, long, length-append (header_bytes c.args.header.now) (0 ∷ []), header_long c.args.header.now)
 
-pub returns-in-Ok-make-clause-settled : goal.returns-in-Ok-make-clause-settled
-returns-in-Ok-make-clause-settled g c =
-    format_settled {T = Unit {0}} g.D.Disk.told g.D.Disk.size c.args.disk _ c.in-Ok-make.field-0
-    (λ h told. c.in-Ok-make.ensures.story h told c.args.header.now c.requires.header (c.deref.ensures.value ∙ c.in-Ok.ensures) (c.requires.blank h told))
-    c.make.ensures.silent c.requires.header refl refl refl c.in-Ok-make.ensures.size
+pub returns-in-Ok-begin-clause-story : goal.returns-in-Ok-begin-clause-story
+returns-in-Ok-begin-clause-story g c =
+    begun_replaces c.args.header.now None c.deref.result.now c.requires (c.deref.ensures.value ∙ c.in-Ok.ensures) (Ok _) _ _ c.in-Ok-begin.ensures.calls
+
+pub returns-in-Ok-begin-clause-calls : goal.returns-in-Ok-begin-clause-calls
+returns-in-Ok-begin-clause-calls g c =
+    begun_calls c.args.header.now None c.deref.result.now c.requires (c.deref.ensures.value ∙ c.in-Ok.ensures) {T = Unit {0}} (Ok tt) _ _ c.in-Ok-begin.ensures.calls
+
+pub returns-in-Ok-begin-clause-settled : goal.returns-in-Ok-begin-clause-settled
+returns-in-Ok-begin-clause-settled g c =
+    let none = (c.requires.fits.first c.requires.has).1 in
+    begun_settled c.args.header.now None c.deref.result.now c.requires (c.deref.ensures.value ∙ c.in-Ok.ensures) g.D.Disk.told g.D.Disk.size _ _ c.in-Ok-begin.field-0 c.in-Ok-begin.ensures.calls refl refl refl refl (omega (arith, none)) c.in-Ok-begin.ensures.size
+
+pub returns-clause-story : goal.returns-clause-story
+returns-clause-story g c =
+    (begun_faults c.args.header.now None c.deref.result.now c.requires (c.deref.ensures.value ∙ c.in-Ok.ensures) (Unit {0}) _ c.in-Err-begin.fault c.from.result _ _ c.from.ensures c.in-Err-begin.ensures.calls).0
+
+pub returns-clause-calls : goal.returns-clause-calls
+returns-clause-calls g c =
+    (begun_faults c.args.header.now None c.deref.result.now c.requires (c.deref.ensures.value ∙ c.in-Ok.ensures) (Unit {0}) _ c.in-Err-begin.fault c.from.result _ _ c.from.ensures c.in-Err-begin.ensures.calls).1
 
 pub returns-clause-rests : goal.returns-clause-rests
 returns-clause-rests g c = λ is.
-    let e : as_fault c.in-Err-make.fault ≡ seals.Memory = cc (is, c.from.ensures) in
-    format_rests {T = Unit {0}} g.D.Disk.told c.args.disk c.make.new.disk c.args.header.now c.in-Err-make.fault
-    (λ h told. c.in-Err-make.ensures.story h told c.args.header.now c.requires.header (c.deref.ensures.value ∙ c.in-Ok.ensures) (c.requires.blank h told))
-    c.make.ensures.silent e
+    (begun_faults c.args.header.now None c.deref.result.now c.requires (c.deref.ensures.value ∙ c.in-Ok.ensures) (Unit {0}) (Unit {0}) c.in-Err-begin.fault c.from.result _ _ c.from.ensures c.in-Err-begin.ensures.calls).2 (cc is)
