@@ -26,3 +26,4 @@ pub mod Ending
 pub mod Report
 pub mod Spelling
 pub mod Laws
+pub mod Reactions

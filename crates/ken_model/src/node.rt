@@ -142,7 +142,7 @@ impl Node {
 }
 
 /// Changes the blocks of a heap. After an error nothing has changed.
-fn change(value: &mut Value, blocks: BlockChange) -> Result<(), AllocError>
+pub(crate) fn change(value: &mut Value, blocks: BlockChange) -> Result<(), AllocError>
     ensures ok { OnOk result (value.new ≡ record value.old { blocks = changed blocks value.old.blocks }) }
     ensures err { OnErr result (value.new ≡ value.old) }
 {
