@@ -12,9 +12,6 @@ ghost use Rattle.ken_model.specs.Reading.{value_of};
 ghost use Rattle.ken_alloc.specs.Objects.{IsBlock, with_zeros, rewritten};
 ghost use Rattle.ken_alloc.specs.Changes.{after_alloc, after_free};
 
-#[cfg(test)]
-mod tests;
-
 use crate::walk::{self, Found};
 use crate::{Broken, adopt, carve, copy, format, head};
 use byteorder::{BigEndian, ByteOrder};

@@ -9,7 +9,5 @@ mod pairs;
 mod ring;
 mod share;
 mod tally;
-#[cfg(test)]
-mod tests;
 
 pub use kind_app::KindApp;

@@ -5,8 +5,6 @@ mod answers;
 mod counter;
 mod laws;
 mod limit;
-#[cfg(test)]
-mod tests;
 
 pub use counter::Counter;
 pub use laws::{counter_agreement_is_legal, limit_is_kept};

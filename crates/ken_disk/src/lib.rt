@@ -4,8 +4,6 @@
 mod disk;
 mod faults;
 mod laws;
-#[cfg(test)]
-mod tests;
 mod writes;
 
 pub use disk::{Disk, MAX_LEN};

@@ -9,8 +9,6 @@ mod mem_source;
 mod sinks;
 mod sources;
 mod standard;
-#[cfg(test)]
-mod tests;
 
 pub use faults::{Failed, ReadFault};
 pub use mem_sink::MemSink;

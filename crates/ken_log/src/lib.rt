@@ -9,8 +9,6 @@ mod log;
 mod mount;
 mod opening;
 mod seal;
-#[cfg(test)]
-mod tests;
 mod turnover;
 
 pub use faults::{LogFault, SealFault};

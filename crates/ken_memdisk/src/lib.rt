@@ -10,8 +10,6 @@ mod mem_disk;
 mod picks;
 mod platter;
 mod steps;
-#[cfg(test)]
-mod tests;
 
 pub use cut::Cut;
 pub use mem_disk::MemDisk;

@@ -21,8 +21,6 @@ mod reactions;
 mod reading;
 mod reports;
 mod states;
-#[cfg(test)]
-mod tests;
 mod values;
 
 pub use actors::Actors;

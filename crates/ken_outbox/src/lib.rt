@@ -5,7 +5,5 @@ mod copies;
 mod line;
 mod lines;
 mod outbox;
-#[cfg(test)]
-mod tests;
 
 pub use outbox::Outbox;

@@ -6,8 +6,6 @@ mod faults;
 mod front;
 mod laws;
 mod packet;
-#[cfg(test)]
-mod tests;
 
 pub use decoding::decode;
 pub use faults::PacketFault;

@@ -3,9 +3,6 @@ ghost use Rattle.std.specs.Prelude.{◌≡◌, ◌+◌, ◌*◌, ◌<◌, ◌≤
 ghost use Rattle.ken_frame.specs.Written.{written};
 ghost use Rattle.ken_pages.specs.Paged.{dirty_pages, frozen_pages, shared_pages};
 
-#[cfg(test)]
-mod tests;
-
 use crate::{frames, saved};
 use ken_frame::{FRAME, Frame};
 use std::alloc::{AllocError, Global};

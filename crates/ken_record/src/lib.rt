@@ -14,8 +14,6 @@ mod page;
 mod record;
 mod rising;
 mod sent;
-#[cfg(test)]
-mod tests;
 
 pub use base::{Base, SENDERS, decode_base};
 pub use due::Due;

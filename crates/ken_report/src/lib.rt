@@ -3,8 +3,6 @@
 
 mod faults;
 mod printing;
-#[cfg(test)]
-mod tests;
 mod words;
 
 pub use faults::ReportFault;

@@ -8,8 +8,6 @@ mod keys;
 mod laws;
 mod reading;
 mod scripts;
-#[cfg(test)]
-mod tests;
 
 pub use faults::ScriptFault;
 pub use laws::refusals_are_exact;

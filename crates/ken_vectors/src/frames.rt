@@ -1,0 +1,41 @@
+use ken_frame::{FRAME, Frame};
+use std::test::Fail;
+
+#[test]
+fn a_new_frame_is_256_zeros(rt: HostRuntime) -> Result<(), Fail> {
+    let frame = Frame::zeroed(rt.alloc())?;
+    assert_eq!(rt; frame.as_slice(), [0u8; FRAME].as_slice());
+    Ok(())
+}
+
+#[test]
+fn bytes_are_read_where_they_were_written(rt: HostRuntime) -> Result<(), Fail> {
+    let mut frame = Frame::zeroed(rt.alloc())?;
+    frame.write(254, &[1, 2]);
+    frame.write(0, &[3]);
+    frame.write(256, &[]);
+    let mut front = [9u8; 2];
+    frame.read(0, &mut front);
+    assert_eq!(rt; front, [3, 0]);
+    let mut end = [9u8; 3];
+    frame.read(253, &mut end);
+    assert_eq!(rt; end, [0, 1, 2]);
+    frame.read(256, &mut []);
+    Ok(())
+}
+
+#[test]
+fn a_copy_has_the_bytes_and_stays(rt: HostRuntime) -> Result<(), Fail> {
+    let alloc = rt.alloc();
+    let mut frame = Frame::zeroed(alloc)?;
+    frame.write(7, &[1, 2, 3]);
+    let mut copy = Frame::zeroed(alloc)?;
+    copy.write(200, &[5]);
+    copy.copy_from(&frame);
+    assert_eq!(rt; copy.as_slice(), frame.as_slice());
+    frame.write(7, &[4]);
+    let mut bytes = [0u8; 3];
+    copy.read(7, &mut bytes);
+    assert_eq!(rt; bytes, [1, 2, 3]);
+    Ok(())
+}
