@@ -6,7 +6,6 @@ ghost use Rattle.ken_model.specs.Network.{start};
 ghost use Rattle.ken_model.specs.Held.{playing_of};
 ghost use Rattle.ken_model.specs.Actors.{AreAlike, IsStep, IsCapped, HasNoMessage, HasWrongDraws};
 
-
 use crate::node::Node;
 use crate::{Done, Facts, Items, Step, StepFault, Value, network};
 use std::alloc::{AllocError, Global};

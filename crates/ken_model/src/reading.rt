@@ -5,7 +5,6 @@ ghost use Rattle.ken_model.specs.Layout.{StandsFor};
 ghost use Rattle.ken_model.specs.Reading.{read_value};
 ghost use Rattle.ken_model.specs.Checks.{HasHeader, block_in, with_blocks};
 
-
 use crate::{Block, CELLS, HEAD, Head, Items, MAX_PAGES, Octets, PAGE, Value, wrong_header};
 use byteorder::{BigEndian, ByteOrder};
 use std::alloc::{AllocError, Global};
