@@ -1,0 +1,4 @@
+pub mod Puts
+pub mod Counts
+pub mod Inboxes
+pub mod InboxLaws

@@ -1,0 +1,48 @@
+ghost use Rattle.std.specs.Prelude.{◌≡◌, ◌<◌, ◌∷◌, ◌++◌, [], ℕ, List, option_to_list};
+ghost use Rattle.ken_net.specs.Counts.{Counted};
+ghost use Rattle.ken_net.specs.Puts.{Put, MayPut};
+
+use crate::handed::Handed;
+use ken_model::Octets;
+
+/// One node's end of a network that links stand on. It may lose what is put, and takes no memory.
+pub trait Base {
+    /// The node whose end it is.
+    ghost node: { Self → ℕ };
+
+    /// How many nodes there are.
+    ghost nodes: { Self → ℕ };
+
+    /// How many takes have given `None`. An implementation may let the count stand at 2^64 - 1.
+    ghost nones: { Self → ℕ };
+
+    /// From the first state to the second exactly these were put, in order. Each may have been lost.
+    ghost put_between: { Self → Self → List Put → Type 0 };
+
+    /// From the first state to the second exactly these packets were given, in order.
+    ghost given_between: { Self → Self → List (List ℕ) → Type 0 };
+
+    /// Puts a packet for the node `to`.
+    fn push<H: Handed>(&mut self, to: u8, bytes: Octets)
+        requires to { to < nodes self.old }
+        requires may { MayPut (node self.old) to H.mails H.through bytes }
+        ensures end { (node self.new ≡ node self.old) × (nodes self.new ≡ nodes self.old) }
+        ensures put { put_between self.old self.new (record { to = to; bytes = bytes; mails = H.mails; through = H.through } ∷ []) }
+        ensures given { given_between self.old self.new [] }
+        ensures nones { nones self.new ≡ nones self.old };
+
+    /// Takes the next packet for this node. `None` comes only where the count of them has risen.
+    fn take(&mut self) -> Option<Octets>
+        ensures end { (node self.new ≡ node self.old) × (nodes self.new ≡ nodes self.old) }
+        ensures put { put_between self.old self.new [] }
+        ensures given { given_between self.old self.new (option_to_list result) }
+        ensures nones { Counted (nones self.old) (nones self.new) result };
+
+    ghost put_still: { (a : Self) → put_between a a [] };
+
+    ghost put_joins: { (a b c : Self) (ps qs : List Put) → put_between a b ps → put_between b c qs → put_between a c (ps ++ qs) };
+
+    ghost given_still: { (a : Self) → given_between a a [] };
+
+    ghost given_joins: { (a b c : Self) (ps qs : List (List ℕ)) → given_between a b ps → given_between b c qs → given_between a c (ps ++ qs) };
+}
