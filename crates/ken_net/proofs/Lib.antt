@@ -1,0 +1,4 @@
+pub mod Numbered
+pub mod Joins
+pub mod Turns
+pub mod Made

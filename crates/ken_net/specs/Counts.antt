@@ -1,10 +1,10 @@
 -- Counts of calls.
-use Rattle.std.specs.Prelude.{◌≡◌, ℕ, ◌+◌, ◌-◌, ◌^◌, ◌≤◌, ◌==◌, nat_lt, if◌then◌else◌, List, [], ◌∷◌, Option, Some, None}
+use Rattle.std.specs.Prelude.{◌≡◌, ℕ, ◌+◌, ◌-◌, ◌^◌, ◌≤◌, ◌==◌, min, if◌then◌else◌, List, [], ◌∷◌, Option, Some, None}
 use Rattle.ken_net.specs.Puts.{Put}
 
 -- a count rises by one, and stands still at its last value
 abbrev pub risen : ℕ → ℕ
-risen n = if nat_lt n (2 ^ 64 - 1) then n + 1 else n
+risen n = min (n + 1) (2 ^ 64 - 1)
 
 -- a count of takes that gave nothing, before and after one; one that stands at its last value counts as risen
 abbrev pub Counted : {T : Type 0} → ℕ → ℕ → Option T → Type 0

@@ -2,3 +2,8 @@ pub mod Puts
 pub mod Counts
 pub mod Inboxes
 pub mod InboxLaws
+pub mod Acts
+pub mod Copies
+pub mod Standings
+pub mod Went
+pub mod LinkLaws
