@@ -2,3 +2,5 @@ pub mod Numbered
 pub mod Joins
 pub mod Turns
 pub mod Made
+pub mod History
+pub mod Origins

@@ -16,15 +16,15 @@ later : {A : Type 0} (b : Bool) (x : A) (all front back : List A) → all ≡ fr
 later {A = A} true x all front back e = e
 later {A = A} false x all front back e = ap (λ (l : List A). x ∷ l) e
 
-now : {A : Type 0} (b : Bool) (x : A) (all front back : List A) → all ≡ front ++ back → cond b (x ∷ all) all ≡ cond b (x ∷ front) front ++ back
+pub now : {A : Type 0} (b : Bool) (x : A) (all front back : List A) → all ≡ front ++ back → cond b (x ∷ all) all ≡ cond b (x ∷ front) front ++ back
 now {A = A} true x all front back e = ap (λ (l : List A). x ∷ l) e
 now {A = A} false x all front back e = e
 
-still_append : (xs ys : List Kept) → still (xs ++ ys) ≡ still xs ++ still ys
+pub still_append : (xs ys : List Kept) → still (xs ++ ys) ≡ still xs ++ still ys
 still_append [] ys = refl
 still_append (k ∷ ks) ys = later (nat_le k.wait 1) (record k { wait = k.wait - 1 }) (still (ks ++ ys)) (still ks) (still ys) (still_append ks ys)
 
-due_append : (xs ys : List Kept) → due (xs ++ ys) ≡ due xs ++ due ys
+pub due_append : (xs ys : List Kept) → due (xs ++ ys) ≡ due xs ++ due ys
 due_append [] ys = refl
 due_append (k ∷ ks) ys = now (nat_le k.wait 1) k.bytes (due (ks ++ ys)) (due ks) (due ys) (due_append ks ys)
 

@@ -7,3 +7,5 @@ pub mod Copies
 pub mod Standings
 pub mod Went
 pub mod LinkLaws
+pub mod History
+pub mod Origins

@@ -1,7 +1,8 @@
-ghost use Rattle.std.specs.Prelude.{◌≡◌, ◌<◌, ℕ, [], length, slice_set, IfOk, OnOk, OnErr};
-ghost use Rattle.ken_net.specs.Acts.{act_of, WantsMemory};
+ghost use Rattle.std.specs.Prelude.{◌≡◌, ◌<◌, length, slice_set, IfOk, OnOk, OnErr};
+ghost use Rattle.ken_net.specs.Acts.{WantsMemory};
+ghost use Rattle.ken_net.specs.History.{AreNew};
 ghost use Rattle.ken_net.specs.Puts.{MayPut};
-ghost use Rattle.ken_net.specs.Standings.{link_to, act_at, next_act, after_put, passed};
+ghost use Rattle.ken_net.specs.Standings.{link_to, next_act, after_put, passed};
 ghost use Rattle.ken_net.specs.Went.{Went, handing};
 
 use crate::act::LinkAct;
@@ -35,10 +36,7 @@ impl Links {
     /// The links from a node to so many, of which nothing was put yet. Of several acts for one put the first on the list
     /// counts.
     pub fn new(alloc: Global, from: u8, nodes: u8, acts: &[LinkAct]) -> Result<Self, AllocError>
-        ensures from { IfOk result (λ l. l.from ≡ from) }
-        ensures nodes { IfOk result (λ l. length l.links ≡ nodes) }
-        ensures acts { IfOk result (λ l. (to n : ℕ) → to < nodes → act_at n (link_to to l.links) ≡ act_of acts.now from to n) }
-        ensures fresh { IfOk result (λ l. (to : ℕ) → ((link_to to l.links).puts ≡ 0) × ((link_to to l.links).kept ≡ [])) }
+        ensures { IfOk result (λ l. AreNew from nodes acts.now l) }
     {
         let mut links = Vec::new(alloc);
         for to in 0..nodes {
