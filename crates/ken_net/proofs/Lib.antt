@@ -4,3 +4,4 @@ pub mod Turns
 pub mod Made
 pub mod History
 pub mod Origins
+pub mod MayPut

@@ -48,7 +48,7 @@ both : (a b : Bool) → a ≡ true → b ≡ true → a && b ≡ true
 both true b e f = f
 both false b e f = absurd cc
 
-may_between : {from to : ℕ} {mails : List Message} {through : List (ℕ × ℕ)} {bytes : List ℕ} → MayPut from to mails through bytes → is_between from to (packet_of bytes) ≡ true
+may_between : {from to : ℕ} {sealed : List Message} {consumed : List (ℕ × ℕ)} {bytes : List ℕ} → MayPut from to sealed consumed bytes → is_between from to (packet_of bytes) ≡ true
 may_between {from = from} {to = to} may = rw may.is (both (sender may.packet == from) (receiver may.packet == to) (eq-eqb (sender may.packet) from may.of_node) (eq-eqb (receiver may.packet) to may.for_node))
 
 held_between : (from to : ℕ) (act : Option Act) (bytes : List ℕ) → is_between from to (packet_of bytes) ≡ true → are_between from to (held act bytes) ≡ true
@@ -57,6 +57,6 @@ held_between from to (Some Lose) bytes e = refl
 held_between from to (Some Repeat) bytes e = refl
 held_between from to (Some (Hold k)) bytes e = both (is_between from to (packet_of bytes)) true e refl
 
-pub keeps : {from to : ℕ} {mails : List Message} {through : List (ℕ × ℕ)} {bytes : List ℕ} → (act : Option Act) (kept : List Kept) → MayPut from to mails through bytes
+pub keeps : {from to : ℕ} {sealed : List Message} {consumed : List (ℕ × ℕ)} {bytes : List ℕ} → (act : Option Act) (kept : List Kept) → MayPut from to sealed consumed bytes
     → are_between from to kept ≡ true → are_between from to (kept ++ held act bytes) ≡ true
 keeps {from = from} {to = to} {bytes = bytes} act kept may own = between_append from to kept (held act bytes) own (held_between from to act bytes (may_between may))

@@ -1,11 +1,11 @@
 -- Inboxes: the packets for each node, oldest first.
 use Rattle.std.specs.Prelude.{◌≡◌, ◌≢◌, ℕ, nat_lt, if◌then◌else◌, List, [], ◌∷◌, ◌++◌, length, slice_index_or, slice_set}
-use Rattle.ken_net.specs.declared.inbox.TheConstants.{INBOX}
+use Rattle.ken_net.specs.declared.inbox.TheConstants.{MAX_INBOX}
 use Rattle.ken_net.specs.Puts.{Put}
 
 -- a packet goes behind the others of its inbox, and is lost where that is full
 abbrev pub filed : List ℕ → List (List ℕ) → List (List ℕ)
-filed packet inbox = if nat_lt (length inbox) INBOX then inbox ++ packet ∷ [] else inbox
+filed packet inbox = if nat_lt (length inbox) MAX_INBOX then inbox ++ packet ∷ [] else inbox
 
 -- each packet goes to the inbox of its node, in order
 abbrev pub all_filed : List Put → List (List (List ℕ)) → List (List (List ℕ))

@@ -1,5 +1,5 @@
 -- What is put on links one after the other is put on them in one, and their counts are of what was put.
-use Rattle.std.proofs.Common.{◌≡◌, ◌∙◌, ℕ, ◌<◌, Bool, true, false, cond, ◌==◌, List, [], ◌∷◌, ◌++◌, length, slice_set, refl, sym, ap, subst, append_assoc, arith}
+use Rattle.std.proofs.Common.{◌≡◌, ◌∙◌, ℕ, ◌<◌, Bool, true, false, cond, ◌==◌, List, [], ◌∷◌, ◌++◌, length, slice_set, refl, sym, ap, subst, append_assoc}
 use Rattle.std.proofs.lemmas.Bool.{eqb-true, eqb-false}
 use Rattle.std.proofs.lemmas.List.{get_or-set_other, length-set}
 use Rattle.std.proofs.lemmas.Grind.{get_or-set_at}
@@ -44,7 +44,7 @@ count_one : (v : ℕ) (p : Put) (links : List Standing) → v < length links →
     → (link_to v (one p links)).puts ≡ cond b (risen (link_to v links).puts) (link_to v links).puts
 count_one v p links low true e =
     let same : p.to ≡ v = eqb-true p.to v e in
-    let there : p.to < length links = omega (arith, same, low) in
+    let there : p.to < length links = subst (λ (u : ℕ). u < length links) (sym same) low in
     ap (λ (s : Standing). s.puts) (get_or-set_at links p.to v (after_put p (link_to p.to links)) no_link (sym same) there)
     ∙ ap (λ (u : ℕ). risen (link_to u links).puts) same
 count_one v p links low false e =
@@ -53,7 +53,7 @@ count_one v p links low false e =
 counts : (v : ℕ) (ps : List Put) (links : List Standing) → v < length links → (link_to v (after_puts ps links)).puts ≡ put_to v ps (link_to v links).puts
 counts v [] links low = refl
 counts v (p ∷ ps) links low =
-    counts v ps (one p links) (omega (arith, low, length-set links p.to (after_put p (link_to p.to links))))
+    counts v ps (one p links) (subst (λ (n : ℕ). v < n) (sym (length-set links p.to (after_put p (link_to p.to links)))) low)
     ∙ ap (put_to v ps) (count_one v p links low (p.to == v) refl)
 
 pub counted : (l m : Leaving) (ps : List Put) (v : ℕ) → m ≡ record l { links = after_puts ps l.links } → v < length l.links → (link_to v m.links).puts ≡ put_to v ps (link_to v l.links).puts

@@ -1,6 +1,5 @@
 -- What puts make of a base.
 use Rattle.std.specs.Prelude.{◌≡◌, ℕ, List, []}
-use Rattle.ken_model.specs.declared.messages.Message.{Message}
 use Rattle.ken_net.specs.Puts.{Put}
 
 -- from one state to another exactly these were put, nothing was given, and no take gave nothing
@@ -10,7 +9,3 @@ pub record Went {S : Type 0} (node nodes nones : S → ℕ) (put_between : S →
   pub nones_is : nones new ≡ nones old
   pub put : put_between old new puts
   pub gave : given_between old new []
-
--- bytes that are put for a node, and what is handed in with them
-abbrev pub handing : ℕ → List Message → List (ℕ × ℕ) → List ℕ → Put
-handing to mails through bytes = record { to = to; bytes = bytes; mails = mails; through = through }

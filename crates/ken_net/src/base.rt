@@ -1,6 +1,6 @@
 ghost use Rattle.std.specs.Prelude.{◌≡◌, ◌<◌, ◌∷◌, ◌++◌, [], ℕ, List, option_to_list};
 ghost use Rattle.ken_net.specs.Counts.{Counted};
-ghost use Rattle.ken_net.specs.Puts.{Put, MayPut};
+ghost use Rattle.ken_net.specs.Puts.{Put, MayPut, handing};
 
 use crate::handed::Handed;
 use ken_model::Octets;
@@ -22,12 +22,12 @@ pub trait Base {
     /// From the first state to the second exactly these packets were given, in order.
     ghost given_between: { Self → Self → List (List ℕ) → Type 0 };
 
-    /// Puts a packet for the node `to`.
+    /// Puts a packet for the node `to`, which is below the number of nodes.
     fn push<H: Handed>(&mut self, to: u8, bytes: Octets)
         requires to { to < nodes self.old }
-        requires may { MayPut (node self.old) to H.mails H.through bytes }
+        requires may { MayPut (node self.old) to H.sealed H.consumed bytes }
         ensures end { (node self.new ≡ node self.old) × (nodes self.new ≡ nodes self.old) }
-        ensures put { put_between self.old self.new (record { to = to; bytes = bytes; mails = H.mails; through = H.through } ∷ []) }
+        ensures put { put_between self.old self.new (handing to H.sealed H.consumed bytes ∷ []) }
         ensures given { given_between self.old self.new [] }
         ensures nones { nones self.new ≡ nones self.old };
 
@@ -38,10 +38,13 @@ pub trait Base {
         ensures given { given_between self.old self.new (option_to_list result) }
         ensures nones { Counted (nones self.old) (nones self.new) result };
 
+    /// Between a state and itself nothing was put.
     ghost put_still: { (a : Self) → put_between a a [] };
 
+    /// What was put up to a state, and from there on, was put in all.
     ghost put_joins: { (a b c : Self) (ps qs : List Put) → put_between a b ps → put_between b c qs → put_between a c (ps ++ qs) };
 
+    /// The same of what was given.
     ghost given_still: { (a : Self) → given_between a a [] };
 
     ghost given_joins: { (a b c : Self) (ps qs : List (List ℕ)) → given_between a b ps → given_between b c qs → given_between a c (ps ++ qs) };

@@ -6,14 +6,14 @@ use std::marker::Brand;
 /// What the node that puts a packet hands in with it. Contracts alone see it: a call picks it, or hands on its caller's.
 pub trait Handed {
     /// Messages that it has sealed.
-    ghost mails: { List Message };
+    ghost sealed: { List Message };
 
     /// Nodes, each with a number up to which it has consumed that node's messages.
-    ghost through: { List (ℕ × ℕ) };
+    ghost consumed: { List (ℕ × ℕ) };
 }
 
 impl Handed for Brand {
-    ghost mails = { [] };
+    ghost sealed = { [] };
 
-    ghost through = { [] };
+    ghost consumed = { [] };
 }

@@ -8,7 +8,7 @@ use std::collections::VecDeque;
 use std::marker::Model;
 
 /// How many packets an inbox holds at most.
-pub const INBOX: usize = 1024;
+pub const MAX_INBOX: usize = 1024;
 
 // There is room for all that it may hold.
 #[derive(Debug, Drop)]
@@ -19,13 +19,13 @@ pub(crate) struct Inbox {
 impl Model for Inbox {
     ghost use Rattle.std.specs.Prelude.{ℕ, List, ◌≤◌};
     ghost use Rattle.std.specs.VecDeque.{deque_capacity};
-    ghost use Rattle.ken_net.specs.declared.inbox.TheConstants.{INBOX};
+    ghost use Rattle.ken_net.specs.declared.inbox.TheConstants.{MAX_INBOX};
 
     ghost Value = { List (List ℕ) };
 
     ghost view = { λ i. i.packets.items };
 
-    ghost invariant = { λ i. INBOX ≤ deque_capacity i.packets };
+    ghost invariant = { λ i. MAX_INBOX ≤ deque_capacity i.packets };
 }
 
 impl Inbox {
@@ -33,7 +33,7 @@ impl Inbox {
         ensures { IfOk result (λ inbox. inbox ≡ []) }
     {
         Ok(Inbox {
-            packets: VecDeque::with_capacity(alloc, INBOX)?,
+            packets: VecDeque::with_capacity(alloc, MAX_INBOX)?,
         })
     }
 
@@ -41,7 +41,7 @@ impl Inbox {
     pub(crate) fn push(&mut self, bytes: Octets)
         ensures { self.new ≡ filed bytes self.old }
     {
-        if self.packets.len() < INBOX {
+        if self.packets.len() < MAX_INBOX {
             self.packets.push_back_reserved(bytes);
         }
     }

@@ -1,12 +1,23 @@
-// Laws of links, which no single call shows.
-ghost use Rattle.std.specs.Prelude.{◌≡◌, ◌<◌, ◌++◌, ◌^◌, ℕ, List, length};
+// Laws of packets and links, which no single call shows.
+ghost use Rattle.std.specs.Prelude.{◌≡◌, ◌<◌, ◌≤◌, ◌++◌, ◌^◌, ℕ, true, List, length};
 ghost use Rattle.std.specs.List.{Contains};
+ghost use Rattle.ken_model.specs.declared.messages.Message.{Message};
+ghost use Rattle.ken_packet.specs.Packets.{IsMail, IsAck, mail_bytes, ack_bytes};
+ghost use Rattle.ken_packet.specs.Reading.{packet_of};
 ghost use Rattle.ken_net.specs.declared.act.LinkAct.{LinkAct};
 ghost use Rattle.ken_net.specs.Acts.{act_of};
-ghost use Rattle.ken_net.specs.Puts.{Put};
+ghost use Rattle.ken_net.specs.Puts.{Put, MayPut, is_between, own_sealed, own_consumed};
 ghost use Rattle.ken_net.specs.Standings.{Standing, Leaving, after_puts, all_passed};
 ghost use Rattle.ken_net.specs.Origins.{ComesFrom, IsKept, WasThere};
 ghost use Rattle.ken_net.specs.History.{AreNew, AreFor, passed_by};
+
+/// A message that is spelled as mail may be put where it is handed in, an acknowledgement where at least its number is
+/// handed in for its receiver, and a packet with its own mail or number alone.
+pub fn what_may_be_put()
+    ensures mail { (m : Message) (sealed : List Message) (consumed : List (ℕ × ℕ)) → IsMail m → Contains sealed m → MayPut m.from m.to sealed consumed (mail_bytes m) }
+    ensures ack { (from to n k : ℕ) (sealed : List Message) (consumed : List (ℕ × ℕ)) → IsAck from to n → Contains consumed (to, k) → n ≤ k → MayPut from to sealed consumed (ack_bytes from to n) }
+    ensures alone { (from to : ℕ) (bytes : List ℕ) → is_between from to (packet_of bytes) ≡ true → MayPut from to (own_sealed (packet_of bytes)) (own_consumed (packet_of bytes)) bytes }
+{}
 
 /// Links from a node that were new pass on what the numbers of the puts say: at each put first what its own act says, and
 /// then each packet that is held until this put. It doesn't matter how the puts are spread over networks.

@@ -4,9 +4,9 @@ ghost use Rattle.std.specs.Ordering.{nat_cmp};
 ghost use Rattle.std.specs.BTreeMap.{get};
 ghost use Rattle.ken_net.specs.Acts.{act_of, copies, held, WantsMemory};
 ghost use Rattle.ken_net.specs.Copies.{copies_of};
-ghost use Rattle.ken_net.specs.Puts.{MayPut};
+ghost use Rattle.ken_net.specs.Puts.{MayPut, handing};
 ghost use Rattle.ken_net.specs.Standings.{act_at, next_act, admitted, after_put, passed, are_between};
-ghost use Rattle.ken_net.specs.Went.{Went, handing};
+ghost use Rattle.ken_net.specs.Went.{Went};
 
 use crate::act::{Act, LinkAct};
 use crate::base::Base;
@@ -82,10 +82,10 @@ impl Link {
         bytes: Octets,
     ) -> Result<(), AllocError>
         requires to { to < B.nodes base.old }
-        requires may { MayPut (B.node base.old) to H.mails H.through bytes }
+        requires may { MayPut (B.node base.old) to H.sealed H.consumed bytes }
         requires own { are_between (B.node base.old) to self.old.kept ≡ true }
-        ensures ok { OnOk result (self.new ≡ after_put (handing to H.mails H.through bytes) self.old) }
-        ensures passed { OnOk result (Went B.node B.nodes B.nones B.put_between B.given_between base.old base.new (passed (handing to H.mails H.through bytes) self.old)) }
+        ensures ok { OnOk result (self.new ≡ after_put (handing to H.sealed H.consumed bytes) self.old) }
+        ensures passed { OnOk result (Went B.node B.nodes B.nones B.put_between B.given_between base.old base.new (passed (handing to H.sealed H.consumed bytes) self.old)) }
         ensures own { are_between (B.node base.old) to self.new.kept ≡ true }
         ensures err { OnErr result ((self.new ≡ self.old) × (base.new ≡ base.old)) }
         ensures memory { OnErr result (WantsMemory (next_act self.old)) }

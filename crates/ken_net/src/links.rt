@@ -1,9 +1,9 @@
 ghost use Rattle.std.specs.Prelude.{◌≡◌, ◌<◌, length, slice_set, IfOk, OnOk, OnErr};
 ghost use Rattle.ken_net.specs.Acts.{WantsMemory};
 ghost use Rattle.ken_net.specs.History.{AreNew};
-ghost use Rattle.ken_net.specs.Puts.{MayPut};
+ghost use Rattle.ken_net.specs.Puts.{MayPut, handing};
 ghost use Rattle.ken_net.specs.Standings.{link_to, next_act, after_put, passed};
-ghost use Rattle.ken_net.specs.Went.{Went, handing};
+ghost use Rattle.ken_net.specs.Went.{Went};
 
 use crate::act::LinkAct;
 use crate::base::Base;
@@ -55,9 +55,9 @@ impl Links {
         requires of { B.node base.old ≡ self.old.from }
         requires to { to < B.nodes base.old }
         requires link { to < length self.old.links }
-        requires may { MayPut self.old.from to H.mails H.through bytes }
-        ensures ok { OnOk result (self.new ≡ record self.old { links = slice_set self.old.links to (after_put (handing to H.mails H.through bytes) (link_to to self.old.links)) }) }
-        ensures passed { OnOk result (Went B.node B.nodes B.nones B.put_between B.given_between base.old base.new (passed (handing to H.mails H.through bytes) (link_to to self.old.links))) }
+        requires may { MayPut self.old.from to H.sealed H.consumed bytes }
+        ensures ok { OnOk result (self.new ≡ record self.old { links = slice_set self.old.links to (after_put (handing to H.sealed H.consumed bytes) (link_to to self.old.links)) }) }
+        ensures passed { OnOk result (Went B.node B.nodes B.nones B.put_between B.given_between base.old base.new (passed (handing to H.sealed H.consumed bytes) (link_to to self.old.links))) }
         ensures err { OnErr result ((self.new ≡ self.old) × (base.new ≡ base.old)) }
         ensures memory { OnErr result (WantsMemory (next_act (link_to to self.old.links))) }
     {

@@ -3,9 +3,9 @@ ghost use Rattle.std.specs.Prelude.{◌≡◌, ◌<◌, ◌∷◌, ◌++◌, [],
 ghost use Rattle.std.specs.List.{AllByRecursion};
 ghost use Rattle.ken_packet.specs.Reading.{packet_of};
 ghost use Rattle.ken_net.specs.Copies.{copies_of};
-ghost use Rattle.ken_net.specs.Puts.{MayPut, is_between, alone};
+ghost use Rattle.ken_net.specs.Puts.{MayPut, is_between, alone, handing};
 ghost use Rattle.ken_net.specs.Standings.{due, still, are_between};
-ghost use Rattle.ken_net.specs.Went.{Went, handing};
+ghost use Rattle.ken_net.specs.Went.{Went};
 
 use crate::base::Base;
 use crate::copies::Copies;
@@ -17,8 +17,8 @@ use std::marker::Brand;
 
 fn pass_one<B: Base, H: Handed>(base: &mut B, to: u8, bytes: Octets)
     requires to { to < B.nodes base.old }
-    requires may { MayPut (B.node base.old) to H.mails H.through bytes }
-    ensures { Went B.node B.nodes B.nones B.put_between B.given_between base.old base.new (handing to H.mails H.through bytes ∷ []) }
+    requires may { MayPut (B.node base.old) to H.sealed H.consumed bytes }
+    ensures { Went B.node B.nodes B.nones B.put_between B.given_between base.old base.new (handing to H.sealed H.consumed bytes ∷ []) }
 {
     base.push::<H>(to, bytes);
 }
@@ -26,8 +26,8 @@ fn pass_one<B: Base, H: Handed>(base: &mut B, to: u8, bytes: Octets)
 // Passes the copies of a packet on, with what was handed in with it.
 pub(crate) fn pass<B: Base, H: Handed>(base: &mut B, to: u8, copies: Copies)
     requires to { to < B.nodes base.old }
-    requires may { AllByRecursion (MayPut (B.node base.old) to H.mails H.through) (copies_of copies) }
-    ensures { Went B.node B.nodes B.nones B.put_between B.given_between base.old base.new (map (handing to H.mails H.through) (copies_of copies)) }
+    requires may { AllByRecursion (MayPut (B.node base.old) to H.sealed H.consumed) (copies_of copies) }
+    ensures { Went B.node B.nodes B.nones B.put_between B.given_between base.old base.new (map (handing to H.sealed H.consumed) (copies_of copies)) }
 {
     match copies {
         Copies::Nothing => {}

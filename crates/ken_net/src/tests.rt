@@ -1,5 +1,5 @@
 ghost use Rattle.std.specs.Prelude.{◌≡◌, ◌<◌, ◌≤◌, ◌^◌, length, IfOk};
-ghost use Rattle.ken_packet.specs.Packets.{IsMail, mail_bytes};
+ghost use Rattle.ken_packet.specs.Packets.{IsMail};
 ghost use Rattle.ken_net.specs.Puts.{MayPut};
 
 use super::*;
@@ -60,7 +60,7 @@ fn message(alloc: Global, to: u8, number: u64) -> Result<Message, AllocError>
 
 fn put_as<N: Net, H: Handed>(net: &mut N, to: u8, bytes: Octets) -> Result<(), AllocError>
     requires to { to < N.nodes net.old }
-    requires may { MayPut (N.node net.old) to H.mails H.through bytes }
+    requires may { MayPut (N.node net.old) to H.sealed H.consumed bytes }
     ensures { (N.node net.new ≡ N.node net.old) × (N.nodes net.new ≡ N.nodes net.old) }
 {
     net.put::<H>(to, bytes)
@@ -194,6 +194,7 @@ fn ends_can_be_sent(rt: HostRuntime) -> Result<(), Fail> {
 
 #[test]
 fn the_laws_are_calls(_rt: HostRuntime) {
+    what_may_be_put();
     passing_is_by_number();
     nothing_is_invented();
 }

@@ -5,7 +5,7 @@ use Rattle.ken_packet.specs.declared.packet.Packet.{Packet}
 use Rattle.ken_packet.specs.declared.packet.Packet.TheVariants.{Mail}
 use Rattle.ken_packet.specs.Reading.{packet_of}
 use Rattle.ken_packet.proofs.Whole.{packet_again}
-use Rattle.ken_net.specs.Puts.{own_mails}
+use Rattle.ken_net.specs.Puts.{own_sealed}
 use Rattle.ken_net.proofs.tests.put.Goals as goal
 
 pub put_as-requires-clause-may : goal.put_as-requires-clause-may
@@ -18,5 +18,5 @@ put_as-requires-clause-may g c =
       is = read;
       of_node = made.1 ∙ sym c.requires.node;
       for_node = made.2;
-      handed = subst (λ (o : Option Packet). Contains (own_mails o) m) (sym read) (0, omega arith, refl);
+      handed = subst (λ (o : Option Packet). Contains (own_sealed o) m) (sym read) (0, omega arith, refl);
     }
