@@ -1,3 +1,4 @@
+pub mod Both
 pub mod Numbered
 pub mod Joins
 pub mod Turns
@@ -5,3 +6,4 @@ pub mod Made
 pub mod History
 pub mod Origins
 pub mod MayPut
+pub mod Honest

@@ -1,5 +1,5 @@
 -- Links that are made, and what is kept of a put.
-use Rattle.std.proofs.Common.{◌≡◌, ◌∙◌, ℕ, ◌+◌, ◌<◌, Bool, true, false, ◌&&◌, ◌==◌, zero, suc, List, [], ◌∷◌, ◌++◌, length, Option, Some, None, refl, sym, ap, subst, arith, below_more, eq-eqb}
+use Rattle.std.proofs.Common.{◌≡◌, ◌∙◌, ℕ, ◌+◌, ◌<◌, true, ◌==◌, zero, suc, List, [], ◌∷◌, ◌++◌, length, Option, Some, None, refl, sym, ap, subst, arith, below_more, eq-eqb}
 use Rattle.ken_model.specs.declared.messages.Message.{Message}
 use Rattle.ken_packet.specs.Packets.{sender}
 use Rattle.ken_packet.specs.Reading.{packet_of}
@@ -10,6 +10,7 @@ use Rattle.ken_net.specs.declared.link.Kept.{Kept}
 use Rattle.ken_net.specs.Acts.{act_of, held}
 use Rattle.ken_net.specs.Puts.{MayPut, receiver, is_between}
 use Rattle.ken_net.specs.Standings.{Standing, link_to, act_at, are_between}
+use Rattle.ken_net.proofs.Both.{both}
 use Rattle.ken_net.proofs.Turns.{between_append}
 
 -- ---- one link more
@@ -44,11 +45,7 @@ one_acts acts from links x k long here all v n low =
 
 -- ---- what is kept is of its link
 
-both : (a b : Bool) → a ≡ true → b ≡ true → a && b ≡ true
-both true b e f = f
-both false b e f = absurd cc
-
-may_between : {from to : ℕ} {sealed : List Message} {consumed : List (ℕ × ℕ)} {bytes : List ℕ} → MayPut from to sealed consumed bytes → is_between from to (packet_of bytes) ≡ true
+pub may_between : {from to : ℕ} {sealed : List Message} {consumed : List (ℕ × ℕ)} {bytes : List ℕ} → MayPut from to sealed consumed bytes → is_between from to (packet_of bytes) ≡ true
 may_between {from = from} {to = to} may = rw may.is (both (sender may.packet == from) (receiver may.packet == to) (eq-eqb (sender may.packet) from may.of_node) (eq-eqb (receiver may.packet) to may.for_node))
 
 held_between : (from to : ℕ) (act : Option Act) (bytes : List ℕ) → is_between from to (packet_of bytes) ≡ true → are_between from to (held act bytes) ≡ true

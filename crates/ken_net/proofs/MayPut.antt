@@ -1,5 +1,5 @@
 -- What may be put.
-use Rattle.std.proofs.Common.{◌≡◌, ℕ, ◌≤◌, Bool, true, false, ◌&&◌, ◌==◌, List, Option, Some, None, refl, arith}
+use Rattle.std.proofs.Common.{◌≡◌, ℕ, ◌≤◌, true, ◌==◌, List, Option, Some, None, refl, arith}
 use Rattle.std.specs.List.{Contains}
 use Rattle.std.proofs.lemmas.Bool.{eqb-true}
 use Rattle.ken_model.specs.declared.messages.Message.{Message}
@@ -8,6 +8,7 @@ use Rattle.ken_packet.specs.declared.packet.Packet.TheVariants.{Mail, Ack}
 use Rattle.ken_packet.specs.Packets.{IsMail, IsAck, sender, mail_bytes, ack_bytes}
 use Rattle.ken_packet.specs.Reading.{packet_of}
 use Rattle.ken_packet.proofs.Whole.{packet_again}
+use Rattle.ken_net.proofs.Both.{parts}
 use Rattle.ken_net.specs.Puts.{MayPut, IsHandedIn, receiver, is_between, own_sealed, own_consumed}
 
 pub mail_may : (m : Message) (sealed : List Message) (consumed : List (ℕ × ℕ)) → IsMail m → Contains sealed m → MayPut m.from m.to sealed consumed (mail_bytes m)
@@ -15,10 +16,6 @@ mail_may m sealed consumed is there = record { packet = Mail m; is = packet_agai
 
 pub ack_may : (from to n k : ℕ) (sealed : List Message) (consumed : List (ℕ × ℕ)) → IsAck from to n → Contains consumed (to, k) → n ≤ k → MayPut from to sealed consumed (ack_bytes from to n)
 ack_may from to n k sealed consumed is there most = record { packet = Ack from to n; is = packet_again (Ack from to n) is; of_node = refl; for_node = refl; handed = (k, there, most) }
-
-parts : (a b : Bool) → a && b ≡ true → (a ≡ true) × (b ≡ true)
-parts true b e = (refl, e)
-parts false b e = absurd cc
 
 itself : (p : Packet) → IsHandedIn (own_sealed (Some p)) (own_consumed (Some p)) p
 itself (Mail m) = (0, omega arith, refl)

@@ -16,17 +16,17 @@ use Rattle.ken_net.specs.Origins.{WasPut, IsKept, WasThere, ComesFrom}
 none_in : {A : Type 0} (x : A) → Contains [] x → ⊥
 none_in x (k, low, is) = omega (arith, low)
 
-first_in : {A : Type 0} (x : A) (xs : List A) → Contains (x ∷ xs) x
+pub first_in : {A : Type 0} (x : A) (xs : List A) → Contains (x ∷ xs) x
 first_in x xs = (0, omega arith, refl)
 
-later_in : {A : Type 0} (x : A) (xs : List A) (y : A) → Contains xs y → Contains (x ∷ xs) y
+pub later_in : {A : Type 0} (x : A) (xs : List A) (y : A) → Contains xs y → Contains (x ∷ xs) y
 later_in x xs y there = Contains-append_right (x ∷ []) xs y there
 
 one_in : {A : Type 0} (x y : A) → Contains (x ∷ []) y → x ≡ y
 one_in x y (zero, low, is) = is
 one_in x y (suc k, low, is) = absurd (omega (arith, low))
 
-in_front : {A : Type 0} (x : A) (xs : List A) (y : A) → Contains (x ∷ xs) y → (x ≡ y) ⊎ Contains xs y
+pub in_front : {A : Type 0} (x : A) (xs : List A) (y : A) → Contains (x ∷ xs) y → (x ≡ y) ⊎ Contains xs y
 in_front x xs y (zero, low, is) = inl is
 in_front x xs y (suc k, low, is) = inr (k, omega (arith, low), is)
 

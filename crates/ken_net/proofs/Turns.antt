@@ -1,11 +1,12 @@
 -- The packets that are kept have their turns, the oldest first.
-use Rattle.std.proofs.Common.{◌≡◌, ◌∙◌, ℕ, ◌+◌, ◌-◌, ◌<◌, Bool, true, false, ◌&&◌, cond, nat_le, List, [], ◌∷◌, ◌++◌, length, get_or, take, drop, refl, sym, ap, subst, append_assoc}
+use Rattle.std.proofs.Common.{◌≡◌, ◌∙◌, ℕ, ◌+◌, ◌-◌, ◌<◌, Bool, true, false, cond, nat_le, List, [], ◌∷◌, ◌++◌, length, get_or, take, drop, refl, sym, ap, subst, append_assoc}
 use Rattle.std.specs.Prelude.{map}
 use Rattle.std.proofs.lemmas.List.{take_more, drop_more, take-append-drop, map-append}
 use Rattle.ken_packet.specs.Reading.{packet_of}
 use Rattle.ken_net.specs.declared.link.Kept.{Kept}
 use Rattle.ken_net.specs.Puts.{is_between, alone}
 use Rattle.ken_net.specs.Standings.{due, still, are_between}
+use Rattle.ken_net.proofs.Both.{parts, both}
 
 abbrev no_kept : Kept
 no_kept = record { wait = 0; bytes = [] }
@@ -29,14 +30,6 @@ due_append [] ys = refl
 due_append (k ∷ ks) ys = now (nat_le k.wait 1) k.bytes (due (ks ++ ys)) (due ks) (due ys) (due_append ks ys)
 
 -- ---- they stay packets of their link
-
-parts : (a b : Bool) → a && b ≡ true → (a ≡ true) × (b ≡ true)
-parts true b e = (refl, e)
-parts false b e = absurd cc
-
-both : (a b : Bool) → a ≡ true → b ≡ true → a && b ≡ true
-both true b e f = f
-both false b e f = absurd cc
 
 module _ (from to : ℕ) where
   pub between_append : (xs ys : List Kept) → are_between from to xs ≡ true → are_between from to ys ≡ true → are_between from to (xs ++ ys) ≡ true

@@ -42,6 +42,10 @@ pub record MayPut (from to : ℕ) (sealed : List Message) (consumed : List (ℕ 
   pub for_node : receiver packet ≡ to
   pub handed : IsHandedIn sealed consumed packet
 
+-- it may be put by that node, with what is handed in
+abbrev pub MayBe : ℕ → Put → Type 0
+MayBe from p = MayPut from p.to p.sealed p.consumed p.bytes
+
 -- whether that is a packet from one node to another
 abbrev pub is_between : ℕ → ℕ → Option Packet → Bool
 is_between from to (Some p) = (sender p == from) && (receiver p == to)

@@ -1,13 +1,13 @@
 // Laws of packets and links, which no single call shows.
 ghost use Rattle.std.specs.Prelude.{◌≡◌, ◌<◌, ◌≤◌, ◌++◌, ◌^◌, ℕ, true, List, length};
-ghost use Rattle.std.specs.List.{Contains};
+ghost use Rattle.std.specs.List.{All, Contains};
 ghost use Rattle.ken_model.specs.declared.messages.Message.{Message};
 ghost use Rattle.ken_packet.specs.Packets.{IsMail, IsAck, mail_bytes, ack_bytes};
 ghost use Rattle.ken_packet.specs.Reading.{packet_of};
 ghost use Rattle.ken_net.specs.declared.act.LinkAct.{LinkAct};
 ghost use Rattle.ken_net.specs.Acts.{act_of};
-ghost use Rattle.ken_net.specs.Puts.{Put, MayPut, is_between, own_sealed, own_consumed};
-ghost use Rattle.ken_net.specs.Standings.{Standing, Leaving, after_puts, all_passed};
+ghost use Rattle.ken_net.specs.Puts.{Put, MayPut, MayBe, is_between, own_sealed, own_consumed};
+ghost use Rattle.ken_net.specs.Standings.{Standing, Leaving, KeepsOwn, after_puts, all_passed};
 ghost use Rattle.ken_net.specs.Origins.{ComesFrom, IsKept, WasThere};
 ghost use Rattle.ken_net.specs.History.{AreNew, AreFor, passed_by};
 
@@ -27,8 +27,11 @@ pub fn passing_is_by_number()
 {}
 
 /// Whatever puts there are, each packet that is passed on was put for the node that it is passed on for, or was kept for
-/// it before, and so was each that is kept. What was kept hands in its own mail or number alone.
+/// it before, and so was each that is kept. What was kept hands in its own mail or number alone. Where each put may be put
+/// and what is kept is the node's own, so may and is it then.
 pub fn nothing_is_invented()
     ensures passed { (links : List Standing) (puts : List Put) (x : Put) → Contains (all_passed puts links) x → ComesFrom x puts links }
     ensures kept { (links : List Standing) (puts : List Put) (v : ℕ) (bytes : List ℕ) → IsKept v bytes (after_puts puts links) → WasThere v bytes puts links }
+    ensures may { (l : Leaving) (puts : List Put) (x : Put) → KeepsOwn l → All (MayBe l.from) puts → Contains (all_passed puts l.links) x → MayBe l.from x }
+    ensures own { (l : Leaving) (puts : List Put) → KeepsOwn l → All (MayBe l.from) puts → KeepsOwn (record l { links = after_puts puts l.links }) }
 {}

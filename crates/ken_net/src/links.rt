@@ -2,7 +2,7 @@ ghost use Rattle.std.specs.Prelude.{◌≡◌, ◌<◌, length, slice_set, IfOk,
 ghost use Rattle.ken_net.specs.Acts.{WantsMemory};
 ghost use Rattle.ken_net.specs.History.{AreNew};
 ghost use Rattle.ken_net.specs.Puts.{MayPut, handing};
-ghost use Rattle.ken_net.specs.Standings.{link_to, next_act, after_put, passed};
+ghost use Rattle.ken_net.specs.Standings.{KeepsOwn, link_to, next_act, after_put, passed};
 ghost use Rattle.ken_net.specs.Went.{Went};
 
 use crate::act::LinkAct;
@@ -43,6 +43,14 @@ impl Links {
             links.push(Link::new(alloc, from, to, acts)?)?;
         }
         Ok(Links { alloc, from, links })
+    }
+
+    /// The node whose links they are. What they keep is packets from it.
+    pub fn node(&self) -> u8
+        ensures node { result ≡ self.now.from }
+        ensures own { KeepsOwn self.now }
+    {
+        self.from
     }
 
     // Puts a packet on the link to a node. After an error nothing has changed, and nothing was passed on.
