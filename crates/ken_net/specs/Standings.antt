@@ -61,6 +61,7 @@ pub record Leaving : Type 0 where
   pub from : ℕ
   pub links : List Standing
 
+-- the link to a node; past them one of which nothing was put
 abbrev pub link_to : ℕ → List Standing → Standing
 link_to v links = slice_index_or links v no_link
 

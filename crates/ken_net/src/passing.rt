@@ -15,6 +15,7 @@ use ken_model::Octets;
 use std::collections::VecDeque;
 use std::marker::Brand;
 
+// Passes a packet on. A call of it may pick what is handed in, which one of a bound's method may not.
 fn pass_one<B: Base, H: Handed>(base: &mut B, to: u8, bytes: Octets)
     requires to { to < B.nodes base.old }
     requires may { MayPut (B.node base.old) to H.sealed H.consumed bytes }
