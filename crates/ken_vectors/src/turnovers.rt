@@ -4,7 +4,7 @@ ghost use Rattle.ken_disk.specs.Story.{IsAtRest};
 ghost use Rattle.ken_record.specs.Grammar.{IsBase, IsRecord};
 ghost use Rattle.ken_record.specs.Spelling.{base_bytes};
 ghost use Rattle.ken_record.specs.Versions.{One};
-ghost use Rattle.ken_log.specs.Settled.{IsSettled};
+ghost use Rattle.ken_vectors.specs.Logs.{TakesSeals};
 
 use ken_disk::{Disk, write_through};
 use ken_log::{Log, LogFault, SealFault};
@@ -100,18 +100,19 @@ fn base(alloc: Global) -> Result<Base, Fail>
 
 // A first log with so many records on this disk.
 fn sealed(alloc: Global, disk: MemDisk, count: u64) -> Result<Log<MemDisk>, Fail>
-    ensures { IfOk result (λ log. IsSettled ⟦<MemDisk as Disk>⟧.told ⟦<MemDisk as Disk>⟧.size log) }
+    ensures { IfOk result (λ log. TakesSeals log) }
 {
     lengths();
     let mut log = match Log::format(alloc, disk, &FIRST) {
         Ok(log) => log,
         Err(_) => return Err(Fail::from("there is no log")),
     };
-    for turn in 1..=count {
-        let item = record(alloc, turn)?;
-        if log.end() > MANY || log.seal(alloc, &item).is_err() {
-            return Err(Fail::from("a record is not sealed"));
+    for before in 0..count {
+        let item = record(alloc, before + 1)?;
+        if log.end() > MANY {
+            return Err(Fail::from("the log is too long"));
         }
+        log.seal(alloc, &item)?;
     }
     Ok(log)
 }
@@ -121,7 +122,7 @@ fn turn_over(
     log: &mut Log<MemDisk>,
     other: &mut MemDisk,
 ) -> Result<Result<(), SealFault>, Fail>
-    requires { IsSettled ⟦<MemDisk as Disk>⟧.told ⟦<MemDisk as Disk>⟧.size log.old }
+    requires { TakesSeals log.old }
 {
     let header = *log.header();
     if u64::from(header.generation) > MANY || header.turns > MANY || log.records() > MANY {
@@ -186,7 +187,7 @@ fn other_disk(alloc: Global, held: Held, call: u64, pick: u64) -> Result<MemDisk
         Held::Nothing => Ok(MemDisk::new(alloc, &[Cut { call, pick }])?),
         Held::Log => {
             let cut = Cut {
-                call: 10 + call,
+                call: call.saturating_add(10),
                 pick,
             };
             let disk = MemDisk::new(alloc, &[cut])?;
@@ -194,7 +195,7 @@ fn other_disk(alloc: Global, held: Held, call: u64, pick: u64) -> Result<MemDisk
         }
         Held::Torn => {
             let cut = Cut {
-                call: 2 + call,
+                call: call.saturating_add(2),
                 pick,
             };
             let mut disk = MemDisk::new(alloc, &[cut])?;
@@ -309,27 +310,44 @@ fn a_cut_leaves_torn_bytes_or_no_log_or_the_new_one(rt: HostRuntime) -> Result<(
     check_cuts(&rt, Held::Torn, &TORN)
 }
 
-#[test]
-fn a_second_log_is_written_and_mounted(rt: HostRuntime) -> Result<(), Fail> {
-    let alloc = rt.alloc();
+// A log with 32 records that went over to a second one.
+fn turned_over(alloc: Global) -> Result<Log<MemDisk>, Fail> {
     let own = MemDisk::new(alloc, &[])?;
     let mut log = sealed(alloc, own, 32)?;
     let mut other = MemDisk::new(alloc, &[])?;
-    assert_eq!(rt; turn_over(alloc, &mut log, &mut other)?, Ok(()));
+    match turn_over(alloc, &mut log, &mut other)? {
+        Ok(()) => Ok(log),
+        Err(_) => Err(Fail::from("there is no second log")),
+    }
+}
+
+#[test]
+fn a_second_log_has_a_base_and_no_records(rt: HostRuntime) -> Result<(), Fail> {
+    let log = turned_over(rt.alloc())?;
     assert_eq!(rt; log.records(), 0);
     assert_eq!(rt; log.end(), BASE_END as u64);
-    let base = base(alloc)?;
-    assert_eq!(rt;
-        log.base().map(|base| base.spelled_len()),
-        Some(base.spelled_len())
-    );
-    let mut wanted = Vec::from_slice(alloc, &SECOND)?;
-    base.put(&mut wanted)?;
+    assert_eq!(rt; log.base().map(|base| base.outs.len()), Some(32));
+    Ok(())
+}
+
+#[test]
+fn a_second_log_is_written(rt: HostRuntime) -> Result<(), Fail> {
+    let mut disk = turned_over(rt.alloc())?.release();
+    let mut wanted = Vec::from_slice(rt.alloc(), &SECOND)?;
+    base(rt.alloc())?.put(&mut wanted)?;
     wanted.push(0)?;
-    let mut disk = log.release();
-    assert_eq!(rt; contents(alloc, &mut disk)?.as_slice(), wanted.as_slice());
+    assert_eq!(rt;
+        contents(rt.alloc(), &mut disk)?.as_slice(),
+        wanted.as_slice()
+    );
+    Ok(())
+}
+
+#[test]
+fn a_second_log_is_mounted(rt: HostRuntime) -> Result<(), Fail> {
+    let mut disk = turned_over(rt.alloc())?.release();
     disk.restart(1)?;
-    assert_eq!(rt; mounted_on(alloc, disk)?, NEW);
+    assert_eq!(rt; mounted_on(rt.alloc(), disk)?, NEW);
     Ok(())
 }
 
