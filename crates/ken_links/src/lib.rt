@@ -1,0 +1,12 @@
+//! Rings between the workers of a node: first in, first out, and never full.
+#![tactic(auto)]
+
+mod pop_end;
+mod push_end;
+mod rings;
+#[cfg(test)]
+mod tests;
+
+pub use pop_end::PopEnd;
+pub use push_end::{PushEnd, SLOTS};
+pub use rings::{beside, empty, ring};
