@@ -1,0 +1,7 @@
+mod Senders
+mod Lists
+mod Honest
+mod Aimed
+mod Wires
+mod Calls
+pub mod Steps

@@ -1,0 +1,14 @@
+//! Wires between nodes that run as threads: queues that no schedule of threads can make lie.
+#![tactic(auto)]
+
+mod rule;
+mod send_end;
+mod take_end;
+mod view;
+mod wire;
+
+pub use rule::Carries;
+pub use send_end::SendEnd;
+pub use take_end::{TakeEnd, WIRE};
+pub use view::{Sent, View};
+pub use wire::{Closed, Wire, close};
