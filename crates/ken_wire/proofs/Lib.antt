@@ -3,5 +3,6 @@ mod Lists
 mod Honest
 mod Aimed
 mod Wires
+mod NetEnds
 mod Calls
 pub mod Steps

@@ -6,9 +6,11 @@ mod send_end;
 mod take_end;
 mod view;
 mod wire;
+mod wire_net;
 
 pub use rule::Carries;
 pub use send_end::SendEnd;
 pub use take_end::{TakeEnd, WIRE};
 pub use view::{Sent, View};
 pub use wire::{Closed, Wire, close};
+pub use wire_net::WireNet;

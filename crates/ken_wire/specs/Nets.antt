@@ -1,0 +1,35 @@
+-- What a net over wires puts and gives between two of its states.
+use Rattle.std.specs.Prelude.{◌≡◌, ℕ, ◌<◌, ◌⊎◌, List, [], ◌∷◌, ◌++◌, length, slice_index, slice_index_or}
+use mathlib.Core.Option.{some}
+use lib.ListN.{get_elem?}
+use Rattle.ken_net.specs.Puts.{Put}
+use Rattle.ken_net.specs.Counts.{put_to}
+use Rattle.ken_wire.specs.declared.view.Sent.{Sent}
+use Rattle.ken_wire.specs.declared.send_end.SendEnd.{SendEnd}
+use Rattle.ken_wire.specs.declared.take_end.TakeEnd.{TakeEnd}
+use Rattle.ken_wire.specs.Views.{after_put}
+use Rattle.ken_wire.specs.Ends.{from_of, to_of, sent_of, heard_of, made_of, joined_of, SameSender, SameTaker}
+
+-- sending ends of one node, one for each node, by number
+abbrev pub AreFrom : ℕ → List SendEnd → Type 0
+AreFrom node ends = (k : ℕ) (e : SendEnd) → get_elem? ends k ≡ some e → (from_of e ≡ node) × (to_of e ≡ k)
+
+-- what an end put, with what was handed in, went by these puts in order: each was lost, or was for the end's node and was
+-- put
+abbrev pub Grew : ℕ → List Put → Sent → Sent → Type 0
+Grew k [] a b = b ≡ a
+Grew k (p ∷ ps) a b = Grew k ps a b ⊎ ((p.to ≡ k) × Grew k ps (after_put p.mails p.through p.bytes a) b)
+
+-- each end is still the same, and went by these puts
+pub record EndsGrew (old new : List SendEnd) (ps : List Put) : Type 0 where
+  pub count : length new ≡ length old
+  pub each : (k : ℕ) (d : SendEnd) → k < length old → SameSender (slice_index_or old k d) (slice_index_or new k d) × Grew k ps (sent_of (slice_index_or old k d)) (sent_of (slice_index_or new k d))
+
+-- the counts of the puts for each of so many nodes went by these puts
+abbrev pub AreCounted : ℕ → List ℕ → List ℕ → List Put → Type 0
+AreCounted nodes old new ps = (k : ℕ) → k < nodes → slice_index new k ≡ put_to k ps (slice_index old k)
+
+-- the end is still the same, and heard these packets
+pub record Heard (old new : TakeEnd) (packets : List (List ℕ)) : Type 0 where
+  pub end : SameTaker old new × (made_of new ≡ made_of old) × (joined_of new ≡ joined_of old)
+  pub more : heard_of new ≡ heard_of old ++ packets
