@@ -3,6 +3,6 @@ mod Lists
 mod Honest
 mod Aimed
 mod Wires
-mod NetEnds
+mod ByNode
 mod Calls
 pub mod Steps

@@ -4,3 +4,4 @@ pub mod Aims
 pub mod Ends
 pub mod Nets
 pub mod NetLaws
+pub mod Rounds

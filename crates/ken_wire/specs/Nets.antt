@@ -1,7 +1,5 @@
 -- What a net over wires puts and gives between two of its states.
 use Rattle.std.specs.Prelude.{◌≡◌, ℕ, ◌<◌, ◌⊎◌, List, [], ◌∷◌, ◌++◌, length, slice_index, slice_index_or}
-use mathlib.Core.Option.{some}
-use lib.ListN.{get_elem?}
 use Rattle.ken_net.specs.Puts.{Put}
 use Rattle.ken_net.specs.Counts.{put_to}
 use Rattle.ken_wire.specs.declared.view.Sent.{Sent}
@@ -12,7 +10,7 @@ use Rattle.ken_wire.specs.Ends.{from_of, to_of, sent_of, heard_of, made_of, join
 
 -- sending ends of one node, one for each node, by number
 abbrev pub AreFrom : ℕ → List SendEnd → Type 0
-AreFrom node ends = (k : ℕ) (e : SendEnd) → get_elem? ends k ≡ some e → (from_of e ≡ node) × (to_of e ≡ k)
+AreFrom node ends = (k : ℕ) (d : SendEnd) → k < length ends → (from_of (slice_index_or ends k d) ≡ node) × (to_of (slice_index_or ends k d) ≡ k)
 
 -- what an end put, with what was handed in, went by these puts in order: each was lost, or was for the end's node and was
 -- put

@@ -1,6 +1,7 @@
 //! Wires between nodes that run as threads: queues that no schedule of threads can make lie.
 #![tactic(auto)]
 
+mod rounds;
 mod rule;
 mod send_end;
 mod take_end;
@@ -8,6 +9,7 @@ mod view;
 mod wire;
 mod wire_net;
 
+pub use rounds::{hand_out, take_back, takers};
 pub use rule::Carries;
 pub use send_end::SendEnd;
 pub use take_end::{TakeEnd, WIRE};
