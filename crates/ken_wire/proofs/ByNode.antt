@@ -1,5 +1,5 @@
 -- The ends of the wires to all nodes: one is handed out, or comes back.
-use Rattle.std.proofs.Common.{◌≡◌, ◌≢◌, ℕ, ◌+◌, ◌<◌, ◌≤◌, List, [], ◌∷◌, ◌++◌, length, set, sym, ap, subst, ◌∙◌, inl, inr, arith}
+use Rattle.std.proofs.Common.{◌≡◌, ℕ, ◌+◌, ◌<◌, ◌≤◌, List, [], ◌∷◌, ◌++◌, length, set, sym, ap, subst, ◌∙◌, inl, inr, arith}
 use Rattle.std.specs.Prelude.{slice_index_or}
 use Rattle.std.proofs.lemmas.Bool.{cases_lt}
 use Rattle.std.proofs.lemmas.List.{get_or-set_other, get_or_append_left, get_or_default, length-append}
@@ -7,7 +7,7 @@ use Rattle.std.proofs.lemmas.Grind.{get_or-set_at}
 use Rattle.std.proofs.Math.Seq.{get_or-append_seam}
 use Rattle.ken_wire.specs.declared.send_end.SendEnd.{SendEnd}
 use Rattle.ken_wire.specs.declared.take_end.TakeEnd.{TakeEnd}
-use Rattle.ken_wire.specs.Ends.{from_of, to_of}
+use Rattle.ken_wire.specs.Ends.{from_of, to_of, taker_of, made_of}
 use Rattle.ken_wire.specs.Nets.{AreFrom}
 use Rattle.ken_wire.specs.Rounds.{IsSeated, IsBackAt, AtEach}
 
@@ -29,6 +29,17 @@ own_more node ends end are from to k d low = elim (cases_lt k (length ends)) [
       subst (λ (e : SendEnd). (from_of e ≡ node) × (to_of e ≡ k)) (sym (last ends end d k is)) (from, to ∙ sym is)
 ]
 
+-- one more wire has so many ends
+pub made_more : (made : ℕ) (takes : List TakeEnd) (b : TakeEnd) (n : ℕ) → n < length takes → taker_of b ≡ n → made_of b ≡ made
+    → ((k : ℕ) (d : TakeEnd) → k < n → (taker_of (slice_index_or takes k d) ≡ k) × (made_of (slice_index_or takes k d) ≡ made))
+    → (k : ℕ) (d : TakeEnd) → k < n + 1 → (taker_of (slice_index_or (set takes n b) k d) ≡ k) × (made_of (slice_index_or (set takes n b) k d) ≡ made)
+made_more made takes b n low to count before k d there = elim (cases_lt k n) [
+  | inl lt ↦ subst (λ (t : TakeEnd). (taker_of t ≡ k) × (made_of t ≡ made)) (sym (get_or-set_other takes n k b d (λ x. omega (arith, lt, x)))) (before k d lt)
+  | inr le ↦
+      let is : k ≡ n = omega (arith, there, le) in
+      subst (λ (t : TakeEnd). (taker_of t ≡ k) × (made_of t ≡ made)) (sym (get_or-set_at takes n k b d is low)) (to ∙ sym is, count)
+]
+
 -- one more wire has its end
 pub seated_more : (old takes : List TakeEnd) (ends : List SendEnd) (a b : TakeEnd) (end : SendEnd) (n : ℕ) → n ≡ length ends → n < length takes → a ≡ slice_index_or takes n a → IsSeated a b end
     → ((k : ℕ) (d : TakeEnd) → n ≤ k → k < length takes → slice_index_or takes k d ≡ slice_index_or old k d)
@@ -38,7 +49,7 @@ seated_more old takes ends a b end n count low is seated same before k d e there
       let there2 : slice_index_or (set takes n b) k d ≡ slice_index_or takes k d = get_or-set_other takes n k b d (λ x. omega (arith, lt, count, x)) in
       let end2 : slice_index_or (ends ++ end ∷ []) k e ≡ slice_index_or ends k e = get_or_append_left ends (end ∷ []) e k lt in
       subst (λ (x : TakeEnd). IsSeated (slice_index_or old k d) x (slice_index_or (ends ++ end ∷ []) k e)) (sym there2)
-        (subst (λ (x : SendEnd). IsSeated (slice_index_or old k d) (slice_index_or takes k d) x) (sym end2) (before k d e lt))
+      (subst (λ (x : SendEnd). IsSeated (slice_index_or old k d) (slice_index_or takes k d) x) (sym end2) (before k d e lt))
   | inr le ↦
       let k_is : k ≡ length ends = omega (arith, there, le, length-append ends (end ∷ [])) in
       let k_n : k ≡ n = omega (arith, k_is, count) in
@@ -46,8 +57,8 @@ seated_more old takes ends a b end n count low is seated same before k d e there
       let end2 : slice_index_or (ends ++ end ∷ []) k e ≡ end = last ends end e k k_is in
       let old2 : a ≡ slice_index_or old k d = read takes old a d n low is (same n d (omega arith) low) ∙ ap (λ (i : ℕ). slice_index_or old i d) (sym k_n) in
       subst (λ (x : TakeEnd). IsSeated (slice_index_or old k d) x (slice_index_or (ends ++ end ∷ []) k e)) (sym there2)
-        (subst (λ (x : SendEnd). IsSeated (slice_index_or old k d) b x) (sym end2)
-          (subst (λ (x : TakeEnd). IsSeated x b end) old2 seated))
+      (subst (λ (x : SendEnd). IsSeated (slice_index_or old k d) b x) (sym end2)
+      (subst (λ (x : TakeEnd). IsSeated x b end) old2 seated))
 ]
 
 -- one more end is back
@@ -69,6 +80,6 @@ back_more old takes all ends rest a b end n split count low is back same others 
           let end2 : end ≡ slice_index_or all k e = sym (last rest end e k (k_n ∙ count)) ∙ ap (λ (l : List SendEnd). slice_index_or l k e) (sym split) ∙ same k e in_ends in
           let old2 : a ≡ slice_index_or old k d = read takes old a d n low is (others n d (omega (arith, in_ends, k_n))) ∙ ap (λ (i : ℕ). slice_index_or old i d) (sym k_n) in
           subst (λ (x : TakeEnd). IsBackAt (slice_index_or old k d) x (slice_index_or all k e)) (sym there2)
-            (subst (λ (x : SendEnd). IsBackAt (slice_index_or old k d) b x) end2
-              (subst (λ (x : TakeEnd). IsBackAt x b end) old2 back))
+          (subst (λ (x : SendEnd). IsBackAt (slice_index_or old k d) b x) end2
+          (subst (λ (x : TakeEnd). IsBackAt x b end) old2 back))
     ]

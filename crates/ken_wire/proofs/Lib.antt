@@ -4,5 +4,7 @@ mod Honest
 mod Aimed
 mod Wires
 mod ByNode
+mod Mails
 mod Calls
+mod Came
 pub mod Steps

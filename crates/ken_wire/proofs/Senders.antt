@@ -27,6 +27,12 @@ number_of bytes x e =
     let same : (big_number 1 bytes, drop 1 bytes) ≡ x = some_is (big_number 1 bytes, drop 1 bytes) x t.1 in
     (sym (ap (λ (y : ℕ × List ℕ). y.0) same) ∙ omega arith, sym (ap (λ (y : ℕ × List ℕ). y.1) same))
 
+dropped : (bytes rest : List ℕ) → rest ≡ drop 1 bytes → slice_index rest 0 ≡ slice_index bytes 1
+dropped bytes rest e = ap (λ (t : List ℕ). slice_index t 0) e ∙ get_or-drop 1 bytes 0 0
+
+first_of : (m n : ℕ) (rest : List ℕ) (y : (ℕ × ℕ) × List ℕ) → Some ((m, n), rest) ≡ Some y → m ≡ y.0.0
+first_of m n rest y e = ap (λ (z : (ℕ × ℕ) × List ℕ). z.0.0) (some_is ((m, n), rest) y e)
+
 head_sender : (bytes : List ℕ) (x : Head) → head_at bytes ≡ Some x → sender_in bytes ≡ x.0.1.0
 unfolding head_at
 head_sender bytes x e =
@@ -36,10 +42,9 @@ head_sender bytes x e =
     let d = bind_some (number_at 1 c.0.1) (λ (d : ℕ × List ℕ). Some ((c.0.0, d.0), d.1)) b.0 c.2 in
     let first = number_of bytes a.0 a.1 in
     let second = number_of a.0.1 c.0 c.1 in
-    let ends : c.0.0 ≡ b.0.0.0 = ap (λ (y : (ℕ × ℕ) × List ℕ). y.0.0) (some_is ((c.0.0, d.0.0), d.0.1) b.0 d.2) in
+    let ends : c.0.0 ≡ b.0.0.0 = first_of c.0.0 d.0.0 d.0.1 b.0 d.2 in
     let whole : b.0.0.0 ≡ x.0.1.0 = ap (λ (y : Head). y.0.1.0) (some_is ((a.0.0, b.0.0), b.0.1) x b.2) in
-    let there : slice_index a.0.1 0 ≡ slice_index bytes 1 = ap (λ (t : List ℕ). slice_index t 0) first.1 ∙ get_or-drop 1 bytes 0 0 in
-    sym there ∙ sym second.0 ∙ ends ∙ whole
+    sym (dropped bytes a.0.1 first.1) ∙ sym second.0 ∙ ends ∙ whole
 
 chosen : (b c : Bool) (x y : Option Packet) (p : Packet) → cond b x (cond c y None) ≡ Some p → (x ≡ Some p) ⊎ (y ≡ Some p)
 chosen true c x y p e = inl e

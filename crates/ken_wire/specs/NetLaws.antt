@@ -1,5 +1,5 @@
 -- What is put and given one after the other is put and given in one.
-use Rattle.std.proofs.Common.{◌≡◌, ℕ, ◌<◌, ◌⊎◌, ◌==◌, cond, List, [], ◌∷◌, ◌++◌, length, refl, sym, ap, subst, ◌∙◌, inl, inr, ⊎_elim, append_assoc}
+use Rattle.std.proofs.Common.{◌≡◌, ℕ, ◌<◌, ◌==◌, cond, List, [], ◌∷◌, ◌++◌, length, refl, sym, ap, subst, ◌∙◌, inl, inr, ⊎_elim, append_assoc}
 use Rattle.std.specs.Prelude.{slice_index, slice_index_or}
 use Rattle.std.proofs.lemmas.List.{append-nil}
 use Rattle.ken_net.specs.Puts.{Put}
@@ -15,7 +15,7 @@ grew_joins : (k : ℕ) (ps qs : List Put) (a b c : Sent) → Grew k ps a b → G
 grew_joins k [] qs a b c first then = subst (λ (s : Sent). Grew k qs s c) first then
 grew_joins k (p ∷ ps) qs a b c first then =
     ⊎_elim (λ (lost : Grew k ps a b). inl (grew_joins k ps qs a b c lost then))
-        (λ (put : (p.to ≡ k) × Grew k ps (after_put p.mails p.through p.bytes a) b). inr (put.0, grew_joins k ps qs (after_put p.mails p.through p.bytes a) b c put.1 then)) first
+    (λ (put : (p.to ≡ k) × Grew k ps (after_put p.mails p.through p.bytes a) b). inr (put.0, grew_joins k ps qs (after_put p.mails p.through p.bytes a) b c put.1 then)) first
 
 pub ends_still : (ends : List SendEnd) → EndsGrew ends ends []
 ends_still ends = record { count = refl; each = λ k d low. ((refl, refl, refl), refl) }

@@ -1,5 +1,6 @@
 -- What a net over wires puts and gives between two of its states.
-use Rattle.std.specs.Prelude.{◌≡◌, ℕ, ◌<◌, ◌⊎◌, List, [], ◌∷◌, ◌++◌, length, slice_index, slice_index_or}
+use Rattle.std.specs.Prelude.{◌≡◌, ℕ, ◌<◌, ◌==◌, if◌then◌else◌, ◌⊎◌, List, [], ◌∷◌, ◌++◌, length, slice_index, slice_index_or}
+use Rattle.ken_model.specs.declared.messages.Message.{Message}
 use Rattle.ken_net.specs.Puts.{Put}
 use Rattle.ken_net.specs.Counts.{put_to}
 use Rattle.ken_wire.specs.declared.view.Sent.{Sent}
@@ -31,3 +32,14 @@ AreCounted nodes old new ps = (k : ℕ) → k < nodes → slice_index new k ≡ 
 pub record Heard (old new : TakeEnd) (packets : List (List ℕ)) : Type 0 where
   pub end : SameTaker old new × (made_of new ≡ made_of old) × (joined_of new ≡ joined_of old)
   pub more : heard_of new ≡ heard_of old ++ packets
+
+-- what was handed in with the puts for a node
+abbrev pub handed_to : {X : Type 0} → (Put → List X) → ℕ → List Put → List X
+handed_to of k [] = []
+handed_to of k (p ∷ ps) = if p.to == k then of p ++ handed_to of k ps else handed_to of k ps
+
+abbrev pub mails_to : ℕ → List Put → List Message
+mails_to k ps = handed_to (λ (p : Put). p.mails) k ps
+
+abbrev pub through_to : ℕ → List Put → List (ℕ × ℕ)
+through_to k ps = handed_to (λ (p : Put). p.through) k ps

@@ -1,14 +1,18 @@
 //! Wires between nodes that run as threads: queues that no schedule of threads can make lie.
 #![tactic(auto)]
 
+mod laws;
 mod rounds;
 mod rule;
 mod send_end;
 mod take_end;
+#[cfg(test)]
+mod tests;
 mod view;
 mod wire;
 mod wire_net;
 
+pub use laws::delivered;
 pub use rounds::{hand_out, take_back, takers};
 pub use rule::Carries;
 pub use send_end::SendEnd;

@@ -1,5 +1,5 @@
 // The ends of the wires to all nodes, node by node.
-ghost use Rattle.std.specs.Prelude.{◌≡◌, ◌<◌, length, vec_len, IfOk};
+ghost use Rattle.std.specs.Prelude.{◌≡◌, ◌+◌, ◌<◌, length, vec_len, IfOk, OnOk};
 ghost use Rattle.ken_wire.specs.Nets.{AreFrom};
 ghost use Rattle.ken_wire.specs.Rounds.{AreNext, AreUnused, IsSeated, IsBackAt, AtEach, MayComeBack};
 
@@ -22,14 +22,11 @@ pub fn takers(alloc: Global, nodes: u8) -> Result<Vec<TakeEnd>, AllocError>
 
 /// The sending ends of a node, one of each wire, by number. The wires must have those of the nodes before it, and no other.
 /// After an error some wires may have one end more.
-pub fn hand_out(
-    alloc: Global,
-    node: u8,
-    takes: &mut [TakeEnd],
-) -> Result<Vec<SendEnd>, AllocError>
+pub fn hand_out(alloc: Global, node: u8, takes: &mut [TakeEnd]) -> Result<Vec<SendEnd>, AllocError>
     requires few { node < 255 }
     requires next { AreNext node takes.old }
     ensures count { IfOk result (λ ends. (vec_len ends ≡ length takes.old) × (length takes.new ≡ length takes.old)) }
+    ensures next { OnOk result (AreNext (node + 1) takes.new) }
     ensures own { IfOk result (λ ends. AreFrom node ends.items) }
     ensures seated { IfOk result (λ ends. AtEach IsSeated takes.old takes.new ends.items) }
 {

@@ -1,12 +1,12 @@
-use Rattle.std.proofs.Common.{◌≡◌, ◌+◌, ◌∷◌, [], ◌++◌, ◌≤◌, ◌<◌, ℕ, length, List, sym, ap, subst, ◌∙◌, arith, rules}
+use Rattle.std.proofs.Common.{◌≡◌, ◌+◌, ◌∷◌, [], ◌++◌, ◌<◌, ℕ, length, List, sym, ap, subst, ◌∙◌, arith, rules}
 use Rattle.std.specs.Prelude.{slice_index_or}
 use Rattle.std.proofs.lemmas.List.{get_or-set_other, get_or_default, length-set, length-append}
 use Rattle.ken_wire.specs.declared.send_end.SendEnd.{SendEnd}
 use Rattle.ken_wire.specs.declared.take_end.TakeEnd.{TakeEnd}
-use Rattle.ken_wire.specs.Ends.{from_of, to_of, made_of, taker_of}
+use Rattle.ken_wire.specs.Ends.{made_of, taker_of}
 use Rattle.ken_wire.specs.Nets.{AreFrom}
 use Rattle.ken_wire.specs.Rounds.{IsSeated, AtEach}
-use Rattle.ken_wire.proofs.ByNode.{own_more, seated_more}
+use Rattle.ken_wire.proofs.ByNode.{made_more, own_more, seated_more}
 use Rattle.ken_wire.proofs.rounds.hand_out.Goals as goal
 
 pub loop-place-preserved : goal.loop-place-preserved
@@ -30,6 +30,7 @@ loop-place-preserved c =
     let seated : IsSeated a b end = (kept.0, kept.1, kept.2, made.3, made.1, made.0, made.2) in
     record {
       count = ap (λ (x : List SendEnd). length x) items ∙ length-append l.ends.items (end ∷ []) ∙ ap (λ (k : ℕ). k + 1) l.invariant.count;
+      next = made_more (c.args.node + 1) l.takes b n low (kept.0.1 ∙ to) (made.3 ∙ ap (λ (k : ℕ). k + 1) node) l.invariant.next;
       own = subst (AreFrom c.args.node) (sym items) (own_more c.args.node l.ends.items end l.invariant.own (made.1 ∙ node) (made.0.1 ∙ kept.0.1 ∙ to ∙ sym l.invariant.count));
       seated = subst (AtEach IsSeated old _) (sym items) (seated_more old l.takes l.ends.items a b end n (sym l.invariant.count) low a_read seated l.invariant.others l.invariant.seated);
       others = λ k d le there. get_or-set_other l.takes n k b d (λ e. omega (arith, le, e)) ∙ l.invariant.others k d (omega (arith, le)) (omega (arith, there, length-set l.takes n b));
