@@ -11,7 +11,7 @@ use Rattle.ken_wire.specs.declared.view.Sent.{Sent}
 use Rattle.ken_wire.specs.Views.{nothing}
 use Rattle.ken_wire.specs.Rule.{of, IsHonest, Tells}
 use Rattle.ken_wire.specs.Aims.{goes_to, all_go_to, all_sent_to}
-use Rattle.ken_wire.specs.Ends.{PutsFor, Carried, WasPut}
+use Rattle.ken_wire.specs.Ends.{PutsFor, Carried, WasHandedIn}
 
 both : (a b : Bool) → a && b ≡ true → (a ≡ true) × (b ≡ true)
 both true b e = (refl, e)
@@ -39,8 +39,8 @@ sent_at to (j ∷ js) zero all lt = (both (all_go_to to j.put) (all_sent_to to j
 sent_at to (j ∷ js) (suc k) all lt = sent_at to js k (both (all_go_to to j.put) (all_sent_to to js) all).1 (omega (arith, lt))
 
 -- a packet that a node may put for another is one for that node
-pub put_goes : (from to : ℕ) (mails : List Message) (through : List (ℕ × ℕ)) (bytes : List ℕ) (puts : List (List ℕ)) → MayPut from to mails through bytes → all_go_to to puts ≡ true → all_go_to to (puts ++ bytes ∷ []) ≡ true
-put_goes from to mails through bytes puts may all =
+pub put_goes : (from to : ℕ) (sealed : List Message) (consumed : List (ℕ × ℕ)) (bytes : List ℕ) (puts : List (List ℕ)) → MayPut from to sealed consumed bytes → all_go_to to puts ≡ true → all_go_to to (puts ++ bytes ∷ []) ≡ true
+put_goes from to sealed consumed bytes puts may all =
     let goes : goes_to to (packet_of bytes) ≡ true = rw may.is (eq-eqb (receiver may.packet) to may.for_node) in
     added to puts bytes all goes
 
@@ -76,8 +76,8 @@ of_its_own (x ∷ xs) b (suc k) lt e = kept (sender_in x == sender_in b) x b (of
 nothing_there : (b : List ℕ) → Contains {X = List ℕ} [] b → ⊥
 nothing_there b c = omega (arith, c.1)
 
-pub was_put : (to : ℕ) (sents : List Sent) (heard : List (List ℕ)) → Carried to sents heard → WasPut to sents heard
-was_put to sents heard c = record {
+pub was_handed_in : (to : ℕ) (sents : List Sent) (heard : List (List ℕ)) → Carried to sents heard → WasHandedIn to sents heard
+was_handed_in to sents heard c = record {
   by = λ bytes there.
       let k : ℕ = sender_in bytes in
       let all = Contains-append_left heard c.lost bytes there in

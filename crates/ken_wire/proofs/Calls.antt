@@ -11,10 +11,10 @@ use Rattle.ken_wire.proofs.Aimed.{put_goes, sent_added}
 abbrev Sends : ℕ → ℕ → View → Type 0
 Sends from to v = (v.sends ≡ true) × (v.from ≡ from) × (all_go_to to v.sent.put ≡ true)
 
-pub still_sends : {A E : Type 0} (result : Result A E) (x : E) (Z : Type 0) (from to : ℕ) (mails : List Message) (through : List (ℕ × ℕ)) (bytes : List ℕ) (v w : View)
-    → MatchResult result (λ _. w ≡ sending v.from (after_put mails through bytes v.sent)) (λ y. (y ≡ x) × (w ≡ v) × Z) → Sends from to v → MayPut from to mails through bytes → Sends from to w
-still_sends (Ok a) x Z from to mails through bytes v w e s may = subst (Sends from to) (sym e) (refl, s.1, put_goes from to mails through bytes v.sent.put may s.2)
-still_sends (Err y) x Z from to mails through bytes v w e s may = subst (Sends from to) (sym e.1) s
+pub still_sends : {A E : Type 0} (result : Result A E) (x : E) (Z : Type 0) (from to : ℕ) (sealed : List Message) (consumed : List (ℕ × ℕ)) (bytes : List ℕ) (v w : View)
+    → MatchResult result (λ _. w ≡ sending v.from (after_put sealed consumed bytes v.sent)) (λ y. (y ≡ x) × (w ≡ v) × Z) → Sends from to v → MayPut from to sealed consumed bytes → Sends from to w
+still_sends (Ok a) x Z from to sealed consumed bytes v w e s may = subst (Sends from to) (sym e) (refl, s.1, put_goes from to sealed consumed bytes v.sent.put may s.2)
+still_sends (Err y) x Z from to sealed consumed bytes v w e s may = subst (Sends from to) (sym e.1) s
 
 abbrev Takes : ℕ → ℕ → View → Type 0
 Takes to made v = (v.takes ≡ true) × (v.made ≡ made) × (all_sent_to to v.joined ≡ true)

@@ -9,10 +9,10 @@ use Rattle.ken_packet.specs.declared.packet.Packet.TheVariants.{Mail, Ack}
 use Rattle.ken_net.specs.Puts.{Put, IsHandedIn, MayPut}
 use Rattle.ken_wire.specs.declared.view.Sent.{Sent}
 use Rattle.ken_wire.specs.Views.{nothing, after_put}
-use Rattle.ken_wire.specs.Ends.{WasPut}
-use Rattle.ken_wire.specs.Nets.{Grew, handed_to, mails_to, through_to}
+use Rattle.ken_wire.specs.Ends.{WasHandedIn}
+use Rattle.ken_wire.specs.Nets.{Grew, handed_to, sealed_to, consumed_to}
 
-module _ {X : Type 0} (has : Sent → List X) (of : Put → List X) (adds : (p : Put) (s : Sent) → has (after_put p.mails p.through p.bytes s) ≡ has s ++ of p) where
+module _ {X : Type 0} (has : Sent → List X) (of : Put → List X) (adds : (p : Put) (s : Sent) → has (after_put p.sealed p.consumed p.bytes s) ≡ has s ++ of p) where
   -- one more put, whatever node it is for
   skips : (t : Bool) (xs ys zs : List X) (x : X) → Contains (xs ++ zs) x → Contains (xs ++ cond t (ys ++ zs) zs) x
   skips true xs ys zs x c = ⊎_elim (λ l. Contains-append_left xs (ys ++ zs) x l) (λ r. Contains-append_right xs (ys ++ zs) x (Contains-append_right ys zs x r)) (Contains-append_cases xs zs x c)
@@ -23,20 +23,20 @@ module _ {X : Type 0} (has : Sent → List X) (of : Put → List X) (adds : (p :
   came k [] a b x e c = Contains-append_left (has a) [] x (subst (λ (s : Sent). Contains (has s) x) e c)
   came k (p ∷ ps) a b x grew c =
       ⊎_elim (λ (lost : Grew k ps a b). skips (p.to == k) (has a) (of p) (handed_to of k ps) x (came k ps a b x lost c))
-      (λ (put : (p.to ≡ k) × Grew k ps (after_put p.mails p.through p.bytes a) b).
-      let next : Sent = after_put p.mails p.through p.bytes a in
+      (λ (put : (p.to ≡ k) × Grew k ps (after_put p.sealed p.consumed p.bytes a) b).
+      let next : Sent = after_put p.sealed p.consumed p.bytes a in
       let there : Contains (has next ++ handed_to of k ps) x = came k ps next b x put.1 c in
       let split : Contains ((has a ++ of p) ++ handed_to of k ps) x = subst (λ (l : List X). Contains (l ++ handed_to of k ps) x) (adds p a) there in
       let all : Contains (has a ++ (of p ++ handed_to of k ps)) x = subst (λ (l : List X). Contains l x) (append_assoc (has a) (of p) (handed_to of k ps)) split in
       rw (eq-eqb p.to k put.0) all) grew
 
-handed : (k : ℕ) (ps : List Put) (s : Sent) (p : Packet) → Grew k ps nothing s → IsHandedIn s.mails s.through p → IsHandedIn (mails_to k ps) (through_to k ps) p
-handed k ps s (Mail m) grew c = came (λ (s : Sent). s.mails) (λ (p : Put). p.mails) (λ p s. refl) k ps nothing s m grew c
-handed k ps s (Ack from to n) grew c = (c.0, came (λ (s : Sent). s.through) (λ (p : Put). p.through) (λ p s. refl) k ps nothing s (to, c.0) grew c.1, c.2)
+handed : (k : ℕ) (ps : List Put) (s : Sent) (p : Packet) → Grew k ps nothing s → IsHandedIn s.sealed s.consumed p → IsHandedIn (sealed_to k ps) (consumed_to k ps) p
+handed k ps s (Mail m) grew c = came (λ (s : Sent). s.sealed) (λ (p : Put). p.sealed) (λ p s. refl) k ps nothing s m grew c
+handed k ps s (Ack from to n) grew c = (c.0, came (λ (s : Sent). s.consumed) (λ (p : Put). p.consumed) (λ p s. refl) k ps nothing s (to, c.0) grew c.1, c.2)
 
-pub delivered : (to : ℕ) (sents : List Sent) (heard : List (List ℕ)) (puts : ℕ → List Put) → WasPut to sents heard
+pub delivered : (to : ℕ) (sents : List Sent) (heard : List (List ℕ)) (puts : ℕ → List Put) → WasHandedIn to sents heard
     → ((k : ℕ) → k < length sents → Grew to (puts k) nothing (slice_index_or sents k nothing))
-    → (bytes : List ℕ) → Contains heard bytes → (k : ℕ) × (k < length sents) × MayPut k to (mails_to to (puts k)) (through_to to (puts k)) bytes
+    → (bytes : List ℕ) → Contains heard bytes → (k : ℕ) × (k < length sents) × MayPut k to (sealed_to to (puts k)) (consumed_to to (puts k)) bytes
 delivered to sents heard puts was grew bytes there =
     let by = was.by bytes there in
     let k = by.0 in

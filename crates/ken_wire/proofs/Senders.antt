@@ -60,18 +60,18 @@ mail_sender from to rest p e =
     let t = if_some (are_nodes from to && nat_lt 0 b.0.0.0 && nat_lt 0 b.0.0.1) (Some (message_of from to b.0)) m b.2 in
     ap (λ (n : Message). n.from) (some_is (message_of from to b.0) m t.1) ∙ ap sender (some_is (Mail m) p a.2)
 
-ack_sender : (from to : ℕ) (rest : List ℕ) (p : Packet) → (through_between from to rest >>= λ through. Some (Ack from to through)) ≡ Some p → from ≡ sender p
+ack_sender : (from to : ℕ) (rest : List ℕ) (p : Packet) → (through_between from to rest >>= λ consumed. Some (Ack from to consumed)) ≡ Some p → from ≡ sender p
 ack_sender from to rest p e =
-    let a = bind_some (through_between from to rest) (λ (through : ℕ). Some (Ack from to through)) p e in
+    let a = bind_some (through_between from to rest) (λ (consumed : ℕ). Some (Ack from to consumed)) p e in
     ap sender (some_is (Ack from to a.0) p a.2)
 
 pub packet_sender : (bytes : List ℕ) (p : Packet) → packet_of bytes ≡ Some p → sender_in bytes ≡ sender p
 unfolding packet_of
 packet_sender bytes p e =
-    let a = bind_some (head_at bytes) (λ (x : Head). cond (x.0.0 == 1) (mail_between x.0.1.0 x.0.1.1 x.1 >>= λ m. Some (Mail m)) (cond (x.0.0 == 2) (through_between x.0.1.0 x.0.1.1 x.1 >>= λ through. Some (Ack x.0.1.0 x.0.1.1 through)) None)) p e in
+    let a = bind_some (head_at bytes) (λ (x : Head). cond (x.0.0 == 1) (mail_between x.0.1.0 x.0.1.1 x.1 >>= λ m. Some (Mail m)) (cond (x.0.0 == 2) (through_between x.0.1.0 x.0.1.1 x.1 >>= λ consumed. Some (Ack x.0.1.0 x.0.1.1 consumed)) None)) p e in
     let x : ℕ × (ℕ × ℕ) = a.0.0 in
     let rest : List ℕ = a.0.1 in
-    head_sender bytes a.0 a.1 ∙ elim (chosen (x.0 == 1) (x.0 == 2) (mail_between x.1.0 x.1.1 rest >>= λ m. Some (Mail m)) (through_between x.1.0 x.1.1 rest >>= λ through. Some (Ack x.1.0 x.1.1 through)) p a.2) [
+    head_sender bytes a.0 a.1 ∙ elim (chosen (x.0 == 1) (x.0 == 2) (mail_between x.1.0 x.1.1 rest >>= λ m. Some (Mail m)) (through_between x.1.0 x.1.1 rest >>= λ consumed. Some (Ack x.1.0 x.1.1 consumed)) p a.2) [
       | inl l ↦ mail_sender x.1.0 x.1.1 rest p l
       | inr r ↦ ack_sender x.1.0 x.1.1 rest p r
     ]

@@ -65,10 +65,10 @@ begins = record {
       })) (at_longer [] (taking 0 [] []) v end e);
 }
 
-pub sends : (n end : ℕ) (v : View) (bytes : List ℕ) (to : ℕ) (mails : List Message) (through : List (ℕ × ℕ)) → v.sends ≡ true → MayPut v.from to mails through bytes
-    → Pushes WireRule n end v bytes (λ w. w ≡ sending v.from (after_put mails through bytes v.sent))
-sends n end v bytes to mails through is_end may queued views room h at =
-    let w : View = sending v.from (after_put mails through bytes v.sent) in
+pub sends : (n end : ℕ) (v : View) (bytes : List ℕ) (to : ℕ) (sealed : List Message) (consumed : List (ℕ × ℕ)) → v.sends ≡ true → MayPut v.from to sealed consumed bytes
+    → Pushes WireRule n end v bytes (λ w. w ≡ sending v.from (after_put sealed consumed bytes v.sent))
+sends n end v bytes to sealed consumed is_end may queued views room h at =
+    let w : View = sending v.from (after_put sealed consumed bytes v.sent) in
     let mine = h.senders end v at is_end in
     let from : sender_in bytes ≡ v.from = packet_sender bytes may.packet may.is ∙ may.of_node in
     let puts : Puts = λ p. h.puts p ++ of p (bytes ∷ []) in
@@ -82,7 +82,7 @@ sends n end v bytes to mails through is_end may queued views room h at =
         heard = h.heard;
         in_order = λ p. ap (of p) (sym (append_assoc h.heard queued (bytes ∷ []))) ∙ of_added p (h.heard ++ queued) (bytes ∷ []) ∙ ap (λ (l : List (List ℕ)). l ++ of p (bytes ∷ [])) (h.in_order p);
         senders = each_set (FitsSender h.seat puts) views end w
-            (λ s. (mine.0, ap (λ (l : List (List ℕ)). l ++ bytes ∷ []) mine.1 ∙ sym own, honest_put v.from to mails through bytes v.sent may mine.2))
+            (λ s. (mine.0, ap (λ (l : List (List ℕ)). l ++ bytes ∷ []) mine.1 ∙ sym own, honest_put v.from to sealed consumed bytes v.sent may mine.2))
             (λ j u away e s. let t = h.senders j u e s in (t.0, t.1 ∙ sym (other u.from (two h.seat u.from v.from j end t.0 mine.0 away)), t.2));
         takers = each_set (Takes h.taker h.seat puts h.heard) views end w (λ t. absurd cc)
             (λ j u away e takes. let t = h.takers j u e takes in record {

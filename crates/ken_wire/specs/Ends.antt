@@ -72,7 +72,7 @@ AreNew (e ∷ es) = (sent_of e ≡ nothing) × AreNew es
 
 -- each packet that a node put is one for the wire's node, and stands in what the node has handed in
 abbrev pub PutsFor : ℕ → ℕ → Sent → Type 0
-PutsFor from to s = (bytes : List ℕ) → Contains s.put bytes → MayPut from to s.mails s.through bytes
+PutsFor from to s = (bytes : List ℕ) → Contains s.put bytes → MayPut from to s.sealed s.consumed bytes
 
 -- The wire carried what was put and nothing else: of each node, the packets heard and then those that were lost in the
 -- queue are just its puts, in order, and there are no others
@@ -83,6 +83,6 @@ pub record Carried (to : ℕ) (sents : List Sent) (heard : List (List ℕ)) : Ty
   pub nobody : (k : ℕ) → length sents ≤ k → of k (heard ++ lost) ≡ []
 
 -- each packet heard stands in what a node has handed in, with a put for the wire's node
-pub record WasPut (to : ℕ) (sents : List Sent) (heard : List (List ℕ)) : Type 0 where
+pub record WasHandedIn (to : ℕ) (sents : List Sent) (heard : List (List ℕ)) : Type 0 where
   pub by : (bytes : List ℕ) → Contains heard bytes
-      → (k : ℕ) × (k < length sents) × MayPut k to (slice_index_or sents k nothing).mails (slice_index_or sents k nothing).through bytes
+      → (k : ℕ) × (k < length sents) × MayPut k to (slice_index_or sents k nothing).sealed (slice_index_or sents k nothing).consumed bytes

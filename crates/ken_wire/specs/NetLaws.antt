@@ -15,7 +15,7 @@ grew_joins : (k : ℕ) (ps qs : List Put) (a b c : Sent) → Grew k ps a b → G
 grew_joins k [] qs a b c first then = subst (λ (s : Sent). Grew k qs s c) first then
 grew_joins k (p ∷ ps) qs a b c first then =
     ⊎_elim (λ (lost : Grew k ps a b). inl (grew_joins k ps qs a b c lost then))
-    (λ (put : (p.to ≡ k) × Grew k ps (after_put p.mails p.through p.bytes a) b). inr (put.0, grew_joins k ps qs (after_put p.mails p.through p.bytes a) b c put.1 then)) first
+    (λ (put : (p.to ≡ k) × Grew k ps (after_put p.sealed p.consumed p.bytes a) b). inr (put.0, grew_joins k ps qs (after_put p.sealed p.consumed p.bytes a) b c put.1 then)) first
 
 pub ends_still : (ends : List SendEnd) → EndsGrew ends ends []
 ends_still ends = record { count = refl; each = λ k d low. ((refl, refl, refl), refl) }

@@ -17,7 +17,7 @@ AreFrom node ends = (k : ℕ) (d : SendEnd) → k < length ends → (from_of (sl
 -- put
 abbrev pub Grew : ℕ → List Put → Sent → Sent → Type 0
 Grew k [] a b = b ≡ a
-Grew k (p ∷ ps) a b = Grew k ps a b ⊎ ((p.to ≡ k) × Grew k ps (after_put p.mails p.through p.bytes a) b)
+Grew k (p ∷ ps) a b = Grew k ps a b ⊎ ((p.to ≡ k) × Grew k ps (after_put p.sealed p.consumed p.bytes a) b)
 
 -- each end is still the same, and went by these puts
 pub record EndsGrew (old new : List SendEnd) (ps : List Put) : Type 0 where
@@ -38,8 +38,8 @@ abbrev pub handed_to : {X : Type 0} → (Put → List X) → ℕ → List Put �
 handed_to of k [] = []
 handed_to of k (p ∷ ps) = if p.to == k then of p ++ handed_to of k ps else handed_to of k ps
 
-abbrev pub mails_to : ℕ → List Put → List Message
-mails_to k ps = handed_to (λ (p : Put). p.mails) k ps
+abbrev pub sealed_to : ℕ → List Put → List Message
+sealed_to k ps = handed_to (λ (p : Put). p.sealed) k ps
 
-abbrev pub through_to : ℕ → List Put → List (ℕ × ℕ)
-through_to k ps = handed_to (λ (p : Put). p.through) k ps
+abbrev pub consumed_to : ℕ → List Put → List (ℕ × ℕ)
+consumed_to k ps = handed_to (λ (p : Put). p.consumed) k ps

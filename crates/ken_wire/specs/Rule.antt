@@ -15,7 +15,7 @@ of p packets = filter (λ (bytes : List ℕ). sender_in bytes == p) packets
 
 -- each packet that a node put stands in what the node has handed in
 abbrev pub IsHonest : ℕ → Sent → Type 0
-IsHonest from s = (bytes : List ℕ) → Contains s.put bytes → (to : ℕ) × MayPut from to s.mails s.through bytes
+IsHonest from s = (bytes : List ℕ) → Contains s.put bytes → (to : ℕ) × MayPut from to s.sealed s.consumed bytes
 
 -- the end of a node that sends: it is the node's only end, and knows all that the node put
 abbrev pub FitsSender : (ℕ → Option ℕ) → (ℕ → List (List ℕ)) → ℕ → View → Type 0

@@ -5,11 +5,11 @@ use Rattle.ken_wire.specs.declared.view.Sent.{Sent}
 use Rattle.ken_wire.specs.declared.view.View.{View}
 
 abbrev pub nothing : Sent
-nothing = record { put = []; mails = []; through = [] }
+nothing = record { put = []; sealed = []; consumed = [] }
 
 -- after one more put, with what was handed in
 abbrev pub after_put : List Message → List (ℕ × ℕ) → List ℕ → Sent → Sent
-after_put mails through bytes s = record { put = s.put ++ bytes ∷ []; mails = s.mails ++ mails; through = s.through ++ through }
+after_put sealed consumed bytes s = record { put = s.put ++ bytes ∷ []; sealed = s.sealed ++ sealed; consumed = s.consumed ++ consumed }
 
 -- the end of a node that sends
 abbrev pub sending : ℕ → Sent → View

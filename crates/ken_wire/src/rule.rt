@@ -28,7 +28,7 @@ pub(crate) struct Puts<H> {
 }
 
 impl<H: Handed> Outcome<Octets, View> for Puts<H> {
-    ghost then = { λ v bytes w. w ≡ sending v.from (after_put H.mails H.through bytes v.sent) };
+    ghost then = { λ v bytes w. w ≡ sending v.from (after_put H.sealed H.consumed bytes v.sent) };
 }
 
 impl<H: Handed> Lesson<Octets, View> for Puts<H> {

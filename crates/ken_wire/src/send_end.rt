@@ -51,9 +51,9 @@ impl SendEnd {
     /// acknowledgement that stands in what `H` hands in. Where the wire was full at a moment of the call, the packet comes
     /// back and nothing was put.
     pub fn put<H: Handed, R: Wait>(&mut self, rt: &R, bytes: Octets) -> Result<(), Octets>
-        requires { MayPut (from_of self.old) (to_of self.old) H.mails H.through bytes }
+        requires { MayPut (from_of self.old) (to_of self.old) H.sealed H.consumed bytes }
         ensures end { SameSender self.old self.new }
-        ensures put { OnOk result (sent_of self.new ≡ after_put H.mails H.through bytes (sent_of self.old)) }
+        ensures put { OnOk result (sent_of self.new ≡ after_put H.sealed H.consumed bytes (sent_of self.old)) }
         ensures full { IfErr result (λ back. (back ≡ bytes) × (sent_of self.new ≡ sent_of self.old)) }
     {
         self.queue.push_as::<Puts<H>, R>(rt, &mut self.pass, bytes)

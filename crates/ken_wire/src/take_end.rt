@@ -32,7 +32,7 @@ pub struct TakeEnd {
 impl TakeEnd {
     ghost use Rattle.std.specs.Prelude.{◌≡◌, ◌+◌, ◌<◌, [], ◌∷◌, ◌++◌, length, IfOk, OnErr, MatchOption};
     ghost use Rattle.ken_wire.specs.Views.{nothing};
-    ghost use Rattle.ken_wire.specs.Ends.{from_of, sent_of, taker_of, heard_of, made_of, joined_of, SameTaker, IsEndOf, Carried, WasPut};
+    ghost use Rattle.ken_wire.specs.Ends.{from_of, sent_of, taker_of, heard_of, made_of, joined_of, SameTaker, IsEndOf, Carried, WasHandedIn};
 
     /// The taking end of a new wire to the node `to`, for which no sending end was made yet.
     pub fn new(alloc: Global, to: u8) -> Result<Self, AllocError>
@@ -84,7 +84,7 @@ impl TakeEnd {
         requires { length (joined_of self.old) ≡ made_of self.old }
         ensures end { SameTaker self.old self.new × (made_of self.new ≡ made_of self.old) × (heard_of self.new ≡ heard_of self.old) × (joined_of self.new ≡ joined_of self.old) }
         ensures carried { Carried (taker_of self.old) (joined_of self.old) (heard_of self.old) }
-        ensures heard { WasPut (taker_of self.old) (joined_of self.old) (heard_of self.old) }
+        ensures heard { WasHandedIn (taker_of self.old) (joined_of self.old) (heard_of self.old) }
     {
         self.queue.learn_as::<Total>(&mut self.pass);
     }

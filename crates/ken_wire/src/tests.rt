@@ -30,7 +30,7 @@ fn message(alloc: Global, from: u8, to: u8, number: u64) -> Result<Message, Allo
 
 // Puts a packet, with what is handed in for the message.
 fn put_of<H: Handed, R: Wait>(rt: &R, end: &mut SendEnd, message: &Message, bytes: Octets) -> bool
-    requires { MayPut (from_of end.old) (to_of end.old) H.mails H.through bytes }
+    requires { MayPut (from_of end.old) (to_of end.old) H.sealed H.consumed bytes }
 {
     let _message = &*message;
     end.put::<H, R>(rt, bytes).is_ok()
@@ -171,7 +171,7 @@ fn put_as<N: Net, H: Handed>(
     bytes: Octets,
 ) -> Result<(), AllocError>
     requires to { to < N.nodes net.old }
-    requires may { MayPut (N.node net.old) to H.mails H.through bytes }
+    requires may { MayPut (N.node net.old) to H.sealed H.consumed bytes }
     ensures { (N.node net.new ≡ N.node net.old) × (N.nodes net.new ≡ N.nodes net.old) }
 {
     let _message = &*message;

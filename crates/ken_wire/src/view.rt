@@ -6,8 +6,8 @@ use std::collections::LinkedList;
 /// which its messages were consumed.
 pub struct Sent {
     pub put: LinkedList<Octets>,
-    pub mails: LinkedList<Message>,
-    pub through: LinkedList<(u8, u64)>,
+    pub sealed: LinkedList<Message>,
+    pub consumed: LinkedList<(u8, u64)>,
 }
 
 /// What one end knows. An end that sends knows its node and what it sent. The end that takes knows what it heard, how many

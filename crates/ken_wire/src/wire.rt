@@ -1,6 +1,6 @@
 // A wire made whole, and closed.
 ghost use Rattle.std.specs.Prelude.{◌≡◌, [], map, length, IfOk};
-ghost use Rattle.ken_wire.specs.Ends.{sent_of, taker_of, heard_of, joined_of, heard_in, sents_in, IsWire, AreNew, Carried, WasPut};
+ghost use Rattle.ken_wire.specs.Ends.{sent_of, taker_of, heard_of, joined_of, heard_in, sents_in, IsWire, AreNew, Carried, WasHandedIn};
 
 use crate::send_end::SendEnd;
 use crate::take_end::TakeEnd;
@@ -37,7 +37,7 @@ pub fn close(sends: Vec<SendEnd>, mut take: TakeEnd) -> Closed
     requires { IsWire sends.items take }
     ensures closed { (heard_in result ≡ heard_of take) × (sents_in result ≡ map sent_of sends.items) }
     ensures carried { Carried (taker_of take) (map sent_of sends.items) (heard_of take) }
-    ensures heard { WasPut (taker_of take) (map sent_of sends.items) (heard_of take) }
+    ensures heard { WasHandedIn (taker_of take) (map sent_of sends.items) (heard_of take) }
 {
     for end in sends {
         take.join(end);

@@ -56,10 +56,10 @@ impl<'a, R: Wait> WireNet<'a, R> {
     // Puts a packet on the wire to a node, and counts it. It is lost where that wire is full.
     fn put_on<H: Handed>(&mut self, to: u8, bytes: Octets)
         requires to { to < length self.old.sends.items }
-        requires may { MayPut self.old.node to H.mails H.through bytes }
+        requires may { MayPut self.old.node to H.sealed H.consumed bytes }
         ensures end { (self.new.node ≡ self.old.node) × (self.new.take ≡ self.old.take) × (self.new.nones ≡ self.old.nones) }
-        ensures ends { EndsGrew self.old.sends.items self.new.sends.items (record { to = to; bytes = bytes; mails = H.mails; through = H.through } ∷ []) }
-        ensures counts { AreCounted (length self.old.sends.items) self.old.puts self.new.puts (record { to = to; bytes = bytes; mails = H.mails; through = H.through } ∷ []) }
+        ensures ends { EndsGrew self.old.sends.items self.new.sends.items (record { to = to; bytes = bytes; sealed = H.sealed; consumed = H.consumed } ∷ []) }
+        ensures counts { AreCounted (length self.old.sends.items) self.old.puts self.new.puts (record { to = to; bytes = bytes; sealed = H.sealed; consumed = H.consumed } ∷ []) }
     {
         let place = usize::from(to);
         self.puts[place] = self.puts[place].saturating_add(1);
