@@ -24,7 +24,7 @@ pub struct WireNet<'a, R: Wait> {
 
 impl<'a, R: Wait> WireNet<'a, R> {
     ghost use Rattle.std.specs.Prelude.{◌≡◌, ◌<◌, ◌≤◌, [], ◌∷◌, length, option_to_list};
-    ghost use Rattle.ken_net.specs.Puts.{MayPut};
+    ghost use Rattle.ken_net.specs.Puts.{MayPut, handing};
     ghost use Rattle.ken_net.specs.Counts.{Counted};
     ghost use Rattle.ken_wire.specs.Ends.{taker_of};
     ghost use Rattle.ken_wire.specs.Nets.{AreFrom, EndsGrew, AreCounted, Heard};
@@ -58,8 +58,8 @@ impl<'a, R: Wait> WireNet<'a, R> {
         requires to { to < length self.old.sends.items }
         requires may { MayPut self.old.node to H.sealed H.consumed bytes }
         ensures end { (self.new.node ≡ self.old.node) × (self.new.take ≡ self.old.take) × (self.new.nones ≡ self.old.nones) }
-        ensures ends { EndsGrew self.old.sends.items self.new.sends.items (record { to = to; bytes = bytes; sealed = H.sealed; consumed = H.consumed } ∷ []) }
-        ensures counts { AreCounted (length self.old.sends.items) self.old.puts self.new.puts (record { to = to; bytes = bytes; sealed = H.sealed; consumed = H.consumed } ∷ []) }
+        ensures ends { EndsGrew self.old.sends.items self.new.sends.items (handing to H.sealed H.consumed bytes ∷ []) }
+        ensures counts { AreCounted (length self.old.sends.items) self.old.puts self.new.puts (handing to H.sealed H.consumed bytes ∷ []) }
     {
         let place = usize::from(to);
         self.puts[place] = self.puts[place].saturating_add(1);
