@@ -220,14 +220,27 @@ fn net_of<'a, R: Wait>(
     Some(WireNet::new(rt, node, take, sends))
 }
 
-// Node 0 sends mails 1 and 2 to node 1, and the first is lost: what node 1 then takes, in three takes.
-fn taken_of_two<R: Wait>(rt: &R, alloc: Global) -> Result<Option<[u64; 3]>, AllocError> {
+// The numbers of the mails that a net gives in three takes.
+fn three_takes<N: Net>(alloc: Global, mut net: N) -> [u64; 3]
+where
+    N: Drop,
+{
+    let first = next_number(alloc, &mut net);
+    let second = next_number(alloc, &mut net);
+    [first, second, next_number(alloc, &mut net)]
+}
+
+// Node 0 sends mails 1 to 3 to node 1, and the first is lost: what node 1 then takes in another thread.
+fn taken_of_three<R: Threads + Wait + Sync>(
+    rt: &R,
+    alloc: Global,
+) -> Result<Option<[u64; 3]>, AllocError> {
     let mut takes = takers(alloc, 2)?;
     let first = hand_out(alloc, 0, takes.as_mut_slice())?;
     let second = hand_out(alloc, 1, takes.as_mut_slice())?;
     let one = takes.pop();
     let zero = takes.pop();
-    let (Some(base), Some(mut receiver)) = (net_of(rt, 0, zero, first), net_of(rt, 1, one, second))
+    let (Some(base), Some(receiver)) = (net_of(rt, 0, zero, first), net_of(rt, 1, one, second))
     else {
         return Ok(None);
     };
@@ -238,16 +251,15 @@ fn taken_of_two<R: Wait>(rt: &R, alloc: Global) -> Result<Option<[u64; 3]>, Allo
         act: Act::Lose,
     }];
     let mut sender = Lossy::over(Links::new(alloc, 0, 2, &acts)?, base);
-    send(alloc, &mut sender, 0, 1, 1)?;
-    send(alloc, &mut sender, 0, 1, 2)?;
-    let taken = next_number(alloc, &mut receiver);
-    send(alloc, &mut sender, 0, 1, 3)?;
-    let after = next_number(alloc, &mut receiver);
-    Ok(Some([taken, after, next_number(alloc, &mut receiver)]))
+    for before in 0..3 {
+        send(alloc, &mut sender, 0, 1, before + 1)?;
+    }
+    let (taken, ()) = thread::join(rt, move || three_takes(alloc, receiver), || ());
+    Ok(Some(taken))
 }
 
 #[test]
 fn nets_put_and_take_over_wires(rt: HostRuntime) -> Result<(), AllocError> {
-    assert_eq!(rt; taken_of_two(&rt, rt.alloc())?, Some([2, 3, 0]));
+    assert_eq!(rt; taken_of_three(&rt, rt.alloc())?, Some([2, 3, 0]));
     Ok(())
 }
