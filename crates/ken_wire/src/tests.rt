@@ -251,9 +251,9 @@ fn taken_of_three<R: Threads + Wait + Sync>(
         act: Act::Lose,
     }];
     let mut sender = Lossy::over(Links::new(alloc, 0, 2, &acts)?, base);
-    for before in 0..3 {
-        send(alloc, &mut sender, 0, 1, before + 1)?;
-    }
+    send(alloc, &mut sender, 0, 1, 1)?;
+    send(alloc, &mut sender, 0, 1, 2)?;
+    send(alloc, &mut sender, 0, 1, 3)?;
     let (taken, ()) = thread::join(rt, move || three_takes(alloc, receiver), || ());
     Ok(Some(taken))
 }
