@@ -16,7 +16,7 @@ pub use laws::delivered;
 pub use rounds::{hand_out, take_back, takers};
 pub use rule::Carries;
 pub use send_end::SendEnd;
-pub use take_end::{TakeEnd, WIRE};
+pub use take_end::{MAX_WIRE, TakeEnd};
 pub use view::{Sent, View};
 pub use wire::{Closed, Wire, close};
 pub use wire_net::WireNet;

@@ -12,7 +12,7 @@ use std::alloc::{AllocError, Global};
 use std::sync::{Arc, Wait};
 
 /// How many packets a wire holds at most.
-pub const WIRE: usize = 64;
+pub const MAX_WIRE: usize = 64;
 
 /// The end of a wire by which its node takes packets. It may lie with any thread. It makes the sending ends before the
 /// first packet, and takes them back at the close.
@@ -38,7 +38,7 @@ impl TakeEnd {
     pub fn new(alloc: Global, to: u8) -> Result<Self, AllocError>
         ensures { IfOk result (λ t. (taker_of t ≡ to) × (made_of t ≡ 0) × (heard_of t ≡ []) × (joined_of t ≡ [])) }
     {
-        let (queue, pass) = Queue::ruled(alloc, WIRE)?;
+        let (queue, pass) = Queue::ruled(alloc, MAX_WIRE)?;
         Ok(TakeEnd {
             queue: Arc::new(alloc, queue)?,
             pass,

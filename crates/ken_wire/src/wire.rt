@@ -1,6 +1,6 @@
 // A wire made whole, and closed.
 ghost use Rattle.std.specs.Prelude.{◌≡◌, [], map, length, IfOk};
-ghost use Rattle.ken_wire.specs.Ends.{sent_of, taker_of, heard_of, joined_of, heard_in, sents_in, IsWire, AreNew, Carried, WasHandedIn};
+ghost use Rattle.ken_wire.specs.Ends.{sent_of, taker_of, heard_of, heard_in, sents_in, IsWire, AreNew, Carried, WasHandedIn};
 
 use crate::send_end::SendEnd;
 use crate::take_end::TakeEnd;

@@ -1,4 +1,4 @@
-ghost use Rattle.std.specs.Prelude.{◌≡◌, ◌≤◌, length};
+ghost use Rattle.std.specs.Prelude.{◌≤◌, length};
 ghost use Rattle.ken_wire.specs.Nets.{AreFrom};
 
 use crate::send_end::SendEnd;
@@ -23,7 +23,7 @@ pub struct WireNet<'a, R: Wait> {
 }
 
 impl<'a, R: Wait> WireNet<'a, R> {
-    ghost use Rattle.std.specs.Prelude.{◌≡◌, ◌<◌, ◌≤◌, [], ◌∷◌, length, option_to_list};
+    ghost use Rattle.std.specs.Prelude.{◌≡◌, ◌<◌, ◌≤◌, [], ◌∷◌, length, replicate, option_to_list};
     ghost use Rattle.ken_net.specs.Puts.{MayPut, handing};
     ghost use Rattle.ken_net.specs.Counts.{Counted};
     ghost use Rattle.ken_wire.specs.Ends.{taker_of};
@@ -34,7 +34,8 @@ impl<'a, R: Wait> WireNet<'a, R> {
         requires take { taker_of take ≡ node }
         requires own { AreFrom node sends.items }
         requires few { length sends.items ≤ 8 }
-        ensures { (result.node ≡ node) × (result.take ≡ take) × (result.sends ≡ sends) × (result.nones ≡ 0) }
+        ensures ends { (result.node ≡ node) × (result.take ≡ take) × (result.sends ≡ sends) }
+        ensures counts { (result.nones ≡ 0) × (result.puts ≡ replicate 8 0) }
     {
         WireNet {
             rt,
@@ -81,10 +82,9 @@ impl<'a, R: Wait> WireNet<'a, R> {
 }
 
 impl<'a, R: Wait> Base for WireNet<'a, R> {
-    ghost use Rattle.std.specs.Prelude.{◌≡◌, length, refl};
-    ghost use Rattle.std.proofs.Common.{◌∙◌};
-    ghost use Rattle.ken_wire.specs.Nets.{EndsGrew, AreCounted, Heard};
-    ghost use Rattle.ken_wire.specs.NetLaws.{ends_still, ends_join, counts_join, heard_still, heard_joins};
+    ghost use Rattle.std.specs.Prelude.{length};
+    ghost use Rattle.ken_wire.specs.Nets.{EndsGrew, Heard};
+    ghost use Rattle.ken_wire.specs.NetLaws.{ends_still, ends_join, heard_still, heard_joins};
 
     ghost node = { λ n. n.node };
 
@@ -114,7 +114,7 @@ impl<'a, R: Wait> Base for WireNet<'a, R> {
 }
 
 impl<'a, R: Wait> Net for WireNet<'a, R> {
-    ghost use Rattle.std.specs.Prelude.{◌≡◌, length, slice_index, refl};
+    ghost use Rattle.std.specs.Prelude.{length, slice_index, refl};
     ghost use Rattle.ken_wire.specs.Nets.{EndsGrew, AreCounted, Heard};
     ghost use Rattle.ken_wire.specs.NetLaws.{ends_still, ends_join, counts_join, heard_still, heard_joins};
 
