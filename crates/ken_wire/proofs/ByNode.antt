@@ -5,11 +5,12 @@ use Rattle.std.proofs.lemmas.Bool.{cases_lt}
 use Rattle.std.proofs.lemmas.List.{get_or-set_other, get_or_append_left, get_or_default, length-append}
 use Rattle.std.proofs.lemmas.Grind.{get_or-set_at}
 use Rattle.std.proofs.Math.Seq.{get_or-append_seam}
+use Rattle.ken_wire.specs.declared.view.Sent.{Sent}
 use Rattle.ken_wire.specs.declared.send_end.SendEnd.{SendEnd}
 use Rattle.ken_wire.specs.declared.take_end.TakeEnd.{TakeEnd}
-use Rattle.ken_wire.specs.Ends.{from_of, to_of, taker_of, made_of}
+use Rattle.ken_wire.specs.Ends.{from_of, to_of, taker_of, made_of, joined_of}
 use Rattle.ken_wire.specs.Nets.{AreFrom}
-use Rattle.ken_wire.specs.Rounds.{IsSeated, IsBackAt, AtEach}
+use Rattle.ken_wire.specs.Rounds.{HaveBack, IsSeated, IsBackAt, AtEach}
 
 module _ {X : Type 0} where
   -- the last of a list
@@ -83,3 +84,15 @@ back_more old takes all ends rest a b end n split count low is back same others 
           (subst (λ (x : SendEnd). IsBackAt (slice_index_or old k d) b x) end2
           (subst (λ (x : TakeEnd). IsBackAt x b end) old2 back))
     ]
+
+some_end : (ends : List SendEnd) (k : ℕ) → k < length ends → SendEnd
+some_end [] k low = absurd (omega (arith, low))
+some_end (e ∷ es) k low = e
+
+-- so one more end is back at each wire
+pub back_count : (old new : List TakeEnd) (ends : List SendEnd) (count : ℕ) → length ends ≡ length old → length new ≡ length old → AtEach IsBackAt old new ends → HaveBack count old → HaveBack (count + 1) new
+back_count old new ends count all same back before k d low =
+    let there : k < length old = omega (arith, low, same) in
+    let low2 : k < length ends = omega (arith, there, all) in
+    let b = back k d (some_end ends k low2) low2 in
+    ap (λ (l : List Sent). length l) b.3 ∙ length-append (joined_of (slice_index_or old k d)) _ ∙ ap (λ (n : ℕ). n + 1) (before k d there)

@@ -22,6 +22,10 @@ IsSeated old new e = SameTaker old new × (heard_of new ≡ heard_of old) × (jo
 abbrev pub IsBackAt : TakeEnd → TakeEnd → SendEnd → Type 0
 IsBackAt old new e = SameTaker old new × (heard_of new ≡ heard_of old) × (made_of new ≡ made_of old) × (joined_of new ≡ joined_of old ++ sent_of e ∷ [])
 
+-- so many ends came back to each wire
+abbrev pub HaveBack : ℕ → List TakeEnd → Type 0
+HaveBack count takes = (k : ℕ) (d : TakeEnd) → k < length takes → length (joined_of (slice_index_or takes k d)) ≡ count
+
 -- at each wire, with its end
 abbrev pub AtEach : (TakeEnd → TakeEnd → SendEnd → Type 0) → List TakeEnd → List TakeEnd → List SendEnd → Type 0
 AtEach P old new ends = (k : ℕ) (d : TakeEnd) (e : SendEnd) → k < length ends → P (slice_index_or old k d) (slice_index_or new k d) (slice_index_or ends k e)

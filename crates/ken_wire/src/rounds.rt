@@ -1,7 +1,7 @@
 // The ends of the wires to all nodes, node by node.
-ghost use Rattle.std.specs.Prelude.{◌≡◌, ◌+◌, ◌<◌, length, vec_len, IfOk, OnOk};
+ghost use Rattle.std.specs.Prelude.{◌≡◌, ◌+◌, ◌<◌, ℕ, length, IfOk, OnOk};
 ghost use Rattle.ken_wire.specs.Nets.{AreFrom};
-ghost use Rattle.ken_wire.specs.Rounds.{AreNext, AreUnused, IsSeated, IsBackAt, AtEach, MayComeBack};
+ghost use Rattle.ken_wire.specs.Rounds.{AreNext, AreUnused, HaveBack, IsSeated, IsBackAt, AtEach, MayComeBack};
 
 use crate::send_end::SendEnd;
 use crate::take_end::TakeEnd;
@@ -9,7 +9,7 @@ use std::alloc::{AllocError, Global};
 
 /// The taking ends of new wires to each of so many nodes, by number.
 pub fn takers(alloc: Global, nodes: u8) -> Result<Vec<TakeEnd>, AllocError>
-    ensures count { IfOk result (λ takes. vec_len takes ≡ nodes) }
+    ensures count { IfOk result (λ takes. length takes.items ≡ nodes) }
     ensures next { IfOk result (λ takes. AreNext 0 takes.items) }
     ensures new { IfOk result (λ takes. AreUnused takes.items) }
 {
@@ -25,7 +25,7 @@ pub fn takers(alloc: Global, nodes: u8) -> Result<Vec<TakeEnd>, AllocError>
 pub fn hand_out(alloc: Global, node: u8, takes: &mut [TakeEnd]) -> Result<Vec<SendEnd>, AllocError>
     requires few { node < 255 }
     requires next { AreNext node takes.old }
-    ensures count { IfOk result (λ ends. (vec_len ends ≡ length takes.old) × (length takes.new ≡ length takes.old)) }
+    ensures count { IfOk result (λ ends. (length ends.items ≡ length takes.old) × (length takes.new ≡ length takes.old)) }
     ensures next { OnOk result (AreNext (node + 1) takes.new) }
     ensures own { IfOk result (λ ends. AreFrom node ends.items) }
     ensures seated { IfOk result (λ ends. AtEach IsSeated takes.old takes.new ends.items) }
@@ -39,10 +39,11 @@ pub fn hand_out(alloc: Global, node: u8, takes: &mut [TakeEnd]) -> Result<Vec<Se
 
 /// Takes the sending ends of the next node back, one of each wire, by number.
 pub fn take_back(takes: &mut [TakeEnd], mut ends: Vec<SendEnd>)
-    requires count { vec_len ends ≡ length takes.old }
+    requires count { length ends.items ≡ length takes.old }
     requires next { MayComeBack takes.old ends.items }
     ensures count { length takes.new ≡ length takes.old }
     ensures back { AtEach IsBackAt takes.old takes.new ends.items }
+    ensures next { (back : ℕ) → HaveBack back takes.old → HaveBack (back + 1) takes.new }
 {
     while let Some(end) = ends.pop() {
         takes[ends.len()].join(end);

@@ -1,4 +1,4 @@
-ghost use Rattle.std.specs.Prelude.{◌≡◌, ◌<◌, ◌≤◌, length, vec_len, IfOk, IfSome};
+ghost use Rattle.std.specs.Prelude.{◌≡◌, ◌<◌, ◌≤◌, length, IfOk, IfSome};
 ghost use Rattle.ken_net.specs.Puts.{MayPut};
 ghost use Rattle.ken_wire.specs.Ends.{from_of, to_of};
 ghost use Rattle.ken_wire.specs.Nets.{AreFrom};
@@ -210,7 +210,7 @@ fn net_of<'a, R: Wait>(
     sends: Vec<SendEnd>,
 ) -> Option<WireNet<'a, R>>
     requires own { AreFrom node sends.items }
-    requires two { vec_len sends ≡ 2 }
+    requires two { length sends.items ≡ 2 }
     ensures { IfSome result (λ n. (n.node ≡ node) × (length n.sends.items ≡ 2)) }
 {
     let take = take?;

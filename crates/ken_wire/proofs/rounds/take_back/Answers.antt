@@ -3,7 +3,7 @@ use Rattle.std.specs.Prelude.{slice_index_or}
 use Rattle.std.proofs.lemmas.List.{get_or-set_other, get_or_append_left, length-set, length-append}
 use Rattle.ken_wire.specs.declared.send_end.SendEnd.{SendEnd}
 use Rattle.ken_wire.specs.Rounds.{IsBackAt}
-use Rattle.ken_wire.proofs.ByNode.{back_more}
+use Rattle.ken_wire.proofs.ByNode.{back_more, back_count}
 use Rattle.ken_wire.proofs.rounds.take_back.Goals as goal
 
 pub loop-end-preserved : goal.loop-end-preserved
@@ -31,3 +31,6 @@ pub returns-clause-back : goal.returns-clause-back
 returns-clause-back c = λ k d e low.
     let none : length c.loop-end.ends.items ≡ 0 = search rules in
     c.loop-end.invariant.back k d e (omega (arith, none)) low
+
+pub returns-clause-next : goal.returns-clause-next
+returns-clause-next c = λ count before. back_count c.args.takes.now c.loop-end.takes c.args.ends.items count c.requires.count c.loop-end.auto.takes (returns-clause-back c) before
