@@ -1,0 +1,4 @@
+pub mod Kept
+pub mod Changes
+pub mod Called
+pub mod Filled

@@ -1,0 +1,45 @@
+use Rattle.std.proofs.Common.{◌≡◌, ◌≤◌, ◌∙◌, [], ◌∷◌, length, sym, ap, arith}
+use Rattle.std.proofs.lemmas.Result.{err_from_is_err_and}
+use Rattle.ken_disk.proofs.Told.{tells_after}
+use Rattle.ken_image.specs.Calls.{Write}
+use Rattle.ken_image.specs.Pages.{place_of, ChangesPage, IsTornPage}
+use Rattle.ken_image.specs.Whole.{Keeps}
+use Rattle.ken_image.proofs.Kept.{keeps_written, page_synced, page_seen, torn_none, torn_page}
+use Rattle.ken_image.proofs.Changes.{changes_page}
+use Rattle.ken_image.proofs.Called.{wrote, wrote_ok, through_write, told_fault}
+use Rattle.ken_image.proofs.image.Image.patch.Goals as goal
+
+pub returns-in_err-write-clause-calls : goal.returns-in_err-write-clause-calls
+returns-in_err-write-clause-calls g c =
+    let p = err_from_is_err_and c.from_residual.result c.from_residual.ensures.1 in
+    rw (p.1, p.2) (told_fault (Write (place_of c.args.page) c.args.bytes.now ∷ []) (Unit {0}) (Unit {0}) _ _ _ _ c.in_err-write.was
+    (wrote (place_of c.args.page) c.args.bytes.now _ _ _ (rw (c.place.ensures, c.as_slice.ensures.same) at c.write.ensures.story)))
+
+pub returns-in_err-write-clause-any_moment : goal.returns-in_err-write-clause-any_moment
+returns-in_err-write-clause-any_moment g c =
+    let long : length c.args.bytes.now ≡ 256 = ap length (sym c.as_slice.ensures.same) ∙ c.as_slice.ensures.whole in
+    through_write (place_of c.args.page) c.args.bytes.now (λ h. IsTornPage c.args.page h.now) _ _ _ (rw (c.place.ensures, c.as_slice.ensures.same) at c.write.ensures.story)
+    (λ h told. torn_none c.args.page h.now)
+    (λ h told. torn_page c.args.page c.args.bytes.now h.now long (page_synced c.args.self.now.pages c.args.page h.now c.requires.page (c.requires.whole.keeps h told)))
+
+pub returns-clause-any_moment : goal.returns-clause-any_moment
+returns-clause-any_moment g c =
+    let long : length c.args.bytes.now ≡ 256 = ap length (sym c.as_slice.ensures.same) ∙ c.as_slice.ensures.whole in
+    through_write (place_of c.args.page) c.args.bytes.now (λ h. IsTornPage c.args.page h.now) _ _ _ (rw (c.place.ensures, c.as_slice.ensures.same) at c.write.ensures.story)
+    (λ h told. torn_none c.args.page h.now)
+    (λ h told. torn_page c.args.page c.args.bytes.now h.now long (page_synced c.args.self.now.pages c.args.page h.now c.requires.page (c.requires.whole.keeps h told)))
+
+pub returns-clause-changes : goal.returns-clause-changes
+returns-clause-changes g c =
+    let long : length c.args.bytes.now ≡ 256 = ap length (sym c.as_slice.ensures.same) ∙ c.as_slice.ensures.whole in
+    wrote_ok (λ h s. ChangesPage c.args.page c.args.bytes.now h.now.seen s.now.seen) _ _ _ _ c.in_ok-write.was (place_of c.args.page) c.args.bytes.now (rw (c.place.ensures, c.as_slice.ensures.same) at c.write.ensures.story)
+    (λ h told. changes_page c.args.page c.args.bytes.now h.now.seen long (page_seen c.args.self.now.pages c.args.page h.now c.requires.page (c.requires.whole.keeps h told)))
+
+pub returns-clause-whole : goal.returns-clause-whole
+returns-clause-whole g c = record {
+  room = omega (arith, c.requires.whole.room, c.in_ok-write.ensures.size);
+  keeps = tells_after (λ h s. Keeps c.args.self.now.pages h.now → Keeps c.args.self.now.pages s.now) (λ h. Keeps c.args.self.now.pages h.now) _ _
+      (wrote_ok (λ h s. Keeps c.args.self.now.pages h.now → Keeps c.args.self.now.pages s.now) _ _ _ _ c.in_ok-write.was (place_of c.args.page) c.args.bytes.now (rw (c.place.ensures, c.as_slice.ensures.same) at c.write.ensures.story)
+      (λ h told. keeps_written c.args.self.now.pages (place_of c.args.page) c.args.bytes.now h.now (let inside : place_of c.args.page ≤ place_of c.args.self.now.pages = omega (arith, c.requires.page) in inside)))
+      (λ h s told so. so (c.requires.whole.keeps h told));
+}

@@ -1,0 +1,4 @@
+pub mod Calls
+pub mod Pages
+pub mod Faults
+pub mod Whole

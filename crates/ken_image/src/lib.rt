@@ -1,0 +1,11 @@
+//! The image of a heap on a disk: pages that are written one at a time, and made safe by a sync.
+#![tactic(auto)]
+
+mod faults;
+mod format;
+mod image;
+#[cfg(test)]
+mod tests;
+
+pub use faults::ImageFault;
+pub use image::Image;
