@@ -1,15 +1,16 @@
 ghost use Rattle.std.specs.Prelude.{◌≡◌, ℕ, Option, Some, ◌+◌, ◌≤◌, ◌∷◌, ◌++◌, [], length, IfOk, IsErrOf};
+ghost use Rattle.std.specs.List.{AllByRecursion};
 ghost use Rattle.ken_disk.specs.Causes.{HasCause};
 ghost use Rattle.ken_disk.specs.Fates.{Suffers};
 ghost use Rattle.ken_disk.specs.Story.{Tells, Follows, IsAtRest};
 ghost use Rattle.ken_record.specs.Reading.{header_at};
 ghost use Rattle.ken_record.specs.Spelling.{header_bytes};
-ghost use Rattle.ken_record.specs.Grammar.{IsHeader};
-ghost use Rattle.ken_record.specs.Versions.{One};
+ghost use Rattle.ken_record.specs.Grammar.{IsHeader, IsRecord};
+ghost use Rattle.ken_record.specs.Versions.{One, version_of};
 ghost use Rattle.ken_record.specs.declared.header.Header.{Header};
 ghost use Rattle.ken_record.specs.declared.base.Base.{Base};
 ghost use Rattle.ken_log.specs.Mounts.{Damaged, Whole, mount_of, records_from, after_header};
-ghost use Rattle.ken_log.specs.Layout.{IsHead, IsLogOf};
+ghost use Rattle.ken_log.specs.Layout.{IsHead, IsLogOf, log_bytes};
 ghost use Rattle.ken_log.specs.Mounting.{Answers, HasMountCause, as_read, IsFirst, IsBased, IsNext, AreOpened, IsDamaged, NextIs, disk_with, fault_with};
 ghost use Rattle.ken_log.specs.Settled.{IsSettled};
 
@@ -37,6 +38,8 @@ impl<D: Disk> Log<D> {
         ensures mounts { Tells (D.told disk) (λ h. Answers (λ x. Whole x.0.header x.0.base x.1.items) (fault_with result) (mount_of h.now.seen)) }
         ensures settled { IfOk result (λ x. IsSettled D.told D.size x.0) }
         ensures count { IfOk result (λ x. x.0.records ≡ length x.1.items) }
+        ensures items { IfOk result (λ x. AllByRecursion (IsRecord (version_of x.0.header)) x.1.items) }
+        ensures end { IfOk result (λ x. length (log_bytes x.0.header x.0.base x.1.items) ≡ x.0.end) }
         ensures story { D.told (disk_with result) ≡ D.told disk }
         ensures cause { HasMountCause (D.faults disk) (D.faults (disk_with result)) (fault_with result) }
         ensures fate { Follows (Suffers (as_read (fault_with result))) (D.fate disk) (D.fate (disk_with result)) }
@@ -68,6 +71,8 @@ fn find<D: Disk>(alloc: Global, disk: &mut D) -> Result<Found, LogFault>
     ensures lies { Tells (D.told disk.old) (λ h. IfOk result (λ f. IsLogOf h.now.seen f.header f.base f.records.items f.end)) }
     ensures head { IfOk result (λ f. IsHead f.header f.base) }
     ensures few { IfOk result (λ f. length f.records.items ≤ f.end) }
+    ensures items { IfOk result (λ f. AllByRecursion (IsRecord (version_of f.header)) f.records.items) }
+    ensures end { IfOk result (λ f. length (log_bytes f.header f.base f.records.items) ≡ f.end) }
     ensures room { IfOk result (λ f. f.end + 1 ≤ D.size disk.new) }
     ensures story { D.told disk.new ≡ D.told disk.old }
     ensures cause { HasMountCause (D.faults disk.old) (D.faults disk.new) result }
