@@ -91,6 +91,14 @@ impl Record {
         self.put_fields(out)
     }
 
+    /// The bytes of its spelling: four of the length, and its fields.
+    pub fn spelled_len(&self) -> usize
+        requires { IsRecord One self.now }
+        ensures { result ≡ length (record_bytes One self.now) }
+    {
+        4 + self.fields_len()
+    }
+
     // The bytes of its fields.
     #[tactic(auto, using(crate::proofs::Sizes::fields_long))]
     fn fields_len(&self) -> usize
