@@ -1,0 +1,160 @@
+// The numbers that a node's records come to.
+ghost use Rattle.std.specs.Prelude.{◌≡◌, ◌+◌, ◌≤◌, ◌<◌, ◌==◌, slice_index_or, IsTrue};
+ghost use Rattle.ken_record.specs.Grammar.{IsBase};
+ghost use Rattle.ken_record.specs.Versions.{One};
+ghost use Rattle.ken_store.specs.Bases.{base_numbers};
+ghost use Rattle.ken_store.specs.Numbers.{no_numbers, sender_index, sends_follow, sent_after, outs_follow, outputs_after, are_within, comes_next, follows, after_record};
+
+use crate::owner::Owner;
+use ken_model::{MAX_NODES, OUTSIDE, Out};
+use ken_record::{Base, Header, Page, Record, SENDERS, Sent};
+
+// One for each node that there may be.
+pub(crate) const NODES: usize = MAX_NODES as usize;
+
+/// How far a node has come: the numbers that each record goes on with.
+#[derive(Clone, Copy, Debug)]
+pub(crate) struct Numbers {
+    pub turns: u64,
+    pub stamp: u64,
+    // From the nodes 0 to 7, and then from the outside.
+    pub consumed: [u64; SENDERS],
+    // To the nodes 0 to 7.
+    pub sent: [u64; NODES],
+    pub outputs: u64,
+}
+
+impl Numbers {
+    // Those of a node that made no turn.
+    pub(crate) fn none() -> Self
+        ensures { result ≡ no_numbers }
+    {
+        Numbers {
+            turns: 0,
+            stamp: 0,
+            consumed: [0; SENDERS],
+            sent: [0; NODES],
+            outputs: 0,
+        }
+    }
+
+    // Those that a log's base tells.
+    pub(crate) fn of(header: &Header, base: &Base) -> Self
+        requires { IsBase One base.now }
+        ensures { result ≡ base_numbers header.now base.now }
+    {
+        let mut consumed = [0; SENDERS];
+        consumed.copy_from_slice(base.consumed.as_slice());
+        let mut sent = [0; NODES];
+        sent.copy_from_slice(base.sent.as_slice());
+        Numbers {
+            turns: header.turns,
+            stamp: base.stamp,
+            consumed,
+            sent,
+            outputs: base.outputs,
+        }
+    }
+
+    // Takes the numbers of a record over, where it follows these. Else nothing changes.
+    pub(crate) fn take(&mut self, owner: &Owner, item: &Record) -> bool
+        requires { owner.now.nodes ≤ 8 }
+        ensures follows { result ≡ follows owner.now self.old item.now }
+        ensures taken { IsTrue result → self.new ≡ after_record self.old item.now }
+    {
+        if !self.comes_next(owner, item) {
+            return false;
+        }
+        let mut sent = self.sent;
+        let sends_follow = take_sends(&mut sent, owner.nodes, item.sends.as_slice());
+        let mut outputs = self.outputs;
+        let outs_follow = take_outs(&mut outputs, item.outs.as_slice());
+        if !(sends_follow && outs_follow && are_within(owner.pages, item.pages.as_slice())) {
+            return false;
+        }
+        self.turns = item.turn;
+        self.stamp = item.stamp;
+        self.consumed[sender_index(item.from)] = item.number;
+        self.sent = sent;
+        self.outputs = outputs;
+        true
+    }
+
+    // Whether the record's turn, stamp and message come next.
+    fn comes_next(&self, owner: &Owner, item: &Record) -> bool
+        requires { owner.now.nodes ≤ 8 }
+        ensures next { result ≡ comes_next owner.now self.now item.now }
+        ensures sender { IsTrue result → sender_index item.now.from < 9 }
+    {
+        let sender = item.from < owner.nodes || item.from == OUTSIDE;
+        is_next(self.turns, item.turn)
+            && self.stamp < item.stamp
+            && sender
+            && is_next(self.consumed_from(item.from), item.number)
+    }
+
+    // The number of the last message that was consumed from a sender.
+    fn consumed_from(&self, from: u8) -> u64
+        ensures { result ≡ slice_index_or self.now.consumed (sender_index from) 0 }
+    {
+        self.consumed.get(sender_index(from)).copied().unwrap_or(0)
+    }
+}
+
+// Whether a number comes after another.
+pub(crate) fn is_next(last: u64, number: u64) -> bool
+    ensures { result ≡ (number == last + 1) }
+{
+    last < number && number - last == 1
+}
+
+// Where a sender is counted.
+fn sender_index(from: u8) -> usize
+    ensures { result ≡ sender_index from }
+{
+    if from == OUTSIDE {
+        NODES
+    } else {
+        from as usize
+    }
+}
+
+// Whether the sends follow; then these are the numbers of their links.
+fn take_sends(sent: &mut [u64; NODES], nodes: u8, sends: &[Sent]) -> bool
+    requires { nodes ≤ 8 }
+    ensures follow { result ≡ sends_follow nodes sent.old sends.now }
+    ensures taken { IsTrue result → sent.new ≡ sent_after sent.old sends.now }
+{
+    for send in sends {
+        if send.to >= nodes {
+            return false;
+        }
+        let to = send.to as usize;
+        if !is_next(sent[to], send.number) {
+            return false;
+        }
+        sent[to] = send.number;
+    }
+    true
+}
+
+// Whether the outputs follow; then this is the last one's number.
+pub(crate) fn take_outs(last: &mut u64, outs: &[Out]) -> bool
+    ensures follow { result ≡ outs_follow last.old outs.now }
+    ensures taken { IsTrue result → last.new ≡ outputs_after last.old outs.now }
+{
+    for out in outs {
+        if !is_next(*last, out.number) {
+            return false;
+        }
+        *last = out.number;
+    }
+    true
+}
+
+// Whether all pages lie in a heap of so many.
+pub(crate) fn are_within(count: u32, pages: &[Page]) -> bool
+    ensures { result ≡ are_within count pages.now }
+{
+    pages.iter().all(|page| page.page < count)
+}

@@ -1,0 +1,173 @@
+// A store is recovered from its disks.
+ghost use Rattle.std.specs.Prelude.{◌≡◌, ◌≤◌, ◌<◌, ◌^◌, ℕ, length, IfOk, IsErrOf};
+ghost use Rattle.std.specs.List.{AllByRecursion};
+ghost use Rattle.ken_disk.specs.Story.{Tells, IsAtRest};
+ghost use Rattle.ken_record.specs.Grammar.{IsRecord};
+ghost use Rattle.ken_record.specs.Versions.{One};
+ghost use Rattle.ken_log.specs.Layout.{log_bytes};
+ghost use Rattle.ken_log.specs.Mounts.{mount_of};
+ghost use Rattle.ken_log.specs.Settled.{IsSettled};
+ghost use Rattle.ken_store.specs.Answers.{TellsAll, AreAtRest, disks_from, disks_of, answer_of, Answers, IsOver, IsMounted, IsReady, Mounts};
+ghost use Rattle.ken_store.specs.Logs.{front_of, logs_of};
+ghost use Rattle.ken_store.specs.Reads.{ReadsDisks};
+ghost use Rattle.ken_store.specs.Recovered.{checked, recovered, with_log, with_state};
+
+use crate::StoreFault;
+use crate::disks::{Disks, apart};
+use crate::faults::of_log;
+use crate::heads::{Logs, front_on, logs_of};
+use crate::heap::rebuild;
+use crate::owner::Owner;
+use crate::state::{Heads, state_of};
+use crate::store::{PatchSide, Recovered, Store, TurnSide};
+use crate::together::together;
+use crate::waiting::base_pages;
+use ken_disk::Disk;
+use ken_image::Image;
+use ken_log::Log;
+use ken_model::{Items, PAGE};
+use ken_record::Record;
+use std::alloc::Global;
+
+/// Finds the store of a node on its disks, and writes nothing. It reads the headers of both logs, and then each byte of the
+/// current log and of the image once. The errors: `Damaged` where the bytes of an item are wrong, with the disk's number and
+/// the place, which for a missing part is the end; `Disk` where a read failed, and `Memory`. Each hands the disks back as
+/// they were.
+pub fn recover<D: Disk>(
+    alloc: Global,
+    mut disks: Disks<D>,
+    node: u8,
+    nodes: u8,
+    pages: u32,
+) -> Result<Recovered<D>, (StoreFault, Disks<D>)>
+    requires node { node < nodes }
+    requires nodes { nodes ≤ 8 }
+    requires some { 1 ≤ pages }
+    requires most { pages ≤ 4096 }
+    requires rests { AreAtRest D.told disks }
+    ensures answers { TellsAll D.told disks (λ l i s. Answers (answer_of result) (recovered (record { node = node; nodes = nodes; pages = pages }) l.now.seen i.now.seen s.now.seen)) }
+    ensures records { TellsAll D.told disks (λ l i s. Mounts (answer_of result) l.now.seen s.now.seen) }
+    ensures ready { IsReady D.told D.size (answer_of result) }
+    ensures reads { ReadsDisks D.told D.faults D.fate (answer_of result) disks (disks_of result) }
+{
+    let logs = match logs_on(alloc, &mut disks) {
+        Ok(logs) => logs,
+        Err(fault) => return Err((fault, disks)),
+    };
+    match logs {
+        Logs::NoLogs => Ok(Recovered::Fresh(disks)),
+        Logs::WrongHeader(which) => {
+            let fault = StoreFault::Damaged {
+                disk: which.number(),
+                place: 0,
+            };
+            Err((fault, disks))
+        }
+        Logs::Current(which, first, second) => {
+            let owner = Owner { node, nodes, pages };
+            let heads = Heads {
+                which,
+                first,
+                second,
+            };
+            let (current, image, other) = apart(which, disks);
+            recover_log(alloc, owner, heads, current, image, other)
+        }
+    }
+}
+
+// What the two logs are.
+fn logs_on<D: Disk>(alloc: Global, disks: &mut Disks<D>) -> Result<Logs, StoreFault>
+    ensures logs { TellsAll D.told disks.old (λ l i s. IfOk result (λ logs. logs ≡ logs_of (front_of l.now.seen) (front_of s.now.seen))) }
+    ensures reads { ReadsDisks D.told D.faults D.fate result disks.old disks.new }
+    ensures sound { (n : ℕ) (place : ℕ) → IsErrOf result (StoreFault.Damaged n place) → ⊥ }
+{
+    let first = front_on(alloc, &mut disks.log)?;
+    let second = front_on(alloc, &mut disks.second)?;
+    Ok(logs_of(first, second))
+}
+
+// The store whose current log stands on this disk.
+fn recover_log<D: Disk>(
+    alloc: Global,
+    owner: Owner,
+    heads: Heads,
+    current: D,
+    image: D,
+    other: D,
+) -> Result<Recovered<D>, (StoreFault, Disks<D>)>
+    requires nodes { owner.nodes ≤ 8 }
+    requires some { 1 ≤ owner.pages }
+    requires most { owner.pages ≤ 4096 }
+    requires current { Tells (D.told current) (λ h. IsAtRest h.now) }
+    requires image { Tells (D.told image) (λ h. IsAtRest h.now) }
+    ensures answers { Tells (D.told current) (λ c. Tells (D.told image) (λ i. Answers (answer_of result) (with_log owner heads.which heads.first heads.second i.now.seen (mount_of c.now.seen)))) }
+    ensures ready { IsReady D.told D.size (answer_of result) }
+    ensures records { Tells (D.told current) (λ c. IsMounted (answer_of result) heads.which c.now.seen) }
+    ensures reads { ReadsDisks D.told D.faults D.fate (answer_of result) (disks_from heads.which current image other) (disks_of result) }
+{
+    match Log::mount(alloc, current) {
+        Ok((log, records)) => recover_store(alloc, owner, heads, log, records, image, other),
+        Err((fault, current)) => Err((
+            of_log(heads.which, fault),
+            together(heads.which, current, image, other),
+        )),
+    }
+}
+
+// The store over this log, which mounted with these records.
+fn recover_store<D: Disk>(
+    alloc: Global,
+    owner: Owner,
+    heads: Heads,
+    log: Log<D>,
+    records: Vec<Record>,
+    image: D,
+    other: D,
+) -> Result<Recovered<D>, (StoreFault, Disks<D>)>
+    requires nodes { owner.nodes ≤ 8 }
+    requires some { 1 ≤ owner.pages }
+    requires most { owner.pages ≤ 4096 }
+    requires settled { IsSettled D.told D.size log }
+    requires items { AllByRecursion (IsRecord One) records.items }
+    requires end { length (log_bytes log.header log.base records.items) < 2 ^ 64 }
+    requires image { Tells (D.told image) (λ h. IsAtRest h.now) }
+    ensures answers { Tells (D.told image) (λ i. Answers (answer_of result) (with_state owner log.base records.items i.now.seen (checked owner heads.which heads.first heads.second log.header log.base records.items))) }
+    ensures ready { IsReady D.told D.size (answer_of result) }
+    ensures over { IsOver (answer_of result) heads.which log records.items }
+    ensures reads { ReadsDisks D.told D.faults D.fate (answer_of result) (disks_from heads.which log.disk image other) (disks_of result) }
+{
+    let which = heads.which;
+    let state = match state_of(alloc, &owner, &heads, &log, &records) {
+        Ok(state) => state,
+        Err(fault) => return Err((fault, together(which, log.release(), image, other))),
+    };
+    let len = image.len();
+    if len < PAGE * u64::from(owner.pages) {
+        let fault = StoreFault::Damaged {
+            disk: 1,
+            place: len,
+        };
+        return Err((fault, together(which, log.release(), image, other)));
+    }
+    let mut image = Image::mount(image, owner.pages);
+    match rebuild(alloc, &mut image, base_pages(&log), &records) {
+        Ok(objects) => {
+            let turns = TurnSide {
+                log,
+                which,
+                other,
+                objects,
+            };
+            let store = Store {
+                turns,
+                patches: PatchSide { image },
+            };
+            Ok(Recovered::Whole(store, state, Items::new(records)))
+        }
+        Err(fault) => Err((
+            fault,
+            together(which, log.release(), image.release(), other),
+        )),
+    }
+}
