@@ -4,8 +4,6 @@
 mod faults;
 mod format;
 mod image;
-#[cfg(test)]
-mod tests;
 
 pub use faults::ImageFault;
 pub use image::Image;

@@ -14,8 +14,6 @@ mod lossy;
 mod net;
 mod passing;
 mod plain;
-#[cfg(test)]
-mod tests;
 
 pub use act::{Act, LinkAct};
 pub use base::Base;

@@ -12,8 +12,6 @@ mod recovery;
 mod resume;
 mod state;
 mod store;
-#[cfg(test)]
-mod tests;
 mod together;
 mod waiting;
 

@@ -12,6 +12,8 @@ mod frames;
 #[cfg(test)]
 mod heap_pages;
 #[cfg(test)]
+mod images;
+#[cfg(test)]
 mod kinds;
 #[cfg(test)]
 mod logs;
@@ -19,6 +21,8 @@ mod logs;
 mod memory_disks;
 #[cfg(test)]
 mod model;
+#[cfg(test)]
+mod networks;
 #[cfg(test)]
 mod objects;
 #[cfg(test)]
@@ -29,6 +33,8 @@ mod outboxes;
 mod packets;
 #[cfg(test)]
 mod records;
+#[cfg(test)]
+mod recoveries;
 #[cfg(test)]
 mod reports;
 #[cfg(test)]

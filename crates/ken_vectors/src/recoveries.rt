@@ -2,10 +2,10 @@
 ghost use Rattle.std.specs.Prelude.{◌≤◌, length, IfOk};
 ghost use Rattle.ken_disk.specs.Story.{IsAtRest};
 
-use super::*;
 use ken_disk::write_through;
 use ken_memdisk::MemDisk;
 use ken_model::{Items, State, Value};
+use ken_store::*;
 use std::alloc::{AllocError, Global};
 use std::test::Fail;
 

@@ -3,9 +3,9 @@ ghost use Rattle.std.specs.Prelude.{◌≡◌, ◌<◌, IfOk};
 ghost use Rattle.ken_disk.specs.Story.{IsAtRest};
 ghost use Rattle.ken_image.specs.Whole.{IsWhole};
 
-use super::*;
 use ken_disk::Disk;
 use ken_frame::{FRAME, Frame};
+use ken_image::*;
 use ken_memdisk::{Cut, MemDisk};
 use std::alloc::{AllocError, Global};
 use std::process::Abort;

@@ -6,7 +6,7 @@ use Rattle.ken_packet.specs.declared.packet.Packet.TheVariants.{Mail}
 use Rattle.ken_packet.specs.Reading.{packet_of}
 use Rattle.ken_packet.proofs.Whole.{packet_again}
 use Rattle.ken_net.specs.Puts.{own_sealed}
-use Rattle.ken_net.proofs.tests.put.Goals as goal
+use Rattle.ken_vectors.proofs.networks.put.Goals as goal
 
 pub put_as-requires-clause-may : goal.put_as-requires-clause-may
 put_as-requires-clause-may g c =

@@ -2,8 +2,8 @@ ghost use Rattle.std.specs.Prelude.{◌≡◌, ◌<◌, ◌≤◌, ◌^◌, leng
 ghost use Rattle.ken_packet.specs.Packets.{IsMail};
 ghost use Rattle.ken_net.specs.Puts.{MayPut};
 
-use super::*;
 use ken_model::{Message, Octets};
+use ken_net::*;
 use ken_packet::{Packet, PacketFault, decode, encode_mail};
 use std::alloc::{AllocError, Global};
 use std::marker::Brand;
