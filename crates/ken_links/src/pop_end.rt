@@ -44,6 +44,25 @@ impl<T> PopEnd<T> {
         }
     }
 
+    /// Takes the oldest item, where one is known.
+    pub fn pop_known(&mut self) -> T
+        requires { 0 < length (known self.old) }
+        ensures ring { SamePopEnd self.old self.new }
+        ensures popped { popped self.new ≡ popped self.old ++ result ∷ [] }
+        ensures known { known self.old ≡ result ∷ known self.new }
+        ensures nones { nones self.new ≡ nones self.old }
+    {
+        self.consumer.pop_known()
+    }
+
+    /// How many items this end knows to be in the ring, at most 64. There may be more.
+    pub fn known(&self) -> usize
+        ensures known { result ≡ length (known self.now) }
+        ensures most { result ≤ 64 }
+    {
+        self.consumer.cached_slots()
+    }
+
     /// How many pops gave `None`. The count never falls, and stands still at 2^64 - 1.
     pub fn nones(&self) -> u64
         ensures { result ≡ nones self.now }

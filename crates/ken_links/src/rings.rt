@@ -50,8 +50,7 @@ pub fn empty<T>(
     ensures full { OnErr result (vec_capacity into.old < vec_len into.old + 64) }
 {
     beside(push, pop);
-    let waiting = pop.consumer.cached_slots();
-    into.reserve(waiting)?;
+    into.reserve(pop.known())?;
     move_known(pop, into);
     beside(push, pop);
     Ok(())
@@ -64,7 +63,7 @@ fn move_known<T>(pop: &mut PopEnd<T>, into: &mut Vec<T>)
     ensures popped { popped pop.new ≡ popped pop.old ++ known pop.old }
     ensures list { into.new.items ≡ into.old.items ++ known pop.old }
 {
-    for _ in 0..pop.consumer.cached_slots() {
-        into.push_reserved(pop.consumer.pop_known());
+    for _ in 0..pop.known() {
+        into.push_reserved(pop.pop_known());
     }
 }

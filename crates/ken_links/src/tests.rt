@@ -63,6 +63,7 @@ fn a_slot_whose_item_was_popped_is_free(rt: HostRuntime) -> Result<(), AllocErro
     assert_eq!(rt; push.free(), 61);
     beside(&mut push, &mut pop);
     assert_eq!(rt; push.free(), 62);
+    assert_eq!(rt; pop.known(), 2);
     assert_eq!(rt; pop.pop(), Some(1));
     Ok(())
 }
