@@ -5,6 +5,7 @@ mod Aimed
 mod Wires
 mod ByNode
 mod Mails
+mod Whole
 mod Calls
 mod Came
 pub mod Steps

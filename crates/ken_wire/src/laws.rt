@@ -1,5 +1,5 @@
 // Laws of wires, which no single call shows.
-ghost use Rattle.std.specs.Prelude.{◌≡◌, ◌+◌, ℕ, ◌<◌, true, List, [], ◌∷◌, ◌++◌, length, slice_index_or};
+ghost use Rattle.std.specs.Prelude.{◌≡◌, ◌+◌, ℕ, ◌<◌, true, List, [], ◌∷◌, ◌++◌, length, slice_index_or, sum_by};
 ghost use Rattle.std.specs.List.{Contains};
 ghost use Rattle.crossbeam_queue.specs.Fifo.{Pushes, Pops, Forks, Merges, Learns};
 ghost use Rattle.ken_model.specs.declared.messages.Message.{Message};
@@ -7,8 +7,8 @@ ghost use Rattle.ken_net.specs.Puts.{Put, MayPut};
 ghost use Rattle.ken_wire.specs.declared.view.Sent.{Sent};
 ghost use Rattle.ken_wire.specs.declared.view.View.{View};
 ghost use Rattle.ken_wire.specs.Views.{nothing, after_put, sending, taking, spent};
-ghost use Rattle.ken_wire.specs.Rule.{WireRule, Tells};
-ghost use Rattle.ken_wire.specs.Ends.{WasHandedIn};
+ghost use Rattle.ken_wire.specs.Rule.{of, WireRule, Tells};
+ghost use Rattle.ken_wire.specs.Ends.{Carried, WasHandedIn};
 ghost use Rattle.ken_wire.specs.Nets.{Grew, sealed_to, consumed_to};
 
 /// Where the ends of a wire to node `to` were new, and each went by the puts of its node, each packet heard is one that a
@@ -31,4 +31,10 @@ pub fn each_step_keeps_the_rule()
     ensures join { (end : ℕ) (v : View) (other : ℕ) (u : View) → v.takes ≡ true → u.sends ≡ true → u.from ≡ length v.joined
         → Merges WireRule end v other u (taking v.made v.heard (v.joined ++ u.sent ∷ [])) spent }
     ensures told { (end : ℕ) (v : View) → v.takes ≡ true → Learns WireRule end v (Tells v.made v.joined v.heard) }
+{}
+
+/// Where as many packets were heard as were put in all, none was lost: of each node just its puts were heard, in order.
+pub fn nothing_is_lost()
+    ensures { (to : ℕ) (sents : List Sent) (heard : List (List ℕ)) → Carried to sents heard → length heard ≡ sum_by (λ (s : Sent). length s.put) sents
+        → (k : ℕ) → k < length sents → of k heard ≡ (slice_index_or sents k nothing).put }
 {}
