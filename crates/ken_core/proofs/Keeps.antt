@@ -52,7 +52,7 @@ raised_most (a ∷ xs) (b ∷ ys) bound one other zero = let l = one 0 in let r 
 raised_most (a ∷ xs) (b ∷ ys) bound one other (suc x) = raised_most xs ys (λ k. bound (suc k)) (λ k. one (suc k)) (λ k. other (suc k)) x
 
 -- changed pages lie in a heap of n pages
-changed_within : (n : ℕ) (heap : List ℕ) (pages : List Page) → length heap ≡ 256 * n → AllByRecursion (IsChanged heap) pages → AreWithin n pages
+pub changed_within : (n : ℕ) (heap : List ℕ) (pages : List Page) → length heap ≡ 256 * n → AllByRecursion (IsChanged heap) pages → AreWithin n pages
 changed_within n heap [] size all = tt
 changed_within n heap (e ∷ es) size all = let within = all.0.within in ((omega arith, all.0.bytes), changed_within n heap es size all.1)
 
@@ -61,7 +61,7 @@ no_outs : (v w : ℕ) (n : Node) (o : Option Message) → (mail_out v w n o).out
 no_outs v w n None = refl
 no_outs v w n (Some m) = refl
 
-abbrev with_up : Bool → Node → Node
+abbrev pub with_up : Bool → Node → Node
 with_up up n = record n { turning = record n.turning { up = up } }
 
 module _ (g : Game) (put : Packet → Type 0) (h : ℕ → List Turn) (v : ℕ) (sent : (m : Message) → put (Mail m) → IsSent g h m) (heard : (a : Receipt) → put (Answer a) → a.through ≤ length (consumed a.to (h a.from))) where

@@ -7,4 +7,17 @@ pub mod Clusters
 pub mod Accord
 pub mod Runs
 pub mod Calls
+pub mod Sets
+pub mod Pages
+pub mod Machines
+pub mod Staying
+pub mod Ledgers
+pub mod Groups
+pub mod Marking
+pub mod Turnovers
+pub mod Sealings
+pub mod Seals
+pub mod Next
+pub mod First
+pub mod Programs
 pub mod Laws

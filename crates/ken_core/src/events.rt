@@ -1,3 +1,6 @@
+ghost use Rattle.std.specs.Prelude.{◌≡◌};
+ghost use Rattle.ken_core.specs.Clusters.{node_of};
+
 use ken_model::{Items, Out};
 use ken_record::{Page, Sent};
 
@@ -102,4 +105,25 @@ pub enum Event {
     Recover {
         node: u8,
     },
+}
+
+impl Event {
+    /// The node at which it happens.
+    pub fn node(&self) -> u8
+        ensures { result ≡ node_of self.now }
+    {
+        match self {
+            Event::Seal { node, .. }
+            | Event::SealCut { node, .. }
+            | Event::Patch { node, .. }
+            | Event::SyncImage { node }
+            | Event::Turnover { node, .. }
+            | Event::Send { node, .. }
+            | Event::Ack { node, .. }
+            | Event::TakeAck { node, .. }
+            | Event::Emit { node }
+            | Event::Crash { node, .. }
+            | Event::Recover { node } => *node,
+        }
+    }
 }

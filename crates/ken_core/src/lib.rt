@@ -2,9 +2,27 @@
 //! `specs/`.
 #![tactic(auto)]
 
+mod bases;
+mod bytes;
+mod cluster;
+mod copies;
+mod crashes;
 mod events;
+mod first;
+mod group;
 mod laws;
+mod ledger;
+mod machine;
+mod marks;
+mod number_set;
+mod pages;
+mod patches;
+mod posting;
+mod sealing;
+mod seals;
+mod turnovers;
 
+pub use cluster::Cluster;
 pub use events::{Effects, Event, Outcome, Told};
 pub use laws::{
     call_keeps_accord, events_keep_accord, history_is_legal, puts_are_handed_in,

@@ -1,0 +1,105 @@
+// Copies of data of the core.
+ghost use Rattle.std.specs.Prelude.{◌≡◌, IfOk, map};
+ghost use Rattle.ken_cover.specs.Sides.{changes_at, recounted};
+ghost use Rattle.ken_core.specs.Turns.{effects_line};
+
+use crate::Effects;
+use ken_cover::{Change, Layer};
+use ken_model::{Items, Message, Octets, Out};
+use ken_record::Page;
+use std::alloc::{AllocError, Global};
+
+pub(crate) fn octets(alloc: Global, bytes: &Octets) -> Result<Octets, AllocError>
+    ensures { IfOk result (λ x. x ≡ bytes.now) }
+{
+    Ok(Octets::new(Vec::from_slice(alloc, bytes.as_slice())?))
+}
+
+pub(crate) fn page(alloc: Global, page: &Page) -> Result<Page, AllocError>
+    ensures { IfOk result (λ x. x ≡ page.now) }
+{
+    Ok(Page {
+        page: page.page,
+        bytes: octets(alloc, &page.bytes)?,
+    })
+}
+
+pub(crate) fn out(alloc: Global, out: &Out) -> Result<Out, AllocError>
+    ensures { IfOk result (λ x. x ≡ out.now) }
+{
+    Ok(Out {
+        number: out.number,
+        text: octets(alloc, &out.text)?,
+    })
+}
+
+pub(crate) fn message(alloc: Global, message: &Message) -> Result<Message, AllocError>
+    ensures { IfOk result (λ x. x ≡ message.now) }
+{
+    Ok(Message {
+        from: message.from,
+        to: message.to,
+        number: message.number,
+        stamp: message.stamp,
+        bytes: octets(alloc, &message.bytes)?,
+    })
+}
+
+pub(crate) fn draws(alloc: Global, draws: &[u64]) -> Result<Items<u64>, AllocError>
+    ensures { IfOk result (λ x. x ≡ draws.now) }
+{
+    Ok(Items::new(Vec::from_slice(alloc, draws)?))
+}
+
+/// The pages that a turn changed, as the layer of its record.
+pub(crate) fn layer(alloc: Global, turn: u64, pages: &[Page]) -> Result<Layer, AllocError>
+    ensures { IfOk result (λ l. l ≡ record { turn = turn; changes = changes_at turn pages.now }) }
+{
+    let mut changes = Vec::with_capacity(alloc, pages.len())?;
+    for changed in pages {
+        changes.push(Change {
+            turn,
+            page: page(alloc, changed)?,
+        })?;
+    }
+    Ok(Layer {
+        turn,
+        changes: Items::new(changes),
+    })
+}
+
+/// A layer whose pages count as changed by its last turn.
+pub(crate) fn recounted(alloc: Global, layer: &Layer) -> Result<Layer, AllocError>
+    ensures { IfOk result (λ l. l ≡ recounted layer.now) }
+{
+    let mut changes = Vec::with_capacity(alloc, layer.changes.len())?;
+    for change in layer.changes.as_slice() {
+        changes.push(Change {
+            turn: layer.turn,
+            page: page(alloc, &change.page)?,
+        })?;
+    }
+    Ok(Layer {
+        turn: layer.turn,
+        changes: Items::new(changes),
+    })
+}
+
+/// A turn, as a line of the report.
+pub(crate) fn line(
+    alloc: Global,
+    node: u8,
+    effects: &Effects,
+) -> Result<ken_model::TurnLine, AllocError>
+    ensures { IfOk result (λ l. l ≡ effects_line node effects.now) }
+{
+    Ok(ken_model::TurnLine {
+        stamp: effects.stamp,
+        step: ken_model::Step {
+            node,
+            from: effects.from,
+            draws: draws(alloc, effects.draws.as_slice())?,
+        },
+        number: effects.number,
+    })
+}
