@@ -20,6 +20,8 @@ mod patches;
 mod posting;
 mod sealing;
 mod seals;
+#[cfg(test)]
+mod tests;
 mod turnovers;
 
 pub use cluster::Cluster;
