@@ -22,3 +22,5 @@ pub mod Coming
 pub mod Sealable
 pub mod Firsts
 pub mod Going
+pub mod Inserted
+pub mod Rising

@@ -32,3 +32,7 @@ pub none_then : {T E : Type 0} → (r : Result (Option T) E) (P Q : Type 0) → 
 none_then (Ok (Some x)) P Q f h = tt
 none_then (Ok None) P Q f h = f h
 none_then (Err e) P Q f h = tt
+
+pub then_so : {T E : Type 0} → (P Q : T → Type 0) (r : Result T E) → ((x : T) → P x → Q x) → IfOk r P → IfOk r Q
+then_so P Q (Ok x) f h = f x h
+then_so P Q (Err e) f h = tt

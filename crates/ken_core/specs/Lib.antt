@@ -20,4 +20,5 @@ pub mod Seals
 pub mod Next
 pub mod First
 pub mod Programs
+pub mod Timeline
 pub mod Laws

@@ -5,7 +5,7 @@ ghost use Rattle.ken_model.specs.Limits.{IsWithinLimits};
 
 use crate::Event;
 use crate::group::Group;
-use ken_model::Facts;
+use ken_model::{Facts, Items, TurnLine};
 use std::alloc::{AllocError, Global};
 
 /// A group of nodes, with all packets ever put and all emissions.
@@ -15,9 +15,10 @@ pub struct Cluster<'a> {
 }
 
 impl<'a> Cluster<'a> {
-    ghost use Rattle.ken_core.specs.Clusters.{start, Goes};
+    ghost use Rattle.ken_core.specs.Clusters.{start, Goes, IsHistoryOf};
     ghost use Rattle.ken_core.specs.Accord.{Accord};
     ghost use Rattle.ken_core.specs.Groups.{Plays};
+    ghost use Rattle.ken_core.specs.Laws.{IsPlayedBy};
     ghost use Rattle.ken_core.specs.Programs.{facts_of, cluster_of, IsSound};
 
     /// The group at the start: each node is up, and nothing is sealed, put or emitted.
@@ -62,5 +63,16 @@ impl<'a> Cluster<'a> {
             start.step(alloc, event)?;
         }
         Ok(start)
+    }
+
+    /// The turns of all nodes, in the order of stamps and nodes. Where the group is in accord, they are a legal schedule.
+    pub fn history(&self, alloc: Global) -> Result<Items<TurnLine>, AllocError>
+        requires sound { IsSound self.now }
+        requires accord { Accord (game_of (facts_of self.now)) (cluster_of self.now) }
+        ensures history { IfOk result (IsHistoryOf (cluster_of self.now)) }
+        ensures played { IfOk result (IsPlayedBy (game_of (facts_of self.now)) (cluster_of self.now)) }
+    {
+        crate::history_is_legal();
+        self.group.history(alloc)
     }
 }

@@ -5,7 +5,7 @@ ghost use Rattle.ken_core.specs.Turns.{effects_line};
 
 use crate::Effects;
 use ken_cover::{Change, Layer};
-use ken_model::{Items, Message, Octets, Out};
+use ken_model::{Items, Message, Octets, Out, Step, TurnLine};
 use ken_record::Page;
 use std::alloc::{AllocError, Global};
 
@@ -86,20 +86,27 @@ pub(crate) fn recounted(alloc: Global, layer: &Layer) -> Result<Layer, AllocErro
 }
 
 /// A turn, as a line of the report.
-pub(crate) fn line(
-    alloc: Global,
-    node: u8,
-    effects: &Effects,
-) -> Result<ken_model::TurnLine, AllocError>
+pub(crate) fn line(alloc: Global, node: u8, effects: &Effects) -> Result<TurnLine, AllocError>
     ensures { IfOk result (λ l. l ≡ effects_line node effects.now) }
 {
-    Ok(ken_model::TurnLine {
+    Ok(TurnLine {
         stamp: effects.stamp,
-        step: ken_model::Step {
+        step: Step {
             node,
             from: effects.from,
             draws: draws(alloc, effects.draws.as_slice())?,
         },
         number: effects.number,
     })
+}
+
+/// Turns, as lines of the report.
+pub(crate) fn lines(alloc: Global, node: u8, turns: &[Effects]) -> Result<Vec<TurnLine>, AllocError>
+    ensures { IfOk result (λ ls. ls.items ≡ map (effects_line node) turns.now) }
+{
+    let mut lines = Vec::with_capacity(alloc, turns.len())?;
+    for turn in turns {
+        lines.push(line(alloc, node, turn)?)?;
+    }
+    Ok(lines)
 }

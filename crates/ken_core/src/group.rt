@@ -5,8 +5,9 @@ ghost use Rattle.ken_model.specs.Limits.{IsWithinLimits};
 
 use crate::machine::Machine;
 use crate::sealing::Sealing;
+use crate::timeline::Timeline;
 use crate::{Event, Outcome, Told, copies};
-use ken_model::{Emission, Facts, Items, Message, OUTSIDE};
+use ken_model::{Emission, Facts, Items, Message, OUTSIDE, TurnLine};
 use ken_record::Page;
 use std::alloc::{AllocError, Global};
 
@@ -21,7 +22,8 @@ pub(crate) struct Group<'a> {
 impl<'a> Group<'a> {
     ghost use Rattle.ken_core.specs.declared.events.Event.TheVariants.{Seal, SealCut, Patch, SyncImage, Turnover, Send, Ack, TakeAck, Emit, Crash, Recover};
     ghost use Rattle.ken_core.specs.Groups.{group_of, AreKept, Plays};
-    ghost use Rattle.ken_core.specs.Clusters.{start};
+    ghost use Rattle.ken_core.specs.Clusters.{start, IsHistoryOf};
+    ghost use Rattle.ken_core.specs.Accord.{Accord};
     ghost use Rattle.ken_core.specs.Next.{IsNextOf, IsReady, IsUnready};
 
     /// The group at the start.
@@ -85,6 +87,21 @@ impl<'a> Group<'a> {
             Event::Crash { node, pages } => self.crash(alloc, *node, pages),
             Event::Recover { node } => self.recover(alloc, *node),
         }
+    }
+
+    /// The turns of all nodes, in the order of stamps and nodes.
+    pub(crate) fn history(&self, alloc: Global) -> Result<Items<TurnLine>, AllocError>
+        requires kept { AreKept (game_of self.now.facts.now) self.now.machines.items }
+        requires accord { Accord (game_of self.now.facts.now) (group_of (game_of self.now.facts.now) self.now.machines.items self.now.emissions.items) }
+        ensures { IfOk result (IsHistoryOf (group_of (game_of self.now.facts.now) self.now.machines.items self.now.emissions.items)) }
+    {
+        let mut timeline = Timeline::new(alloc);
+        for node in 0..self.facts.nodes {
+            let machine = &self.machines[usize::from(node)];
+            let turns = copies::lines(alloc, node, machine.ledger.turns.as_slice())?;
+            timeline.add(node, turns)?;
+        }
+        Ok(Items::new(timeline.into_lines(alloc)?))
     }
 
     /// The image of a node is synced.

@@ -22,6 +22,7 @@ mod sealing;
 mod seals;
 #[cfg(test)]
 mod tests;
+mod timeline;
 mod turnovers;
 
 pub use cluster::Cluster;
