@@ -1,0 +1,110 @@
+// Events as a random word picks them.
+
+use crate::group::{NODES, after, before};
+use crate::nodes::Known;
+use ken_core::{Event, Outcome, Told};
+use ken_model::{Items, OUTSIDE, Octets};
+use ken_num::put_u64;
+use ken_record::Page;
+use std::alloc::{AllocError, Global};
+
+// What follows the root in a heap of one page without blocks, up to the zeros.
+const HEADER: [u8; 12] = [b'K', b'E', b'N', b'H', 0, 0, 0, 1, 0, 0, 0, 0xf0];
+
+// A page of 256 bytes that begins so.
+fn page(alloc: Global, mut front: Vec<u8>) -> Result<Items<Page>, AllocError> {
+    front.resize(256, 0)?;
+    let mut pages = Vec::new(alloc);
+    pages.push(Page {
+        page: 0,
+        bytes: Octets::new(front),
+    })?;
+    Ok(Items::new(pages))
+}
+
+// The heap with that root.
+fn heap(alloc: Global, root: u64) -> Result<Items<Page>, AllocError> {
+    let mut front = Vec::new(alloc);
+    put_u64(&mut front, root)?;
+    front.extend_from_slice(&HEADER)?;
+    page(alloc, front)
+}
+
+// The turn that takes the next message of a sender.
+fn seal(alloc: Global, node: u8, from: u8, known: &Known) -> Result<Event, AllocError> {
+    Ok(Event::Seal {
+        node,
+        from,
+        draws: Items::new(Vec::new(alloc)),
+        pages: heap(alloc, known.turns.saturating_add(1))?,
+    })
+}
+
+// A turnover that retires all that was acknowledged and emitted, and leaves no page out.
+fn turnover(alloc: Global, node: u8, known: &Known) -> Result<Event, AllocError> {
+    let mut acked = Vec::new(alloc);
+    for to in 0..NODES {
+        acked.push(if to == after(node) { known.acked } else { 0 })?;
+    }
+    let told = Told {
+        settled: 0,
+        acked: Items::new(acked),
+        emitted: known.emitted,
+    };
+    Ok(Event::Turnover {
+        node,
+        outcome: Outcome::Whole,
+        told,
+    })
+}
+
+// A crash, which tears the page where it is open.
+fn crash(alloc: Global, node: u8, known: &Known, torn: u8) -> Result<Event, AllocError> {
+    let pages = if known.is_open {
+        page(alloc, vec![in alloc; torn; 100]?)?
+    } else {
+        Items::new(Vec::new(alloc))
+    };
+    Ok(Event::Crash { node, pages })
+}
+
+/// An event of a node: of one that is down its recovery, and else what the word picks. `behind` is the node behind it.
+pub(crate) fn picked(
+    alloc: Global,
+    node: u8,
+    known: &Known,
+    behind: &Known,
+    word: u64,
+) -> Result<Event, AllocError> {
+    if !known.is_up {
+        return Ok(Event::Recover { node });
+    }
+    match word % 64 {
+        0..=15 => seal(alloc, node, before(node), known),
+        16..=17 => seal(alloc, node, OUTSIDE, known),
+        18..=29 => Ok(Event::Send {
+            node,
+            to: after(node),
+            i: 0,
+        }),
+        30..=31 => Ok(Event::Send {
+            node,
+            to: after(node),
+            i: 1,
+        }),
+        32..=39 => Ok(Event::Ack {
+            node,
+            from: before(node),
+        }),
+        40..=47 => Ok(Event::TakeAck {
+            node,
+            from: after(node),
+            through: behind.consumed,
+        }),
+        48..=55 => Ok(Event::Emit { node }),
+        56..=59 => Ok(Event::Patch { node, page: 0 }),
+        60..=61 => Ok(Event::SyncImage { node }),
+        62 => turnover(alloc, node, known),
+        _ => crash(alloc, node, known, (word / 64 % 256) as u8),
+    }
+}
