@@ -1,5 +1,5 @@
 // The group that is played: eight nodes pass numbers round a ring, each in a heap of one page.
-ghost use Rattle.std.specs.Prelude.{IfOk};
+ghost use Rattle.std.specs.Prelude.{◌<◌, IfOk};
 ghost use Rattle.ken_model.specs.Game.{game_of};
 ghost use Rattle.ken_model.specs.Limits.{IsWithinLimits};
 
@@ -31,11 +31,15 @@ pub(crate) fn facts(alloc: Global) -> Result<Facts, AllocError>
 }
 
 /// The node behind another on the ring.
-pub(crate) fn after(node: u8) -> u8 {
+pub(crate) fn after(node: u8) -> u8
+    ensures { result < 8 }
+{
     node.wrapping_add(1) % NODES
 }
 
 /// The node before another on the ring.
-pub(crate) fn before(node: u8) -> u8 {
+pub(crate) fn before(node: u8) -> u8
+    ensures { result < 8 }
+{
     node.wrapping_add(NODES - 1) % NODES
 }
