@@ -20,8 +20,6 @@ mod patches;
 mod posting;
 mod sealing;
 mod seals;
-#[cfg(test)]
-mod tests;
 mod timeline;
 mod turnovers;
 

@@ -2,7 +2,7 @@ ghost use Rattle.std.specs.Prelude.{IfOk};
 ghost use Rattle.ken_model.specs.Game.{game_of};
 ghost use Rattle.ken_model.specs.Limits.{IsWithinLimits};
 
-use crate::{Cluster, Event, Outcome, Told};
+use ken_core::{Cluster, Event, Outcome, Told};
 use ken_model::{Facts, Input, Items, Kind, OUTSIDE, Octets};
 use ken_record::Page;
 use std::alloc::{AllocError, Global};
