@@ -1,0 +1,105 @@
+// The command line.
+ghost use Rattle.std.specs.Prelude.{◌≤◌, MatchOption};
+ghost use Rattle.ken_bench_net.specs.Plans.{IsPlan};
+
+use ken_num::num;
+
+/// The most messages or items.
+const MAX_COUNT: u64 = 100_000_000;
+
+/// The most acts that a script may have.
+const MAX_ACTS: u64 = 1_024;
+
+/// What is done, and how often.
+#[derive(Clone, Copy, Debug, PartialEq, Eq)]
+pub(crate) enum Work {
+    Packets { acts: u64 },
+    Copy,
+    Ring,
+    BareRing,
+}
+
+#[derive(Clone, Copy, Debug, PartialEq, Eq)]
+pub(crate) struct Plan {
+    pub work: Work,
+    pub count: u64,
+}
+
+impl Plan {
+    /// What the words say, after the program's name.
+    pub(crate) fn of(words: &[String]) -> Option<Plan>
+        ensures { MatchOption result (Unit {0}) (λ plan. IsPlan plan) }
+    {
+        match words {
+            [_, work, count] => Some(Plan {
+                work: alone(work)?,
+                count: number(count, MAX_COUNT)?,
+            }),
+            [_, work, count, more] => Some(Plan {
+                work: with_more(work, more)?,
+                count: number(count, MAX_COUNT)?,
+            }),
+            _ => None,
+        }
+    }
+}
+
+// The works that take a count alone.
+fn alone(word: &str) -> Option<Work> {
+    match word {
+        "copy" => Some(Work::Copy),
+        "ring" => Some(Work::Ring),
+        "bare-ring" => Some(Work::BareRing),
+        _ => None,
+    }
+}
+
+fn with_more(word: &str, more: &str) -> Option<Work> {
+    match word {
+        "packets" => Some(Work::Packets {
+            acts: number(more, MAX_ACTS)?,
+        }),
+        _ => None,
+    }
+}
+
+fn number(word: &str, most: u64) -> Option<u64>
+    ensures { MatchOption result (Unit {0}) (λ n. n ≤ most) }
+{
+    num(word.as_bytes()).filter(|number| *number <= most)
+}
+
+#[cfg(test)]
+mod tests {
+    use super::*;
+    use std::alloc::Global;
+    use std::test::Fail;
+
+    fn plan_of(alloc: Global, line: &str) -> Result<Option<Plan>, Fail> {
+        let mut words = Vec::new(alloc);
+        for word in line.split(' ') {
+            words.push(String::from_str(alloc, word)?)?;
+        }
+        Ok(Plan::of(&words))
+    }
+
+    #[test]
+    fn words_make_a_plan(rt: HostRuntime) -> Result<(), Fail> {
+        let plan = Plan {
+            work: Work::Packets { acts: 1_024 },
+            count: 100_000_000,
+        };
+        let cases = [
+            ("ken_bench_net packets 100000000 1024", Some(plan)),
+            ("ken_bench_net packets 100000001 1024", None),
+            ("ken_bench_net packets 100000000 1025", None),
+            ("ken_bench_net packets 100000000", None),
+            ("ken_bench_net copy 1 1", None),
+            ("ken_bench_net copies 1", None),
+        ];
+        for (line, want) in cases {
+            assert_eq!(rt; plan_of(rt.alloc(), line)?, want, "{line}");
+        }
+        Ok(())
+    }
+}

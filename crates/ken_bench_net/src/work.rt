@@ -1,0 +1,84 @@
+// One run.
+ghost use Rattle.std.specs.Prelude.{IfOk};
+ghost use Rattle.ken_bench_net.specs.Plans.{IsPlan};
+ghost use Rattle.ken_bench_net.specs.Rounds.{IsOf};
+
+use crate::bare::through_bare_ring;
+use crate::copies::copy_all;
+use crate::fault::Fault;
+use crate::network::send_all;
+use crate::plan::{Plan, Work};
+use crate::rings::through_ring;
+use std::alloc::Global;
+use std::fmt;
+
+/// What a run did.
+#[derive(Clone, Copy, Debug, PartialEq, Eq)]
+pub(crate) enum Done {
+    Copied { bytes: u64 },
+    Consumed { messages: u64 },
+    Ringed { items: u64 },
+    Bare { items: u64 },
+}
+
+impl fmt::Display for Done {
+    fn fmt<W: fmt::Write>(&self, f: &mut fmt::Formatter<W>) -> fmt::Result {
+        match self {
+            Done::Copied { bytes } => write!(f, "{bytes} bytes copied"),
+            Done::Consumed { messages } => write!(f, "{messages} messages consumed"),
+            Done::Ringed { items } => write!(f, "{items} items through a ring"),
+            Done::Bare { items } => write!(f, "{items} items through a bare ring"),
+        }
+    }
+}
+
+pub(crate) fn work(alloc: Global, plan: &Plan) -> Result<Done, Fault>
+    requires { IsPlan plan.now }
+    ensures { IfOk result (λ done. IsOf plan.now done) }
+{
+    match plan.work {
+        Work::Packets { acts } => Ok(Done::Consumed {
+            messages: send_all(alloc, plan.count, acts)?,
+        }),
+        Work::Copy => Ok(Done::Copied {
+            bytes: copy_all(alloc, plan.count)?,
+        }),
+        Work::Ring => Ok(Done::Ringed {
+            items: through_ring(alloc, plan.count)?,
+        }),
+        Work::BareRing => Ok(Done::Bare {
+            items: through_bare_ring(alloc, plan.count)?,
+        }),
+    }
+}
+
+#[cfg(test)]
+mod tests {
+    use super::*;
+    use std::test::Fail;
+
+    // A mail of one byte takes 22 bytes, and an acknowledgement 11.
+    #[test]
+    fn a_run_does_its_work(rt: HostRuntime) -> Result<(), Fail> {
+        let cases = [
+            (Work::Copy, 4, Done::Copied { bytes: 132 }),
+            (
+                Work::Packets { acts: 0 },
+                100,
+                Done::Consumed { messages: 100 },
+            ),
+            (
+                Work::Packets { acts: 20 },
+                100,
+                Done::Consumed { messages: 100 },
+            ),
+            (Work::Ring, 100, Done::Ringed { items: 100 }),
+            (Work::BareRing, 100, Done::Bare { items: 100 }),
+        ];
+        for (work, count, want) in cases {
+            let plan = Plan { work, count };
+            assert_eq!(rt; super::work(rt.alloc(), &plan), Ok(want), "{count}");
+        }
+        Ok(())
+    }
+}
