@@ -176,3 +176,31 @@ fn a_crash_may_tear_the_open_page(rt: HostRuntime) -> Result<(), AllocError> {
     assert!(rt; are_right(alloc, &facts, &events)?);
     Ok(())
 }
+
+/// The stamps and nodes of the turns that events made.
+fn turns_of(alloc: Global, facts: &Facts, events: &[Event]) -> Result<Vec<(u64, u8)>, AllocError>
+    requires { IsWithinLimits (game_of facts.now) }
+{
+    let group = Cluster::run(alloc, Cluster::start(alloc, facts)?, events)?;
+    let lines = group.history(alloc)?;
+    let mut turns = Vec::new(alloc);
+    for line in lines.as_slice() {
+        turns.push((line.stamp, line.step.node))?;
+    }
+    Ok(turns)
+}
+
+#[test]
+fn a_history_is_in_the_order_of_stamps(rt: HostRuntime) -> Result<(), AllocError> {
+    let alloc = rt.alloc();
+    let facts = ring(alloc)?;
+    let events = vec![in alloc;
+        seal(alloc, 1, 0)?,
+        seal(alloc, 0, OUTSIDE)?,
+        send(),
+        seal(alloc, 1, 0)?,
+    ]?;
+    let turns = turns_of(alloc, &facts, &events)?;
+    assert_eq!(rt; turns.as_slice(), [(1, 0), (2, 1)].as_slice());
+    Ok(())
+}
