@@ -5,7 +5,7 @@ use thiserror::Error;
 /// Why there are no figures.
 #[derive(Clone, Copy, Debug, PartialEq, Eq, Error)]
 pub(crate) enum Fault {
-    #[error("usage: ken_bench_net packets PACKETS ACTS | copy PACKETS | ring ITEMS | bare-ring ITEMS")]
+    #[error("usage: ken_bench_net packets MESSAGES ACTS | copy MESSAGES | ring ITEMS | bare-ring ITEMS | wire SENDERS PACKETS | bare-queue SENDERS PACKETS")]
     Usage,
     #[error("a count is full")]
     Full,

@@ -17,6 +17,42 @@ pub(crate) enum Work {
     Copy,
     Ring,
     BareRing,
+    Wire { senders: Senders },
+    BareQueue { senders: Senders },
+}
+
+/// How many senders put into one wire.
+#[derive(Clone, Copy, Debug, PartialEq, Eq)]
+pub(crate) enum Senders {
+    One,
+    Two,
+    Four,
+    Eight,
+}
+
+impl Senders {
+    ghost use Rattle.std.specs.Prelude.{◌<◌};
+
+    fn of(word: &str) -> Option<Senders> {
+        match word {
+            "1" => Some(Senders::One),
+            "2" => Some(Senders::Two),
+            "4" => Some(Senders::Four),
+            "8" => Some(Senders::Eight),
+            _ => None,
+        }
+    }
+
+    pub(crate) fn count(self) -> u8
+        ensures { 0 < result }
+    {
+        match self {
+            Senders::One => 1,
+            Senders::Two => 2,
+            Senders::Four => 4,
+            Senders::Eight => 8,
+        }
+    }
 }
 
 #[derive(Clone, Copy, Debug, PartialEq, Eq)]
@@ -35,10 +71,7 @@ impl Plan {
                 work: alone(work)?,
                 count: number(count, MAX_COUNT)?,
             }),
-            [_, work, count, more] => Some(Plan {
-                work: with_more(work, more)?,
-                count: number(count, MAX_COUNT)?,
-            }),
+            [_, work, first, second] => with_more(work, first, second),
             _ => None,
         }
     }
@@ -54,13 +87,29 @@ fn alone(word: &str) -> Option<Work> {
     }
 }
 
-fn with_more(word: &str, more: &str) -> Option<Work> {
-    match word {
-        "packets" => Some(Work::Packets {
-            acts: number(more, MAX_ACTS)?,
-        }),
-        _ => None,
-    }
+// Those that take another word.
+fn with_more(word: &str, first: &str, second: &str) -> Option<Plan>
+    ensures { MatchOption result (Unit {0}) (λ plan. IsPlan plan) }
+{
+    let (work, count) = match word {
+        "packets" => {
+            let acts = number(second, MAX_ACTS)?;
+            (Work::Packets { acts }, first)
+        }
+        "wire" => {
+            let senders = Senders::of(first)?;
+            (Work::Wire { senders }, second)
+        }
+        "bare-queue" => {
+            let senders = Senders::of(first)?;
+            (Work::BareQueue { senders }, second)
+        }
+        _ => return None,
+    };
+    Some(Plan {
+        work,
+        count: number(count, MAX_COUNT)?,
+    })
 }
 
 fn number(word: &str, most: u64) -> Option<u64>

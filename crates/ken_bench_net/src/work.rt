@@ -8,9 +8,13 @@ use crate::copies::copy_all;
 use crate::fault::Fault;
 use crate::network::send_all;
 use crate::plan::{Plan, Work};
+use crate::queues::through_bare_queue;
 use crate::rings::through_ring;
+use crate::wires::through_wire;
 use std::alloc::Global;
 use std::fmt;
+use std::sync::Wait;
+use std::thread::Threads;
 
 /// What a run did.
 #[derive(Clone, Copy, Debug, PartialEq, Eq)]
@@ -19,6 +23,7 @@ pub(crate) enum Done {
     Consumed { messages: u64 },
     Ringed { items: u64 },
     Bare { items: u64 },
+    Taken { packets: u64 },
 }
 
 impl fmt::Display for Done {
@@ -28,11 +33,16 @@ impl fmt::Display for Done {
             Done::Consumed { messages } => write!(f, "{messages} messages consumed"),
             Done::Ringed { items } => write!(f, "{items} items through a ring"),
             Done::Bare { items } => write!(f, "{items} items through a bare ring"),
+            Done::Taken { packets } => write!(f, "{packets} packets taken"),
         }
     }
 }
 
-pub(crate) fn work(alloc: Global, plan: &Plan) -> Result<Done, Fault>
+pub(crate) fn work<R: Threads + Wait + Sync>(
+    rt: &R,
+    alloc: Global,
+    plan: &Plan,
+) -> Result<Done, Fault>
     requires { IsPlan plan.now }
     ensures { IfOk result (λ done. IsOf plan.now done) }
 {
@@ -49,12 +59,19 @@ pub(crate) fn work(alloc: Global, plan: &Plan) -> Result<Done, Fault>
         Work::BareRing => Ok(Done::Bare {
             items: through_bare_ring(alloc, plan.count)?,
         }),
+        Work::Wire { senders } => Ok(Done::Taken {
+            packets: through_wire(rt, alloc, senders.count(), plan.count)?,
+        }),
+        Work::BareQueue { senders } => Ok(Done::Taken {
+            packets: through_bare_queue(rt, alloc, senders.count(), plan.count)?,
+        }),
     }
 }
 
 #[cfg(test)]
 mod tests {
     use super::*;
+    use crate::plan::Senders;
     use std::test::Fail;
 
     // A mail of one byte takes 22 bytes, and an acknowledgement 11.
@@ -74,10 +91,24 @@ mod tests {
             ),
             (Work::Ring, 100, Done::Ringed { items: 100 }),
             (Work::BareRing, 100, Done::Bare { items: 100 }),
+            (
+                Work::Wire {
+                    senders: Senders::Two,
+                },
+                100,
+                Done::Taken { packets: 100 },
+            ),
+            (
+                Work::BareQueue {
+                    senders: Senders::Two,
+                },
+                100,
+                Done::Taken { packets: 100 },
+            ),
         ];
         for (work, count, want) in cases {
             let plan = Plan { work, count };
-            assert_eq!(rt; super::work(rt.alloc(), &plan), Ok(want), "{count}");
+            assert_eq!(rt; super::work(&rt, rt.alloc(), &plan), Ok(want), "{count}");
         }
         Ok(())
     }
