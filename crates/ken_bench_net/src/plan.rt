@@ -117,38 +117,3 @@ fn number(word: &str, most: u64) -> Option<u64>
 {
     num(word.as_bytes()).filter(|number| *number <= most)
 }
-
-#[cfg(test)]
-mod tests {
-    use super::*;
-    use std::alloc::Global;
-    use std::test::Fail;
-
-    fn plan_of(alloc: Global, line: &str) -> Result<Option<Plan>, Fail> {
-        let mut words = Vec::new(alloc);
-        for word in line.split(' ') {
-            words.push(String::from_str(alloc, word)?)?;
-        }
-        Ok(Plan::of(&words))
-    }
-
-    #[test]
-    fn words_make_a_plan(rt: HostRuntime) -> Result<(), Fail> {
-        let plan = Plan {
-            work: Work::Packets { acts: 1_024 },
-            count: 100_000_000,
-        };
-        let cases = [
-            ("ken_bench_net packets 100000000 1024", Some(plan)),
-            ("ken_bench_net packets 100000001 1024", None),
-            ("ken_bench_net packets 100000000 1025", None),
-            ("ken_bench_net packets 100000000", None),
-            ("ken_bench_net copy 1 1", None),
-            ("ken_bench_net copies 1", None),
-        ];
-        for (line, want) in cases {
-            assert_eq!(rt; plan_of(rt.alloc(), line)?, want, "{line}");
-        }
-        Ok(())
-    }
-}
