@@ -6,7 +6,7 @@ use crate::spelled;
 use crate::threads::threads_of;
 use crossbeam_queue::ArrayQueue;
 use ken_model::Octets;
-use ken_wire::WIRE;
+use ken_wire::MAX_WIRE;
 use std::alloc::{AllocError, Global};
 use std::sync::Wait;
 use std::sync::atomic::{AtomicU64, Ordering};
@@ -104,7 +104,7 @@ pub(crate) fn through_bare_queue<R: Threads + Wait + Sync>(
 ) -> Result<u64, Fault>
     requires { 0 < senders }
 {
-    let queue = ArrayQueue::new(alloc, WIRE)?;
+    let queue = ArrayQueue::new(alloc, MAX_WIRE)?;
     let mut froms: Vec<u8> = (0..senders).collect(alloc)?;
     let count = packets / u64::from(senders);
     let threads = threads_of(rt);
