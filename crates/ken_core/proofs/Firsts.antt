@@ -12,7 +12,7 @@ use Rattle.ken_model.specs.Layout.{first_heap}
 use Rattle.ken_model.specs.Network.{outside, inputs_for}
 use Rattle.ken_cover.specs.Sides.{TurnPages, ImagePages, first_turn_pages, first_image_pages}
 use Rattle.ken_cover.proofs.Keeps.{start_is_covered}
-use Rattle.ken_core.specs.declared.events.Effects.{Effects}
+use Rattle.ken_record.specs.declared.effects.Effects.{Effects}
 use Rattle.ken_core.specs.declared.ledger.Ledger.{Ledger}
 use Rattle.ken_core.specs.declared.machine.Machine.{Machine}
 use Rattle.ken_core.specs.declared.pages.Pages.{Pages}

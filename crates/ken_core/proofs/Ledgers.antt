@@ -4,7 +4,7 @@ use Rattle.std.specs.Option.{option_copied, is_some}
 use Rattle.std.specs.Borrow.{Bor}
 use Rattle.std.proofs.Common.{true, false, slice_index, Vec, Global, slice_index_or, ◌^◌}
 use Rattle.ken_model.specs.declared.messages.Message.{Message}
-use Rattle.ken_core.specs.declared.events.Effects.{Effects}
+use Rattle.ken_record.specs.declared.effects.Effects.{Effects}
 use Rattle.ken_core.specs.declared.ledger.Ledger.{Ledger}
 use Rattle.ken_core.specs.Ledgers.{sent_to}
 use Rattle.std.specs.List.{AllByRecursion, filter}

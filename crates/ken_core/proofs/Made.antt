@@ -7,7 +7,7 @@ use Rattle.ken_model.specs.Game.{Game}
 use Rattle.ken_model.specs.Network.{Turn}
 use Rattle.ken_model.specs.History.{consumed, sent_by}
 use Rattle.ken_model.proofs.Turns.{sent_by-append}
-use Rattle.ken_core.specs.declared.events.Effects.{Effects}
+use Rattle.ken_record.specs.declared.effects.Effects.{Effects}
 use Rattle.ken_core.specs.declared.events.Event.{Event}
 use Rattle.ken_core.specs.declared.events.Event.TheVariants.{Seal, SealCut, Patch, SyncImage, Turnover, Send, Ack, TakeAck, Emit, Crash, Recover}
 use Rattle.ken_core.specs.declared.events.Outcome.TheVariants.{Whole, Landed, Lost}

@@ -12,7 +12,7 @@ use Rattle.ken_model.specs.Network.{Place, Turn, numbered, outputs_from, first_p
 use Rattle.ken_model.specs.Actors.{posted_after}
 use Rattle.ken_model.specs.History.{places, place_of, consumed, sent_by, line_at}
 use Rattle.ken_record.specs.declared.sent.Sent.{Sent}
-use Rattle.ken_core.specs.declared.events.Effects.{Effects}
+use Rattle.ken_record.specs.declared.effects.Effects.{Effects}
 use Rattle.ken_core.specs.Turns.{consumed_from, stamp_after, mail_of, mails_in, mails_to, outs_of, effects_line, sent_of, effects_of, sealed_after, sealed, IsPlace}
 
 -- one more turn

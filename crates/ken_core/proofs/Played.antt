@@ -17,7 +17,7 @@ use Rattle.ken_cover.specs.Overlay.{overlay, among, numbers}
 use Rattle.ken_cover.specs.Sides.{TurnPages, ImagePages, changes_at, sealed_pages, handed_pages, onto}
 use Rattle.ken_cover.specs.Covers.{Covers}
 use Rattle.ken_cover.proofs.Keeps.{seal_keeps_coverage, down_keeps_coverage}
-use Rattle.ken_core.specs.declared.events.Effects.{Effects}
+use Rattle.ken_record.specs.declared.effects.Effects.{Effects}
 use Rattle.ken_core.specs.declared.ledger.Ledger.{Ledger}
 use Rattle.ken_core.specs.declared.machine.Machine.{Machine}
 use Rattle.ken_core.specs.declared.pages.Pages.{Pages}

@@ -14,7 +14,7 @@ use Rattle.ken_cover.specs.Overlay.{overlay}
 use Rattle.ken_model.specs.declared.messages.Send.{Send}
 use Rattle.ken_model.specs.Network.{outputs_from}
 use Rattle.ken_model.specs.Actors.{posted_after}
-use Rattle.ken_core.specs.declared.events.Effects.{Effects}
+use Rattle.ken_record.specs.declared.effects.Effects.{Effects}
 use Rattle.ken_core.specs.declared.machine.Machine.{Machine}
 use Rattle.ken_core.specs.declared.sealing.Sealing.{Sealing}
 use Rattle.ken_core.specs.Turns.{stamp_after, mails_to, outs_of, sent_of}

@@ -12,7 +12,7 @@ use Rattle.ken_core.specs.declared.events.Event.{Event}
 use Rattle.ken_core.specs.declared.events.Event.TheVariants.{Patch, TakeAck, Recover}
 use Rattle.std.specs.List.{AllByRecursion}
 use Rattle.std.proofs.lemmas.List.{length-set}
-use Rattle.ken_core.specs.declared.events.Effects.{Effects}
+use Rattle.ken_record.specs.declared.effects.Effects.{Effects}
 use Rattle.ken_core.specs.declared.ledger.Ledger.{Ledger}
 use Rattle.ken_core.specs.Turns.{mails_to}
 use Rattle.ken_core.specs.Sets.{has, has_at}

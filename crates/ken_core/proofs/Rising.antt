@@ -6,7 +6,7 @@ use Rattle.ken_model.specs.declared.reports.TurnLine.{TurnLine}
 use Rattle.ken_model.specs.Game.{Game}
 use Rattle.ken_model.specs.Network.{Place, Turn, first_place, place_after}
 use Rattle.ken_model.specs.History.{AreTurns, line_at, lines_by}
-use Rattle.ken_core.specs.declared.events.Effects.{Effects}
+use Rattle.ken_record.specs.declared.effects.Effects.{Effects}
 use Rattle.ken_core.specs.Turns.{effects_line}
 use Rattle.ken_core.specs.Clusters.{Cluster}
 use Rattle.ken_core.specs.Accord.{Accord}

@@ -14,7 +14,7 @@ use Rattle.ken_record.specs.declared.page.Page.{Page}
 use Rattle.ken_cover.specs.declared.layers.Change.{Change}
 use Rattle.ken_cover.specs.Overlay.{AreWithin}
 use Rattle.ken_cover.specs.Sides.{changes_at}
-use Rattle.ken_core.specs.declared.events.Effects.{Effects}
+use Rattle.ken_record.specs.declared.effects.Effects.{Effects}
 use Rattle.ken_core.specs.declared.ledger.Ledger.{Ledger}
 use Rattle.ken_core.specs.declared.machine.Machine.{Machine}
 use Rattle.ken_core.specs.declared.sealing.Sealing.{Sealing}

@@ -4,7 +4,7 @@ use Rattle.ken_model.specs.declared.facts.TheConstants.{PAGE}
 use Rattle.ken_model.specs.Game.{Game}
 use Rattle.ken_model.specs.Layout.{first_heap}
 use Rattle.ken_cover.specs.Sides.{TurnPages, ImagePages, first_turn_pages, first_image_pages}
-use Rattle.ken_core.specs.declared.events.Effects.{Effects}
+use Rattle.ken_record.specs.declared.effects.Effects.{Effects}
 
 -- the handler's part: whether the node is up, its sealed turns, its heap with the live records, and the retired numbers: of
 -- the messages to each node, and of its outputs

@@ -7,7 +7,7 @@ use Rattle.ken_model.specs.declared.reports.TurnLine.{TurnLine}
 use Rattle.ken_model.specs.Network.{Place, Turn, outputs_from}
 use Rattle.ken_model.specs.Actors.{posted_after}
 use Rattle.ken_record.specs.declared.sent.Sent.{Sent}
-use Rattle.ken_core.specs.declared.events.Effects.{Effects}
+use Rattle.ken_record.specs.declared.effects.Effects.{Effects}
 
 -- how many messages turns took from u: since they are numbered from 1, this is the consumed number
 abbrev pub consumed_from : ℕ → List Effects → ℕ

@@ -3,10 +3,9 @@ ghost use Rattle.std.specs.Prelude.{◌≡◌, IfOk, map};
 ghost use Rattle.ken_cover.specs.Sides.{changes_at, recounted};
 ghost use Rattle.ken_core.specs.Turns.{effects_line};
 
-use crate::Effects;
 use ken_cover::{Change, Layer};
 use ken_model::{Items, Message, Octets, Out, Step, TurnLine};
-use ken_record::Page;
+use ken_record::{Effects, Page};
 use std::alloc::{AllocError, Global};
 
 pub(crate) fn octets(alloc: Global, bytes: &Octets) -> Result<Octets, AllocError>

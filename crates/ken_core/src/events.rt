@@ -1,24 +1,8 @@
 ghost use Rattle.std.specs.Prelude.{◌≡◌};
 ghost use Rattle.ken_core.specs.Clusters.{node_of};
 
-use ken_model::{Items, Out};
-use ken_record::{Page, Sent};
-
-/// What a sealed turn did.
-#[derive(Debug, Drop)]
-pub struct Effects {
-    /// The sender of the message that it took: a node, or 255 for the outside.
-    pub from: u8,
-    /// The number of that message, from 1.
-    pub number: u64,
-    /// Its stamp, from 1.
-    pub stamp: u64,
-    pub draws: Items<u64>,
-    /// What it sent, in order.
-    pub sends: Items<Sent>,
-    /// What it output, in order.
-    pub outs: Items<Out>,
-}
+use ken_model::Items;
+use ken_record::Page;
 
 /// What a handler was told when it makes a turnover.
 #[derive(Debug, Drop)]

@@ -4,8 +4,8 @@ ghost use Rattle.ken_model.specs.Network.{outside};
 ghost use Rattle.ken_core.specs.Turns.{consumed_from, stamp_after};
 ghost use Rattle.ken_core.specs.Ledgers.{sent_to, IsSomeLedger};
 
-use crate::Effects;
 use ken_model::{Message, OUTSIDE, Out};
+use ken_record::Effects;
 
 #[derive(Debug, Drop)]
 pub(crate) struct Ledger {

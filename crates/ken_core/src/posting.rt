@@ -3,9 +3,9 @@ ghost use Rattle.std.specs.Prelude.{◌≡◌, ◌≢◌, ◌+◌, ◌<◌, ◌�
 ghost use Rattle.std.specs.List.{All, AllByRecursion};
 ghost use Rattle.ken_core.specs.Ledgers.{counted_from, IsSealed, IsSameLedger, HasRoom};
 
-use crate::Effects;
 use crate::ledger::Ledger;
 use ken_model::{Message, OUTSIDE, Out};
+use ken_record::Effects;
 use std::alloc::AllocError;
 
 impl Ledger {

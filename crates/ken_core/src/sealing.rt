@@ -12,11 +12,11 @@ ghost use Rattle.ken_core.specs.Enabled.{IsChanged};
 ghost use Rattle.ken_core.specs.Groups.{node_in, IsKept};
 
 use crate::bytes::{are_changed, lay};
+use crate::copies;
 use crate::machine::Machine;
-use crate::{Effects, copies};
 use ken_cover::Layer;
 use ken_model::{Block, Facts, Items, Message, Octets, Out, Send, Value};
-use ken_record::{Page, Sent};
+use ken_record::{Effects, Page, Sent};
 use std::alloc::{AllocError, Global};
 
 /// A turn that can be sealed, with all that its node will keep of it.

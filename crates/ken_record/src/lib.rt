@@ -4,6 +4,7 @@
 mod base;
 mod bytes;
 mod due;
+mod effects;
 mod faults;
 mod field;
 mod header;
@@ -17,6 +18,7 @@ mod sent;
 
 pub use base::{Base, SENDERS, decode_base};
 pub use due::Due;
+pub use effects::Effects;
 pub use faults::RecordFault;
 pub use header::Header;
 pub use item::{Item, ItemKind, decode, encode};

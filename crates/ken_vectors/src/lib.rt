@@ -6,19 +6,11 @@ mod actors;
 #[cfg(test)]
 mod counters;
 #[cfg(test)]
-mod disks;
-#[cfg(test)]
 mod frames;
 #[cfg(test)]
 mod heap_pages;
 #[cfg(test)]
-mod images;
-#[cfg(test)]
 mod kinds;
-#[cfg(test)]
-mod logs;
-#[cfg(test)]
-mod memory_disks;
 #[cfg(test)]
 mod model;
 #[cfg(test)]
@@ -32,16 +24,10 @@ mod outboxes;
 #[cfg(test)]
 mod packets;
 #[cfg(test)]
-mod records;
-#[cfg(test)]
-mod recoveries;
-#[cfg(test)]
 mod reports;
 #[cfg(test)]
 mod scripts;
 #[cfg(test)]
 mod streams;
-#[cfg(test)]
-mod turnovers;
 #[cfg(test)]
 mod values;

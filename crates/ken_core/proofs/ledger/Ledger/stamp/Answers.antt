@@ -1,5 +1,5 @@
 use Rattle.std.proofs.Common.{◌≡◌, ◌-◌, Some, length, slice_get, List, sym, subst}
-use Rattle.ken_core.specs.declared.events.Effects.{Effects}
+use Rattle.ken_record.specs.declared.effects.Effects.{Effects}
 use Rattle.ken_core.proofs.Ledgers.{stamp_last}
 use Rattle.ken_core.proofs.ledger.Ledger.stamp.Goals as goal
 

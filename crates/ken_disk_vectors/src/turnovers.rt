@@ -4,7 +4,7 @@ ghost use Rattle.ken_disk.specs.Story.{IsAtRest};
 ghost use Rattle.ken_record.specs.Grammar.{IsBase, IsRecord};
 ghost use Rattle.ken_record.specs.Spelling.{base_bytes};
 ghost use Rattle.ken_record.specs.Versions.{One};
-ghost use Rattle.ken_vectors.specs.Logs.{TakesSeals};
+ghost use Rattle.ken_disk_vectors.specs.Logs.{TakesSeals};
 
 use ken_disk::{Disk, write_through};
 use ken_log::{Log, LogFault, SealFault};

@@ -1,0 +1,5 @@
+//! Worked rows of the store as tests, against values that were worked out by hand.
+#![tactic(auto)]
+
+#[cfg(test)]
+mod recoveries;
