@@ -1,4 +1,6 @@
-ghost use Rattle.std.specs.Prelude.{IfOk};
+ghost use Rattle.std.specs.Prelude.{◌≡◌, ◌≤◌, length, IfOk};
+ghost use Rattle.std.specs.List.{AllByRecursion};
+ghost use Rattle.ken_model.specs.declared.facts.Input.{Input};
 ghost use Rattle.ken_model.specs.Game.{game_of};
 ghost use Rattle.ken_model.specs.Limits.{IsWithinLimits};
 
@@ -7,27 +9,50 @@ use ken_model::{Facts, Input, Items, Kind, OUTSIDE, Octets};
 use ken_record::Page;
 use std::alloc::{AllocError, Global};
 
-/// Two nodes of one page that pass a count on, with one input.
-fn ring(alloc: Global) -> Result<Facts, AllocError>
-    ensures { IfOk result (λ f. IsWithinLimits (game_of f)) }
+/// The input `1` for node 0.
+fn input(alloc: Global) -> Result<Input, AllocError>
+    ensures node { IfOk result (λ i. i.node ≡ 0) }
+    ensures text { IfOk result (λ i. length i.text ≡ 1) }
 {
-    let input = Input {
+    Ok(Input {
         node: 0,
         text: Octets::new(Vec::from_slice(alloc, b"1")?),
-    };
-    Ok(Facts {
+    })
+}
+
+/// Two nodes of one page that pass a count on.
+fn ring_with(inputs: Vec<Input>) -> Facts
+    requires few { length inputs.items ≤ 2 }
+    requires inputs { AllByRecursion (λ (i : Input). (i.node ≡ 0) × (length i.text ≡ 1)) inputs.items }
+    ensures { IsWithinLimits (game_of result) }
+{
+    Facts {
         nodes: 2,
         kind: Kind::Ring,
         size: 256,
         turns: 100,
-        inputs: Items::new(vec![in alloc; input]?),
-    })
+        inputs: Items::new(inputs),
+    }
 }
 
-/// Page 0 of a heap without blocks, with root 1.
-fn page(alloc: Global) -> Result<Items<Page>, AllocError> {
+/// The ring with one input.
+fn ring(alloc: Global) -> Result<Facts, AllocError>
+    ensures { IfOk result (λ f. IsWithinLimits (game_of f)) }
+{
+    Ok(ring_with(vec![in alloc; input(alloc)?]?))
+}
+
+/// The ring with two inputs.
+fn busy_ring(alloc: Global) -> Result<Facts, AllocError>
+    ensures { IfOk result (λ f. IsWithinLimits (game_of f)) }
+{
+    Ok(ring_with(vec![in alloc; input(alloc)?, input(alloc)?]?))
+}
+
+/// Page 0 of a heap without blocks, with that root.
+fn page(alloc: Global, root: u8) -> Result<Items<Page>, AllocError> {
     let mut bytes = [0; 256];
-    bytes[7] = 1;
+    bytes[7] = root;
     bytes[8..12].copy_from_slice(b"KENH");
     bytes[15] = 1;
     bytes[19] = 240;
@@ -38,12 +63,18 @@ fn page(alloc: Global) -> Result<Items<Page>, AllocError> {
     Ok(Items::new(vec![in alloc; page]?))
 }
 
+/// The first turn of a node, which takes the next message of `from`.
 fn seal(alloc: Global, node: u8, from: u8) -> Result<Event, AllocError> {
+    seal_with(alloc, node, from, 1)
+}
+
+/// A turn that leaves that root.
+fn seal_with(alloc: Global, node: u8, from: u8, root: u8) -> Result<Event, AllocError> {
     Ok(Event::Seal {
         node,
         from,
         draws: Items::new(Vec::new(alloc)),
-        pages: page(alloc)?,
+        pages: page(alloc, root)?,
     })
 }
 
@@ -52,7 +83,7 @@ fn cut(alloc: Global, landed: bool) -> Result<Event, AllocError> {
         node: 0,
         from: OUTSIDE,
         draws: Items::new(Vec::new(alloc)),
-        pages: page(alloc)?,
+        pages: page(alloc, 1)?,
         landed,
     })
 }
@@ -67,6 +98,35 @@ fn turnover(alloc: Global, settled: u64) -> Result<Event, AllocError> {
             emitted: 0,
         },
     })
+}
+
+/// A turnover of node 0 that is cut, told of one settled turn, of one message that node 1 acknowledged, and of one output.
+fn cut_turnover(alloc: Global, outcome: Outcome) -> Result<Event, AllocError> {
+    Ok(Event::Turnover {
+        node: 0,
+        outcome,
+        told: Told {
+            settled: 1,
+            acked: Items::new(vec![in alloc; 0, 1]?),
+            emitted: 1,
+        },
+    })
+}
+
+fn patch() -> Event {
+    Event::Patch { node: 0, page: 0 }
+}
+
+fn sync() -> Event {
+    Event::SyncImage { node: 0 }
+}
+
+fn emit() -> Event {
+    Event::Emit { node: 0 }
+}
+
+fn recover() -> Event {
+    Event::Recover { node: 0 }
 }
 
 fn crash(alloc: Global) -> Event {
@@ -116,7 +176,7 @@ fn nothing_is_sent_before_it_is_sealed_or_while_down(rt: HostRuntime) -> Result<
     events.push((send(), true))?;
     events.push((crash(alloc), true))?;
     events.push((send(), false))?;
-    events.push((Event::Recover { node: 0 }, true))?;
+    events.push((recover(), true))?;
     events.push((seal(alloc, 1, 0)?, true))?;
     assert!(rt; are_right(alloc, &facts, &events)?);
     Ok(())
@@ -134,8 +194,8 @@ fn an_acknowledgement_is_taken_once_it_was_put(rt: HostRuntime) -> Result<(), Al
     events.push((Event::Ack { node: 1, from: 0 }, true))?;
     events.push((take(), true))?;
     events.push((send(), false))?;
-    events.push((Event::Emit { node: 0 }, true))?;
-    events.push((Event::Emit { node: 0 }, false))?;
+    events.push((emit(), true))?;
+    events.push((emit(), false))?;
     assert!(rt; are_right(alloc, &facts, &events)?);
     Ok(())
 }
@@ -147,9 +207,9 @@ fn a_cut_seal_counts_where_it_landed(rt: HostRuntime) -> Result<(), AllocError> 
     let mut events = Vec::new(alloc);
     events.push((cut(alloc, false)?, true))?;
     events.push((seal(alloc, 0, OUTSIDE)?, false))?;
-    events.push((Event::Recover { node: 0 }, true))?;
+    events.push((recover(), true))?;
     events.push((cut(alloc, true)?, true))?;
-    events.push((Event::Recover { node: 0 }, true))?;
+    events.push((recover(), true))?;
     events.push((seal(alloc, 0, OUTSIDE)?, false))?;
     assert!(rt; are_right(alloc, &facts, &events)?);
     Ok(())
@@ -159,20 +219,100 @@ fn a_cut_seal_counts_where_it_landed(rt: HostRuntime) -> Result<(), AllocError> 
 fn a_crash_may_tear_the_open_page(rt: HostRuntime) -> Result<(), AllocError> {
     let alloc = rt.alloc();
     let facts = ring(alloc)?;
-    let patch = Event::Patch { node: 0, page: 0 };
     let torn = Event::Crash {
         node: 0,
-        pages: page(alloc)?,
+        pages: page(alloc, 1)?,
     };
     let mut events = Vec::new(alloc);
     events.push((seal(alloc, 0, OUTSIDE)?, true))?;
-    events.push((patch, true))?;
+    events.push((patch(), true))?;
     events.push((turnover(alloc, 1)?, false))?;
     events.push((crash(alloc), false))?;
     events.push((torn, true))?;
-    events.push((Event::Recover { node: 0 }, true))?;
+    events.push((recover(), true))?;
     events.push((turnover(alloc, 1)?, false))?;
     events.push((turnover(alloc, 0)?, true))?;
+    assert!(rt; are_right(alloc, &facts, &events)?);
+    Ok(())
+}
+
+#[test]
+fn a_sync_makes_patched_pages_clean(rt: HostRuntime) -> Result<(), AllocError> {
+    let alloc = rt.alloc();
+    let facts = ring(alloc)?;
+    let mut events = Vec::new(alloc);
+    events.push((seal(alloc, 0, OUTSIDE)?, true))?;
+    events.push((sync(), true))?;
+    events.push((turnover(alloc, 1)?, false))?;
+    events.push((patch(), true))?;
+    events.push((turnover(alloc, 1)?, false))?;
+    events.push((sync(), true))?;
+    events.push((turnover(alloc, 1)?, true))?;
+    events.push((crash(alloc), true))?;
+    events.push((recover(), true))?;
+    events.push((patch(), false))?;
+    assert!(rt; are_right(alloc, &facts, &events)?);
+    Ok(())
+}
+
+#[test]
+fn a_page_that_a_later_turn_changed_is_not_clean(rt: HostRuntime) -> Result<(), AllocError> {
+    let alloc = rt.alloc();
+    let facts = busy_ring(alloc)?;
+    let mut events = Vec::new(alloc);
+    events.push((seal(alloc, 0, OUTSIDE)?, true))?;
+    events.push((patch(), true))?;
+    events.push((seal_with(alloc, 0, OUTSIDE, 2)?, true))?;
+    events.push((sync(), true))?;
+    events.push((turnover(alloc, 2)?, false))?;
+    events.push((patch(), true))?;
+    events.push((patch(), false))?;
+    events.push((sync(), true))?;
+    events.push((turnover(alloc, 2)?, true))?;
+    assert!(rt; are_right(alloc, &facts, &events)?);
+    Ok(())
+}
+
+/// A turn of node 0 that is acknowledged, emitted and safe in the image.
+fn settled_turn(alloc: Global) -> Result<Vec<(Event, bool)>, AllocError> {
+    let mut events = Vec::new(alloc);
+    events.push((seal(alloc, 0, OUTSIDE)?, true))?;
+    events.push((send(), true))?;
+    events.push((seal(alloc, 1, 0)?, true))?;
+    events.push((Event::Ack { node: 1, from: 0 }, true))?;
+    events.push((take(), true))?;
+    events.push((emit(), true))?;
+    events.push((patch(), true))?;
+    events.push((sync(), true))?;
+    Ok(events)
+}
+
+#[test]
+fn a_cut_turnover_that_landed_retires_what_it_was_told(rt: HostRuntime) -> Result<(), AllocError> {
+    let alloc = rt.alloc();
+    let facts = ring(alloc)?;
+    let mut events = settled_turn(alloc)?;
+    events.push((cut_turnover(alloc, Outcome::Landed)?, true))?;
+    events.push((sync(), false))?;
+    events.push((recover(), true))?;
+    events.push((send(), false))?;
+    events.push((emit(), false))?;
+    events.push((patch(), false))?;
+    assert!(rt; are_right(alloc, &facts, &events)?);
+    Ok(())
+}
+
+#[test]
+fn a_cut_turnover_that_was_lost_retires_nothing(rt: HostRuntime) -> Result<(), AllocError> {
+    let alloc = rt.alloc();
+    let facts = ring(alloc)?;
+    let mut events = settled_turn(alloc)?;
+    events.push((cut_turnover(alloc, Outcome::Lost)?, true))?;
+    events.push((sync(), false))?;
+    events.push((recover(), true))?;
+    events.push((send(), true))?;
+    events.push((emit(), true))?;
+    events.push((patch(), true))?;
     assert!(rt; are_right(alloc, &facts, &events)?);
     Ok(())
 }
