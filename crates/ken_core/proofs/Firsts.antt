@@ -38,7 +38,7 @@ pub record IsFirstLedger (g : Game) (v : ℕ) (l : Ledger) : Type 0 where
   pub outs : l.outs.items ≡ []
 
 pub record AreFirstPages (n : ℕ) (p : Pages) : Type 0 where
-  pub heap : p.heap.items ≡ first_heap n
+  pub heap : p.heap ≡ first_heap n
   pub image : p.image.items ≡ first_heap n
   pub live : p.live.items ≡ []
   pub ahead : p.ahead.items ≡ []

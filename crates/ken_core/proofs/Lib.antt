@@ -15,6 +15,7 @@ pub mod Results
 pub mod Lasts
 pub mod Turning
 pub mod Mailing
+pub mod Heaps
 pub mod Preparing
 pub mod Sealed
 pub mod Played

@@ -16,6 +16,7 @@ use Rattle.ken_cover.specs.declared.layers.Change.{Change}
 use Rattle.ken_cover.specs.Overlay.{overlay, among, numbers}
 use Rattle.ken_cover.specs.Sides.{TurnPages, ImagePages, changes_at, sealed_pages, handed_pages, onto}
 use Rattle.ken_cover.specs.Covers.{Covers}
+use Rattle.ken_cover.proofs.Bases.{pages-changes_at}
 use Rattle.ken_cover.proofs.Keeps.{seal_keeps_coverage, down_keeps_coverage}
 use Rattle.ken_record.specs.declared.effects.Effects.{Effects}
 use Rattle.ken_core.specs.declared.ledger.Ledger.{Ledger}
@@ -127,7 +128,9 @@ module _ (g : Game) (made v : ℕ) (m m2 : Machine) (x : Message) (draws : List 
   at = length m.ledger.turns.items + 1
 
   turning_is : turn_pages m2.pages ≡ sealed_pages (length m.ledger.turns.items + 1) pages (turn_pages m.pages)
-  turning_is = seals.turning ∙ ap (λ h. record { heap = h; live = m.pages.live.items ++ s.live ∷ [] }) is.heap ∙ ap (λ l. record { heap = overlay m.pages.heap.items pages; live = m.pages.live.items ++ l ∷ [] }) is.live
+  turning_is =
+      seals.turning ∙ ap (λ l. record { heap = overlay m.pages.heap (map (λ (c : Change). c.page) l.changes); live = m.pages.live.items ++ l ∷ [] }) is.live
+      ∙ ap (λ ps. record { heap = overlay m.pages.heap ps; live = m.pages.live.items ++ record { turn = length m.ledger.turns.items + 1; changes = changes_at (length m.ledger.turns.items + 1) pages } ∷ [] }) (pages-changes_at (length m.ledger.turns.items + 1) pages)
 
   patching_is : image_pages m2.pages ≡ handed_pages (length m.ledger.turns.items + 1) pages (image_pages m.pages)
   patching_is =
@@ -150,7 +153,7 @@ module _ (g : Game) (made v : ℕ) (m m2 : Machine) (x : Message) (draws : List 
   sealed_kept up few early =
       let ledger = subst (λ e. Rattle.ken_core.specs.Ledgers.IsSealed e s.mails.items s.outs.items m.ledger m2.ledger) is.effects seals.ledger in
       let covers = subst (λ b. Covers (heap_pages g) b (turn_pages m.pages) (image_pages m.pages)) is.makes.up kept.pages.covers in
-      let after = seal_keeps_coverage (heap_pages g) up (turn_pages m.pages) (image_pages m.pages) (length m.ledger.turns.items + 1) pages (changed_within (heap_pages g) m.pages.heap.items pages kept.pages.covers.heap_size is.makes.changed.each) covers in
+      let after = seal_keeps_coverage (heap_pages g) up (turn_pages m.pages) (image_pages m.pages) (length m.ledger.turns.items + 1) pages (changed_within (heap_pages g) m.pages.heap pages kept.pages.covers.heap_size is.makes.changed.each) covers in
       record {
         ledger = sealed_ledger g v m.ledger m2.ledger is.turn s.mails.items s.outs.items kept.ledger ledger few is.makes.more is.mails is.outs;
         pages = pages_kept (heap_pages g) up m2.pages (sealed_pages (length m.ledger.turns.items + 1) pages (turn_pages m.pages)) (handed_pages (length m.ledger.turns.items + 1) pages (image_pages m.pages)) turning_is patching_is after (seals.widths.0 ∙ kept.pages.unclean) (seals.widths.1 ∙ kept.pages.opened);

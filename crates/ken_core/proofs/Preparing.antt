@@ -70,10 +70,10 @@ pub known_sends : (a b : ℕ) (ss rs : List Send) → a ≡ b → ss ≡ rs → 
 known_sends a b ss rs same lists all = subst (λ (xs : List Send). AllByRecursion (λ (s : Send). s.to < b) xs) (sym lists) (each_below a b rs same all)
 
 -- what the code keeps of a turn is that turn
-pub sealing_is : (g : Game) (made v : ℕ) (k : Machine) (m : Message) (draws : List ℕ) (pages : List Page) (bytes : List ℕ) (sends : List Send) (outs : List (List ℕ)) (e : Effect) (s : Sealing) → IsKept g made v k → Keeps v k m draws pages bytes sends outs s
-    → sends ≡ e.sends → outs ≡ e.outs → bytes ≡ overlay k.pages.heap.items pages → AllByRecursion (λ (x : Send). x.to < g.nodes) e.sends → max (stamp_after 0 k.ledger.turns.items) m.stamp + 1 < 2 ^ 64
+pub sealing_is : (g : Game) (made v : ℕ) (k : Machine) (m : Message) (draws : List ℕ) (pages : List Page) (value : Value) (sends : List Send) (outs : List (List ℕ)) (e : Effect) (s : Sealing) → IsKept g made v k → Keeps v k m draws pages value sends outs s
+    → sends ≡ e.sends → outs ≡ e.outs → value ≡ e.value → AllByRecursion (λ (x : Send). x.to < g.nodes) e.sends → max (stamp_after 0 k.ledger.turns.items) m.stamp + 1 < 2 ^ 64
     → MakesTurn g v (node_in k) m draws pages (turn_with (node_in k) draws m e) → IsSealing g v (node_in k) m draws pages s
-sealing_is g made v k m draws pages bytes sends outs e s kept keeps sends_are outs_are bytes_are known early makes =
+sealing_is g made v k m draws pages value sends outs e s kept keeps sends_are outs_are value_is known early makes =
     let t : Turn = turn_with (node_in k) draws m e in
     let es : List Effects = k.ledger.turns.items in
     let mails : s.mails.items ≡ posted_after v t.stamp (λ w. length (mails_to v w es)) e.sends =
@@ -87,7 +87,7 @@ sealing_is g made v k m draws pages bytes sends outs e s kept keeps sends_are ou
           ∙ ap (λ x. record { from = m.from; number = m.number; stamp = x; draws = draws; sends = map sent_of s.mails.items; outs = s.outs.items }) keeps.is_stamp
           ∙ ap (λ ms. record { from = m.from; number = m.number; stamp = t.stamp; draws = draws; sends = map sent_of ms; outs = s.outs.items }) mails
           ∙ ap (λ os. record { from = m.from; number = m.number; stamp = t.stamp; draws = draws; sends = map sent_of (posted_after v t.stamp (λ w. length (mails_to v w es)) e.sends); outs = os }) outputs;
-      heap = keeps.heap ∙ bytes_are;
+      value = keeps.value ∙ value_is;
       live = keeps.live;
       ahead = keeps.ahead;
       mails = mails;

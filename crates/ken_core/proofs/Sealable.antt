@@ -1,5 +1,5 @@
 -- A turn that is ready can be sealed.
-use Rattle.std.proofs.Common.{◌≡◌, ℕ, ◌+◌, ◌<◌, ◌≤◌, ◌^◌, List, [], ◌∷◌, length, slice_get, slice_index, Some, Bool, true, false, ◌==◌, if◌then◌else◌, sym, ap, ◌∙◌, subst, ⊎_elim, arith}
+use Rattle.std.proofs.Common.{◌≡◌, ℕ, ◌+◌, ◌<◌, ◌≤◌, ◌^◌, List, [], ◌∷◌, map, length, slice_get, slice_index, Some, Bool, true, false, ◌==◌, if◌then◌else◌, sym, ap, ◌∙◌, subst, ⊎_elim, arith}
 use Rattle.std.specs.List.{All, AllByRecursion}
 use Rattle.std.proofs.lemmas.Bool.{cases_lt}
 use Rattle.std.proofs.lemmas.List.{get_or_past}
@@ -8,12 +8,16 @@ use Rattle.std.proofs.lemmas.List.Sums.{count_by-le-length}
 use Rattle.std.proofs.lemmas.Option.{slice_get_within}
 use Rattle.ken_model.specs.declared.messages.Message.{Message}
 use Rattle.ken_model.specs.declared.reports.Emission.{Emission}
+use Rattle.ken_model.specs.declared.values.Value.{Value}
 use Rattle.ken_model.specs.Game.{Game}
+use Rattle.ken_model.specs.Reading.{read_value}
 use Rattle.ken_model.specs.Network.{outside}
 use Rattle.ken_record.specs.declared.page.Page.{Page}
 use Rattle.ken_cover.specs.declared.layers.Change.{Change}
-use Rattle.ken_cover.specs.Overlay.{AreWithin}
-use Rattle.ken_cover.specs.Sides.{changes_at}
+use Rattle.ken_cover.specs.declared.layers.Layer.{Layer}
+use Rattle.ken_cover.specs.Overlay.{overlay, AreWithin}
+use Rattle.ken_cover.specs.Sides.{TurnPages, changes_at}
+use Rattle.ken_cover.proofs.Bases.{pages-changes_at}
 use Rattle.ken_record.specs.declared.effects.Effects.{Effects}
 use Rattle.ken_core.specs.declared.ledger.Ledger.{Ledger}
 use Rattle.ken_core.specs.declared.machine.Machine.{Machine}
@@ -21,8 +25,10 @@ use Rattle.ken_core.specs.declared.sealing.Sealing.{Sealing}
 use Rattle.ken_core.specs.Nodes.{heap_pages}
 use Rattle.ken_core.specs.Ledgers.{counted_from, IsLedger}
 use Rattle.ken_core.specs.Groups.{AreKept, made_by}
+use Rattle.ken_core.specs.Pages.{AreFit}
 use Rattle.ken_core.specs.Seals.{IsRoomier}
 use Rattle.ken_core.specs.Next.{IsReady}
+use Rattle.ken_core.proofs.Fits.{change_fits}
 use Rattle.ken_core.proofs.Keeps.{changed_within}
 use Rattle.ken_core.proofs.Played.{here, next, roomier_kept, put_sent}
 
@@ -32,6 +38,8 @@ pub record CanSeal (s : Sealing) (m : Machine) : Type 0 where
   pub waits : counted_from m.ledger s.effects.from + 1 < 2 ^ 64
   pub sender : s.effects.from < 255 → s.effects.from < length m.ledger.consumed.items
   pub within : AllByRecursion (λ (c : Change). c.page.page < length m.pages.unclean) s.live.changes
+  pub fit : AreFit (length m.pages.heap) s.live.changes
+  pub value : read_value (overlay m.pages.heap (map (λ (c : Change). c.page) s.live.changes)) ≡ Some s.value
 
 marked : (n width turn : ℕ) (pages : List Page) → width ≡ n → AreWithin n pages → AllByRecursion (λ (c : Change). c.page.page < width) (changes_at turn pages)
 marked n width turn [] whole all = tt
@@ -53,6 +61,9 @@ can_seal g ms es v k from draws pages s m m1 kept is same known ready roomier =
     let sealing = here g ms es v k from draws pages s m kept is same known ready in
     let comes = next g ms es v k from draws pages s m kept is same known ready in
     let sender_is : s.effects.from ≡ ready.message.from = ap (λ (e : Effects). e.from) sealing.effects ∙ ap (λ (x : Message). x.from) sealing.makes.takes in
+    let inside = changed_within (heap_pages g) m.pages.heap pages (kept.each v m is).pages.covers.heap_size sealing.makes.changed.each in
+    let turn : ℕ = length m.ledger.turns.items + 1 in
+    let are : map (λ (c : Change). c.page) s.live.changes ≡ pages = ap (λ (l : Layer). map (λ (c : Change). c.page) l.changes) sealing.live ∙ pages-changes_at turn pages in
     record {
       known = All-from_recursion (λ (x : Message). x.to < length m1.ledger.sent.items) s.mails.items (subst (λ n. AllByRecursion (λ (x : Message). x.to < n) s.mails.items) (sym mine.ledger.sent_width) sealing.receivers);
       waits = counted_few g v m1.ledger s.effects.from mine.ledger kept.limits.few_turns;
@@ -61,5 +72,7 @@ can_seal g ms es v k from draws pages s m m1 kept is same known ready roomier =
           (λ input. let e = input.0 in absurd (omega arith))
           comes.came;
       within = subst (λ cs. AllByRecursion (λ (c : Change). c.page.page < length m1.pages.unclean) cs) (sym (ap (λ l. l.changes) sealing.live))
-          (marked (heap_pages g) (length m1.pages.unclean) (length m.ledger.turns.items + 1) pages mine.pages.unclean (changed_within (heap_pages g) m.pages.heap.items pages (kept.each v m is).pages.covers.heap_size sealing.makes.changed.each));
+          (marked (heap_pages g) (length m1.pages.unclean) turn pages mine.pages.unclean inside);
+      fit = change_fits (heap_pages g) (length m1.pages.heap) s.live.changes mine.pages.covers.heap_size (subst (λ (ps : List Page). AreWithin (heap_pages g) ps) (sym are) inside);
+      value = ap read_value (ap (λ (t : TurnPages). overlay t.heap (map (λ (c : Change). c.page) s.live.changes)) roomier.turning ∙ ap (overlay m.pages.heap) are) ∙ sealing.makes.stands ∙ ap (λ (x : Value). Some x) (sym sealing.value);
     }

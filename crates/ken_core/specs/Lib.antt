@@ -9,6 +9,7 @@ pub mod Runs
 pub mod Calls
 pub mod Sets
 pub mod Pages
+pub mod Heaps
 pub mod Machines
 pub mod Staying
 pub mod Ledgers

@@ -8,7 +8,7 @@ use Rattle.ken_core.specs.declared.pages.Pages.{Pages}
 use Rattle.ken_core.specs.Sets.{has}
 
 abbrev pub turn_pages : Pages → TurnPages
-turn_pages p = record { heap = p.heap.items; live = p.live.items }
+turn_pages p = record { heap = p.heap; live = p.live.items }
 
 abbrev pub image_pages : Pages → ImagePages
 image_pages p = record { ahead = p.ahead.items; unclean = has p.unclean; image = p.image.items; «open» = has p.opened }

@@ -35,7 +35,7 @@ pub record IsSealing (g : Game) (v : ℕ) (n : Node) (m : Message) (draws : List
   pub turn : Turn
   pub makes : MakesTurn g v n m draws pages turn
   pub effects : s.effects ≡ effects_of v n.turning.turns turn
-  pub heap : s.heap.items ≡ overlay n.turning.pages.heap pages
+  pub value : s.value ≡ turn.effect.value
   pub live : s.live ≡ record { turn = length n.turning.turns + 1; changes = changes_at (length n.turning.turns + 1) pages }
   pub ahead : s.ahead ≡ s.live
   pub mails : s.mails.items ≡ posted_after v turn.stamp (λ w. length (mails_to v w n.turning.turns)) turn.effect.sends
@@ -43,13 +43,14 @@ pub record IsSealing (g : Game) (v : ℕ) (n : Node) (m : Message) (draws : List
   pub receivers : AllByRecursion (λ (x : Message). x.to < g.nodes) s.mails.items
   pub early : turn.stamp < 2 ^ 64
 
--- what a node keeps of a turn that takes a message with these draws, changes these pages, leaves this heap, and sends and outputs this
-pub record Keeps (v : ℕ) (k : Machine) (m : Message) (draws : List ℕ) (pages : List Page) (laid : List ℕ) (sends : List Send) (outs : List (List ℕ)) (s : Sealing) : Type 0 where
+-- what a node keeps of a turn that takes a message with these draws, changes these pages, leaves this value, and sends and outputs
+-- this
+pub record Keeps (v : ℕ) (k : Machine) (m : Message) (draws : List ℕ) (pages : List Page) (left : Value) (sends : List Send) (outs : List (List ℕ)) (s : Sealing) : Type 0 where
   pub stamp : ℕ
   pub is_stamp : stamp ≡ max (stamp_after 0 k.ledger.turns.items) m.stamp + 1
   pub mails : s.mails.items ≡ posted_after v stamp (λ w. length (sent_to k.ledger w)) sends
   pub outputs : s.outs.items ≡ outputs_from (length k.ledger.outs.items) outs
   pub effects : s.effects ≡ record { from = m.from; number = m.number; stamp = stamp; draws = draws; sends = map sent_of s.mails.items; outs = s.outs.items }
-  pub heap : s.heap.items ≡ laid
+  pub value : s.value ≡ left
   pub live : s.live ≡ record { turn = length k.ledger.turns.items + 1; changes = changes_at (length k.ledger.turns.items + 1) pages }
   pub ahead : s.ahead ≡ s.live

@@ -3,7 +3,7 @@ use Rattle.std.specs.Prelude.{◌≡◌, ◌<◌, ◌++◌, ◌||◌, [], ◌∷
 use Rattle.std.specs.VecDeque.{deque_len, deque_capacity}
 use Rattle.ken_cover.specs.declared.layers.Change.{Change}
 use Rattle.ken_cover.specs.declared.layers.Layer.{Layer}
-use Rattle.ken_cover.specs.Overlay.{among}
+use Rattle.ken_cover.specs.Overlay.{among, overlay}
 use Rattle.ken_cover.specs.Sides.{ImagePages, onto}
 use Rattle.ken_core.specs.declared.machine.Machine.{Machine}
 use Rattle.ken_core.specs.declared.sealing.Sealing.{Sealing}
@@ -32,6 +32,6 @@ pub record IsRoomier (m m2 : Machine) : Type 0 where
 pub record Seals (s : Sealing) (m m2 : Machine) : Type 0 where
   pub rest : m2 ≡ record m { ledger = m2.ledger; pages = m2.pages }
   pub ledger : IsSealed s.effects s.mails.items s.outs.items m.ledger m2.ledger
-  pub turning : turn_pages m2.pages ≡ record { heap = s.heap.items; live = m.pages.live.items ++ s.live ∷ [] }
+  pub turning : turn_pages m2.pages ≡ record { heap = overlay m.pages.heap (map (λ (c : Change). c.page) s.live.changes); live = m.pages.live.items ++ s.live ∷ [] }
   pub patching : image_pages m2.pages ≡ handed_image s.live s.ahead (image_pages m.pages)
   pub widths : KeepsWidths m.pages m2.pages

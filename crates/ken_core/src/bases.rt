@@ -51,8 +51,8 @@ impl Pages {
         turn: Option<u64>,
         changes: &mut Vec<Change>,
     ) -> Result<bool, AllocError>
-        requires { 256 * page + 256 ≤ length self.now.heap.items }
-        ensures made { IfOk result (λ may. IsTrue may → (last : Option Change) → turn ≡ option_map (λ c. c.turn) last → changes.new.items ≡ changes.old.items ++ base_change settled self.now.heap.items page last) }
+        requires { 256 * page + 256 ≤ length self.now.heap }
+        ensures made { IfOk result (λ may. IsTrue may → (last : Option Change) → turn ≡ option_map (λ c. c.turn) last → changes.new.items ≡ changes.old.items ++ base_change settled self.now.heap page last) }
         ensures may { IfOk result (λ may. IsTrue may → MayStay settled page turn self.now) }
         ensures may_not { IfOk result (λ may. may ≡ false → MustStay settled page turn self.now) }
     {
@@ -68,8 +68,8 @@ impl Pages {
 
     /// A page of the heap, with the turn that last changed it.
     fn change(&self, alloc: Global, turn: u64, page: u32) -> Result<Change, AllocError>
-        requires { 256 * page + 256 ≤ length self.now.heap.items }
-        ensures { IfOk result (λ c. c ≡ record { turn = turn; page = record { page = page; bytes = page_of self.now.heap.items page } }) }
+        requires { 256 * page + 256 ≤ length self.now.heap }
+        ensures { IfOk result (λ c. c ≡ record { turn = turn; page = record { page = page; bytes = page_of self.now.heap page } }) }
     {
         let bytes = page_in(self.heap.as_slice(), page);
         Ok(Change {

@@ -111,7 +111,8 @@ pub(crate) fn lay_layers(bytes: &mut [u8], layers: &[Layer])
     }
 }
 
-fn lay_changes(bytes: &mut [u8], changes: &[Change])
+/// Lays the pages of changes that lie within over the bytes, one after the other.
+pub(crate) fn lay_changes(bytes: &mut [u8], changes: &[Change])
     requires { AreFit (length bytes.old) changes.now }
     ensures { bytes.new ≡ overlay bytes.old (map (λ c. c.page) changes.now) }
 {

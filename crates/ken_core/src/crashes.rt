@@ -9,6 +9,7 @@ ghost use Rattle.ken_core.specs.Machines.{turn_pages, image_pages, IsPaged, Keep
 
 use crate::bytes::{are_whole, lay, lay_layers, rise};
 use crate::copies;
+use crate::heap::Heap;
 use crate::marks::{mark_layers, mark_pages};
 use crate::number_set::Numbers;
 use crate::pages::Pages;
@@ -54,7 +55,7 @@ impl Pages {
         mark_layers(&mut unclean, self.live.as_slice());
         let ahead = to_patch(alloc, self.live.as_slice())?;
         let live = recounted_layers(alloc, self.live.as_slice())?;
-        self.heap = heap;
+        self.heap = Heap::new(heap);
         self.live = live;
         self.ahead = ahead;
         self.unclean = unclean;

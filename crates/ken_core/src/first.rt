@@ -8,6 +8,7 @@ ghost use Rattle.ken_model.specs.Network.{inputs_for, inputs_from};
 ghost use Rattle.ken_core.specs.Nodes.{heap_pages};
 
 use crate::copies;
+use crate::heap::Heap;
 use crate::ledger::Ledger;
 use crate::machine::Machine;
 use crate::number_set::Numbers;
@@ -113,7 +114,7 @@ fn no_numbers(alloc: Global, nodes: u8) -> Result<Vec<Numbers>, AllocError>
 /// The pages of a heap without blocks, and of its image.
 fn first_pages(alloc: Global, pages: u32) -> Result<Pages, AllocError>
     requires { (0 < pages) × (pages ≤ 4096) }
-    ensures heap { IfOk result (λ p. p.heap.items ≡ first_heap pages) }
+    ensures heap { IfOk result (λ p. p.heap ≡ first_heap pages) }
     ensures image { IfOk result (λ p. p.image.items ≡ first_heap pages) }
     ensures live { IfOk result (λ p. p.live.items ≡ []) }
     ensures ahead { IfOk result (λ p. p.ahead.items ≡ []) }
@@ -121,7 +122,7 @@ fn first_pages(alloc: Global, pages: u32) -> Result<Pages, AllocError>
     ensures opened { IfOk result (λ p. p.opened ≡ replicate pages false) }
 {
     Ok(Pages {
-        heap: first_heap(alloc, pages)?,
+        heap: Heap::new(first_heap(alloc, pages)?),
         live: Vec::new(alloc),
         ahead: VecDeque::new(alloc),
         unclean: Numbers::none(alloc, pages as usize)?,

@@ -295,25 +295,29 @@ impl<'a> Group<'a> {
         sender.put_at(node, count)
     }
 
-    /// The turn of a node that takes the next message of a sender: `None` where it may not be sealed.
+    /// The turn of a node that takes the next message of a sender: `None` where it may not be sealed. Nothing changes.
     fn sealing(
-        &self,
+        &mut self,
         alloc: Global,
         node: u8,
         from: u8,
         draws: &[u64],
         pages: &[Page],
     ) -> Result<Option<Sealing>, AllocError>
-        requires kept { AreKept (game_of self.now.facts.now) self.now.machines.items }
-        requires known { node < self.now.facts.now.nodes }
-        ensures some { IfOk result (λ s. IfSome s (IsReady (game_of self.now.facts.now) self.now.machines.items self.now.emissions.items node from draws.now pages.now)) }
-        ensures none { IfOk result (λ s. IfNone s (IsUnready (game_of self.now.facts.now) self.now.machines.items self.now.emissions.items node from draws.now pages.now)) }
+        requires kept { AreKept (game_of self.old.facts.now) self.old.machines.items }
+        requires known { node < self.old.facts.now.nodes }
+        ensures some { IfOk result (λ s. IfSome s (IsReady (game_of self.old.facts.now) self.new.machines.items self.new.emissions.items node from draws.now pages.now)) }
+        ensures none { IfOk result (λ s. IfNone s (IsUnready (game_of self.old.facts.now) self.new.machines.items self.new.emissions.items node from draws.now pages.now)) }
+        ensures same { group_of (game_of self.old.facts.now) self.new.machines.items self.new.emissions.items ≡ group_of (game_of self.old.facts.now) self.old.machines.items self.old.emissions.items }
+        ensures kept { AreKept (game_of self.old.facts.now) self.new.machines.items }
+        ensures facts { self.new.facts.now ≡ self.old.facts.now }
     {
         let Some(message) = self.next(node, from) else {
             return Ok(None);
         };
-        let machine = &self.machines[usize::from(node)];
-        Sealing::prepare(alloc, self.facts, node, machine, message, draws, pages)
+        let message = copies::message(alloc, message)?;
+        let machine = &mut self.machines[usize::from(node)];
+        Sealing::prepare(alloc, self.facts, node, machine, &message, draws, pages)
     }
 
     /// A turn of a node is sealed.

@@ -10,6 +10,7 @@ mod crashes;
 mod events;
 mod first;
 mod group;
+mod heap;
 mod laws;
 mod ledger;
 mod machine;

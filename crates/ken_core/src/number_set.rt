@@ -6,7 +6,7 @@ ghost use Rattle.ken_core.specs.Sets.{has, has_at};
 use std::alloc::{AllocError, Global};
 use std::marker::Model;
 
-/// Some numbers, each of which costs a bit up to the largest.
+/// Some numbers: of each up to the largest a byte tells whether it is in.
 #[derive(Debug, Drop)]
 pub(crate) struct Numbers {
     bits: Vec<bool>,

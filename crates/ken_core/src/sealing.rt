@@ -5,13 +5,10 @@ ghost use Rattle.ken_model.specs.Actors.{posted_after};
 ghost use Rattle.ken_model.specs.Network.{Turn, outputs_from};
 ghost use Rattle.ken_model.specs.Game.{game_of};
 ghost use Rattle.ken_model.specs.Limits.{IsWithinLimits};
-ghost use Rattle.ken_cover.specs.Overlay.{overlay};
 ghost use Rattle.ken_core.specs.Turns.{sent_of, stamp_after};
-ghost use Rattle.ken_core.specs.Pages.{IsFit};
-ghost use Rattle.ken_core.specs.Enabled.{IsChanged};
 ghost use Rattle.ken_core.specs.Groups.{node_in, IsKept};
 
-use crate::bytes::{are_changed, lay};
+use crate::bytes::are_changed;
 use crate::copies;
 use crate::machine::Machine;
 use ken_cover::Layer;
@@ -22,7 +19,8 @@ use std::alloc::{AllocError, Global};
 /// A turn that can be sealed, with all that its node will keep of it.
 #[derive(Debug, Drop)]
 pub(crate) struct Sealing {
-    pub heap: Vec<u8>,
+    /// What the heap stands for after it.
+    pub value: Value,
     pub live: Layer,
     pub ahead: Layer,
     pub effects: Effects,
@@ -34,22 +32,23 @@ impl Sealing {
     ghost use Rattle.ken_core.specs.Sealings.{MakesTurn, IsSealing, Keeps};
 
     /// The turn of node `node` that takes this message with these draws and changes these pages: `None` where its handler
-    /// doesn't make it so, or the node may make none.
+    /// doesn't make it so, or the node may make none. The node stays as it is, after an error too.
     pub(crate) fn prepare(
         alloc: Global,
         facts: &Facts,
         node: u8,
-        machine: &Machine,
+        machine: &mut Machine,
         message: &Message,
         draws: &[u64],
         pages: &[Page],
     ) -> Result<Option<Sealing>, AllocError>
         requires limits { IsWithinLimits (game_of facts.now) }
         requires known { node < facts.now.nodes }
-        requires kept { (made : ℕ) × IsKept (game_of facts.now) made node machine.now }
-        requires early { max (stamp_after 0 machine.now.ledger.turns.items) message.now.stamp + 1 < 2 ^ 64 }
-        ensures some { IfOk result (λ s. IfSome s (IsSealing (game_of facts.now) node (node_in machine.now) message.now draws.now pages.now)) }
-        ensures none { IfOk result (λ s. IfNone s ((t : Turn) → MakesTurn (game_of facts.now) node (node_in machine.now) message.now draws.now pages.now t → ⊥)) }
+        requires kept { (made : ℕ) × IsKept (game_of facts.now) made node machine.old }
+        requires early { max (stamp_after 0 machine.old.ledger.turns.items) message.now.stamp + 1 < 2 ^ 64 }
+        ensures some { IfOk result (λ s. IfSome s (IsSealing (game_of facts.now) node (node_in machine.old) message.now draws.now pages.now)) }
+        ensures none { IfOk result (λ s. IfNone s ((t : Turn) → MakesTurn (game_of facts.now) node (node_in machine.old) message.now draws.now pages.now t → ⊥)) }
+        ensures same { machine.new ≡ machine.old }
     {
         if !machine.up {
             return Ok(None);
@@ -57,11 +56,10 @@ impl Sealing {
         if machine.ledger.turns.len() as u64 >= facts.turns {
             return Ok(None);
         }
-        let before = machine.pages.heap.as_slice();
-        if !are_changed(before, pages) {
+        if !are_changed(machine.pages.heap.as_slice(), pages) {
             return Ok(None);
         }
-        let Some(value) = Value::read(alloc, before)? else {
+        let Some(value) = machine.pages.heap.take_value(alloc)? else {
             return Ok(None);
         };
         let reaction = facts
@@ -70,8 +68,7 @@ impl Sealing {
         let Some(reaction) = reaction else {
             return Ok(None);
         };
-        let heap = laid(alloc, before, pages)?;
-        let Some(now) = Value::read(alloc, heap.as_slice())? else {
+        let Some(now) = machine.pages.heap.value_under(alloc, pages)? else {
             return Ok(None);
         };
         if !is_same(&now, &reaction.value) {
@@ -84,14 +81,14 @@ impl Sealing {
             message,
             draws,
             pages,
-            heap,
+            now,
             reaction.sends.as_slice(),
             reaction.outs.as_slice(),
         )?;
         Ok(Some(sealing))
     }
 
-    /// What a node keeps of a turn that sends and outputs this, and leaves this heap.
+    /// What a node keeps of a turn that sends and outputs this, and leaves this value.
     fn of(
         alloc: Global,
         node: u8,
@@ -99,13 +96,13 @@ impl Sealing {
         message: &Message,
         draws: &[u64],
         pages: &[Page],
-        heap: Vec<u8>,
+        value: Value,
         sends: &[Send],
         outs: &[Octets],
     ) -> Result<Sealing, AllocError>
         requires known { AllByRecursion (λ s. s.to < length machine.now.ledger.sent.items) sends.now }
         requires early { max (stamp_after 0 machine.now.ledger.turns.items) message.now.stamp + 1 < 2 ^ 64 }
-        ensures { IfOk result (Keeps node machine.now message.now draws.now pages.now heap.items sends.now outs.now) }
+        ensures { IfOk result (Keeps node machine.now message.now draws.now pages.now value sends.now outs.now) }
     {
         let turn = machine.ledger.turns.len() as u64 + 1;
         let stamp = machine.ledger.stamp().max(message.stamp) + 1;
@@ -121,7 +118,7 @@ impl Sealing {
             outs: numbered_copy(alloc, outs.as_slice())?,
         };
         Ok(Sealing {
-            heap,
+            value,
             live: copies::layer(alloc, turn, pages)?,
             ahead: copies::layer(alloc, turn, pages)?,
             effects,
@@ -129,16 +126,6 @@ impl Sealing {
             outs,
         })
     }
-}
-
-/// The bytes with pages over them.
-fn laid(alloc: Global, heap: &[u8], pages: &[Page]) -> Result<Vec<u8>, AllocError>
-    requires { AllByRecursion (IsChanged heap.now) pages.now }
-    ensures { IfOk result (λ bytes. bytes.items ≡ overlay heap.now pages.now) }
-{
-    let mut bytes = Vec::from_slice(alloc, heap)?;
-    lay(&mut bytes, pages);
-    Ok(bytes)
 }
 
 /// Whether two values are the same.

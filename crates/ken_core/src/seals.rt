@@ -1,7 +1,10 @@
 // A turn is sealed.
-ghost use Rattle.std.specs.Prelude.{◌≡◌, ◌+◌, ◌<◌, ◌^◌, ◌++◌, [], ◌∷◌, length, vec_len, vec_capacity, OnOk};
+ghost use Rattle.std.specs.Prelude.{◌≡◌, ◌+◌, ◌<◌, ◌^◌, ◌++◌, [], ◌∷◌, map, Some, length, vec_len, vec_capacity, OnOk};
 ghost use Rattle.std.specs.List.{All, AllByRecursion};
 ghost use Rattle.std.specs.VecDeque.{deque_len, deque_capacity};
+ghost use Rattle.ken_model.specs.Reading.{read_value};
+ghost use Rattle.ken_cover.specs.Overlay.{overlay};
+ghost use Rattle.ken_core.specs.Pages.{AreFit};
 ghost use Rattle.ken_core.specs.Ledgers.{counted_from};
 ghost use Rattle.ken_core.specs.Machines.{turn_pages, image_pages, KeepsWidths};
 
@@ -10,6 +13,7 @@ use crate::marks::mark_changes;
 use crate::pages::Pages;
 use crate::sealing::Sealing;
 use ken_cover::Layer;
+use ken_model::Value;
 use std::alloc::AllocError;
 
 impl Machine {
@@ -33,10 +37,12 @@ impl Machine {
         requires waits { counted_from self.old.ledger sealing.effects.from + 1 < 2 ^ 64 }
         requires sender { sealing.effects.from < 255 → sealing.effects.from < length self.old.ledger.consumed.items }
         requires within { AllByRecursion (λ c. c.page.page < length self.old.pages.unclean) sealing.live.changes }
+        requires fit { AreFit (length self.old.pages.heap) sealing.live.changes }
+        requires value { read_value (overlay self.old.pages.heap (map (λ c. c.page) sealing.live.changes)) ≡ Some sealing.value }
         ensures { Seals sealing self.old self.new }
     {
         let Sealing {
-            heap,
+            value,
             live,
             ahead,
             effects,
@@ -44,7 +50,7 @@ impl Machine {
             outs,
         } = sealing;
         self.ledger.seal(effects, mails, outs);
-        self.pages.hand(heap, live, ahead);
+        self.pages.hand(value, live, ahead);
     }
 }
 
@@ -52,16 +58,18 @@ impl Pages {
     ghost use Rattle.ken_core.specs.Seals.{handed_image};
 
     /// Takes the record of a turn over, for which there is room.
-    fn hand(&mut self, heap: Vec<u8>, live: Layer, ahead: Layer)
+    fn hand(&mut self, value: Value, live: Layer, ahead: Layer)
         requires live { vec_len self.old.live < vec_capacity self.old.live }
         requires ahead { deque_len self.old.ahead < deque_capacity self.old.ahead }
         requires within { AllByRecursion (λ c. c.page.page < length self.old.unclean) live.changes }
-        ensures turning { turn_pages self.new ≡ record { heap = heap.items; live = self.old.live.items ++ live ∷ [] } }
+        requires fit { AreFit (length self.old.heap) live.changes }
+        requires value { read_value (overlay self.old.heap (map (λ c. c.page) live.changes)) ≡ Some value }
+        ensures turning { turn_pages self.new ≡ record { heap = overlay self.old.heap (map (λ c. c.page) live.changes); live = self.old.live.items ++ live ∷ [] } }
         ensures image { image_pages self.new ≡ handed_image live ahead (image_pages self.old) }
         ensures widths { KeepsWidths self.old self.new }
     {
         mark_changes(&mut self.unclean, live.changes.as_slice());
-        self.heap = heap;
+        self.heap.change(live.changes.as_slice(), value);
         self.live.push_reserved(live);
         if !ahead.changes.is_empty() {
             self.ahead.push_back_reserved(ahead);

@@ -31,7 +31,7 @@ pub loop-page-preserved : goal.loop-page-preserved
 loop-page-preserved c =
     let at = (goal.at.loop-page-preserved c).In_ok-put in
     record {
-      made = base_more (λ p. base_change c.args.settled c.args.self.now.heap.items p (last_change p c.args.self.now.live.items)) c.loop-page.page c.loop-page.changes.items c.put.new.changes.items c.loop-page.invariant.made
+      made = base_more (λ p. base_change c.args.settled c.args.self.now.heap p (last_change p c.args.self.now.live.items)) c.loop-page.page c.loop-page.changes.items c.put.new.changes.items c.loop-page.invariant.made
           (c.in_ok-put.ensures.made c.if-not-branch.false (last_change c.loop-page.page c.args.self.now.live.items) (turn_is at));
       may = λ p x within last left. ⊎_elim
           (λ (same : p ≡ c.loop-page.page).

@@ -7,6 +7,6 @@ use Rattle.ken_core.proofs.pages.Pages.base.Given as goal
 
 abbrev pub invariant-loop-page : goal.invariant-loop-page
 invariant-loop-page l = record {
-  made : l.changes.items ≡ flat_map (λ p. base_change l.settled l.self.heap.items p (last_change p l.self.live.items)) (range_with_len 0 l.page);
+  made : l.changes.items ≡ flat_map (λ p. base_change l.settled l.self.heap p (last_change p l.self.live.items)) (range_with_len 0 l.page);
   may : (p : ℕ) (c : Change) → p < l.page → last_change p l.self.live.items ≡ Some c → stays l.settled c.turn ≡ false → has l.self.unclean p ≡ false;
 }

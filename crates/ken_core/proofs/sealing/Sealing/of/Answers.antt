@@ -30,7 +30,7 @@ returns c =
       effects = ap (λ ds. record { from = c.args.message.now.from; number = c.args.message.now.number; stamp = stamp; draws = ds; sends = c.in_ok-sents.field-0; outs = c.in_ok-numbered_copy.field-0 }) c.in_ok-draws.ensures
           ∙ ap (λ ss. record { from = c.args.message.now.from; number = c.args.message.now.number; stamp = stamp; draws = c.args.draws.now; sends = ss; outs = c.in_ok-numbered_copy.field-0 }) (c.in_ok-sents.ensures ∙ ap (map sent_of) c.as_slice-2.ensures.value)
           ∙ ap (λ os. record { from = c.args.message.now.from; number = c.args.message.now.number; stamp = stamp; draws = c.args.draws.now; sends = map sent_of mails; outs = os }) (c.in_ok-numbered_copy.ensures ∙ c.as_slice-3.ensures.value);
-      heap = refl;
+      value = refl;
       live = c.in_ok-layer.ensures ∙ ap (λ k. record { turn = k + 1; changes = changes_at (k + 1) c.args.pages.now }) (omega (arith, c.len.ensures, c.args.machine.now.ledger.turns.ok.0));
       ahead = c.in_ok-layer-2.ensures ∙ sym c.in_ok-layer.ensures;
     }

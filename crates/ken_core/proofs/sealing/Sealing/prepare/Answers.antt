@@ -11,12 +11,14 @@ use Rattle.ken_model.specs.Reading.{read_value}
 use Rattle.ken_cover.specs.Overlay.{overlay}
 use Rattle.ken_core.specs.Enabled.{AreChanged}
 use Rattle.ken_core.specs.Groups.{node_in}
+use Rattle.ken_core.specs.declared.machine.Machine.{Machine}
+use Rattle.ken_core.specs.Sealings.{Keeps}
 use Rattle.ken_core.proofs.Preparing.{unreacted, differing, reacts, known_sends, sealing_is}
 use Rattle.ken_core.proofs.sealing.Sealing.prepare.Goals as goal
 use Rattle.ken_core.proofs.sealing.Sealing.prepare.Goals.{In-Some, In-Some-reaction, In-Some-2}
 
-reads : (c : In-Some) → read_value c.args.machine.now.pages.heap.items ≡ Some c.in-Some.value
-reads c = ap read_value (sym c.as_slice-before.ensures.value) ∙ sym c.in_ok-value.ensures.value ∙ c.in-Some.is
+reads : (c : In-Some) → read_value c.args.machine.now.pages.heap ≡ Some c.in-Some.value
+reads c = sym c.in_ok-value.ensures.value ∙ c.in-Some.is
 
 pub returns-in_default-reaction-clause-none : goal.returns-in_default-reaction-clause-none
 returns-in_default-reaction-clause-none c = λ t makes.
@@ -26,8 +28,8 @@ returns-in_default-reaction-clause-none c = λ t makes.
 reaction : (c : In-Some-reaction) → Some (effect_in c.in-Some-reaction.reaction) ≡ (handler_of c.args.facts.now.kind).after c.args.node c.args.facts.now.nodes c.in-Some.value c.args.message.now c.args.draws.now
 reaction c = ap (option_map effect_in) (sym c.in-Some-reaction.is) ∙ c.in_ok-reaction.ensures.effect
 
-laid : (c : In-Some-2) → read_value (overlay c.args.machine.now.pages.heap.items c.args.pages.now) ≡ Some c.in-Some-2.now
-laid c = sym (ap read_value (c.as_slice.ensures.value ∙ c.in_ok-heap.ensures ∙ ap (λ bytes. overlay bytes c.args.pages.now) c.as_slice-before.ensures.value)) ∙ sym c.in_ok-now.ensures.value ∙ c.in-Some-2.is
+laid : (c : In-Some-2) → read_value (overlay c.args.machine.now.pages.heap c.args.pages.now) ≡ Some c.in-Some-2.now
+laid c = ap (λ bytes. read_value (overlay bytes c.args.pages.now)) (sym c.take_value.ensures.same) ∙ sym c.in_ok-now.ensures.value ∙ c.in-Some-2.is
 
 pub returns-then-not-is_same-clause-none : goal.returns-then-not-is_same-clause-none
 returns-then-not-is_same-clause-none c = λ t makes.
@@ -48,9 +50,11 @@ returns-clause-some c =
     let at = goal.at.returns-clause-some c in
     let g : Game = game_of c.args.facts.now in
     let e : Effect = effect_in c.in-Some-reaction.reaction in
-    let changed : AreChanged c.args.machine.now.pages.heap.items c.args.pages.now = subst (λ bytes. AreChanged bytes c.args.pages.now) c.as_slice-before.ensures.value (c.are_changed.ensures.0 c.if-not-are_changed.false) in
-    sealing_is (game_of c.args.facts.now) c.requires.kept.0 c.args.node c.args.machine.now c.args.message.now c.args.draws.now c.args.pages.now c.in_ok-heap.heap.items c.as_slice-2.result.now c.as_slice-3.result.now e c.in_ok-sealing.sealing c.requires.kept.1 c.in_ok-sealing.ensures
-    c.as_slice-2.ensures c.as_slice-3.ensures (c.in_ok-heap.ensures ∙ ap (λ bytes. overlay bytes c.args.pages.now) c.as_slice-before.ensures.value) (known at.In-Some-reaction) c.requires.early
+    let changed : AreChanged c.args.machine.now.pages.heap c.args.pages.now = subst (λ bytes. AreChanged bytes c.args.pages.now) c.as_slice.ensures (c.are_changed.ensures.0 c.if-not-are_changed.false) in
+    sealing_is (game_of c.args.facts.now) c.requires.kept.0 c.args.node c.args.machine.now c.args.message.now c.args.draws.now c.args.pages.now c.in-Some-2.now c.as_slice-2.result.now c.as_slice-3.result.now e c.in_ok-sealing.sealing c.requires.kept.1
+    (subst (λ (k : Machine). Keeps c.args.node k c.args.message.now c.args.draws.now c.args.pages.now c.in-Some-2.now c.as_slice-2.result.now c.as_slice-3.result.now c.in_ok-sealing.sealing)
+    (ap (λ bytes. record c.args.machine.now { pages = record c.args.machine.now.pages { heap = bytes } }) (c.value_under.ensures.same ∙ c.take_value.ensures.same)) c.in_ok-sealing.ensures)
+    c.as_slice-2.ensures c.as_slice-3.ensures (c.is_same.ensures.0 c.if-not-is_same.false) (known at.In-Some-reaction) c.requires.early
     (record {
       up = c.if-not-machine.false;
       more = omega (arith, c.if-len-facts.false, c.len.ensures, c.args.machine.now.ledger.turns.ok.0);
