@@ -1,15 +1,13 @@
 // Events as a random word picks them.
+ghost use Rattle.std.specs.Prelude.{◌<◌, ◌≤◌};
 
 use crate::group::{NODES, after, before};
 use crate::nodes::Known;
 use ken_core::{Event, Outcome, Told};
-use ken_model::{Items, OUTSIDE, Octets};
+use ken_model::{Head, Items, OUTSIDE, Octets, PAGE, empty_header};
 use ken_num::put_u64;
 use ken_record::Page;
 use std::alloc::{AllocError, Global};
-
-// What follows the root in a heap of one page without blocks, up to the zeros.
-const HEADER: [u8; 12] = [b'K', b'E', b'N', b'H', 0, 0, 0, 1, 0, 0, 0, 0xf0];
 
 // A page of 256 bytes that begins so.
 fn page(alloc: Global, mut front: Vec<u8>) -> Result<Items<Page>, AllocError> {
@@ -22,21 +20,30 @@ fn page(alloc: Global, mut front: Vec<u8>) -> Result<Items<Page>, AllocError> {
     Ok(Items::new(pages))
 }
 
-// The heap with that root.
-fn heap(alloc: Global, root: u64) -> Result<Items<Page>, AllocError> {
+// The first page of a heap of so many, without blocks, with that root.
+fn heap(alloc: Global, pages: u32, root: u64) -> Result<Items<Page>, AllocError>
+    requires { (0 < pages) × (pages ≤ 4096) }
+{
+    let gap = Head {
+        span: pages * PAGE as u32 - 16,
+        len: 0,
+    };
     let mut front = Vec::new(alloc);
     put_u64(&mut front, root)?;
-    front.extend_from_slice(&HEADER)?;
+    front.extend_from_slice(&empty_header(pages)[8..])?;
+    front.extend_from_slice(&gap.bytes())?;
     page(alloc, front)
 }
 
 // The turn that takes the next message of a sender.
-fn seal(alloc: Global, node: u8, from: u8, known: &Known) -> Result<Event, AllocError> {
+fn seal(alloc: Global, pages: u32, node: u8, from: u8, known: &Known) -> Result<Event, AllocError>
+    requires { (0 < pages) × (pages ≤ 4096) }
+{
     Ok(Event::Seal {
         node,
         from,
         draws: Items::new(Vec::new(alloc)),
-        pages: heap(alloc, known.turns.saturating_add(1))?,
+        pages: heap(alloc, pages, known.turns.saturating_add(1))?,
     })
 }
 
@@ -68,20 +75,24 @@ fn crash(alloc: Global, node: u8, known: &Known, torn: u8) -> Result<Event, Allo
     Ok(Event::Crash { node, pages })
 }
 
-/// An event of a node: of one that is down its recovery, and else what the word picks. `behind` is the node behind it.
+/// An event of a node with a heap of so many pages: of one that is down its recovery, and else what the word picks. `behind`
+/// is the node behind it.
 pub(crate) fn picked(
     alloc: Global,
+    pages: u32,
     node: u8,
     known: &Known,
     behind: &Known,
     word: u64,
-) -> Result<Event, AllocError> {
+) -> Result<Event, AllocError>
+    requires { (0 < pages) × (pages ≤ 4096) }
+{
     if !known.is_up {
         return Ok(Event::Recover { node });
     }
     match word % 64 {
-        0..=15 => seal(alloc, node, before(node), known),
-        16..=17 => seal(alloc, node, OUTSIDE, known),
+        0..=15 => seal(alloc, pages, node, before(node), known),
+        16..=17 => seal(alloc, pages, node, OUTSIDE, known),
         18..=29 => Ok(Event::Send {
             node,
             to: after(node),

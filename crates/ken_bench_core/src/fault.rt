@@ -4,7 +4,7 @@ use thiserror::Error;
 /// Why nothing was played.
 #[derive(Clone, Copy, Debug, PartialEq, Eq, Error)]
 pub(crate) enum Fault {
-    #[error("usage: ken_bench_core EVENTS SEED")]
+    #[error("usage: ken_bench_core EVENTS SEED PAGES")]
     Usage,
     #[error("out of memory")]
     Memory,

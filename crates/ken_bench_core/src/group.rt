@@ -1,5 +1,5 @@
-// The group that is played: eight nodes pass numbers round a ring, each in a heap of one page.
-ghost use Rattle.std.specs.Prelude.{◌<◌, IfOk};
+// The group that is played: eight nodes pass numbers round a ring.
+ghost use Rattle.std.specs.Prelude.{◌<◌, ◌≤◌, IfOk};
 ghost use Rattle.ken_model.specs.Game.{game_of};
 ghost use Rattle.ken_model.specs.Limits.{IsWithinLimits};
 
@@ -12,8 +12,9 @@ pub(crate) const NODES: u8 = 8;
 // The greatest number that a ring counts down: no run comes to 0.
 const ROUNDS: [u8; 9] = *b"999999999";
 
-/// One input for each node.
-pub(crate) fn facts(alloc: Global) -> Result<Facts, AllocError>
+/// One input for each node, and heaps of so many pages.
+pub(crate) fn facts(alloc: Global, pages: u32) -> Result<Facts, AllocError>
+    requires { (0 < pages) × (pages ≤ 4096) }
     ensures { IfOk result (λ f. IsWithinLimits (game_of f)) }
 {
     let mut inputs = Vec::new(alloc);
@@ -24,7 +25,7 @@ pub(crate) fn facts(alloc: Global) -> Result<Facts, AllocError>
     Ok(Facts {
         nodes: NODES,
         kind: Kind::Ring,
-        size: PAGE,
+        size: PAGE * u64::from(pages),
         turns: MAX_TURNS,
         inputs: Items::new(inputs),
     })

@@ -1,5 +1,5 @@
-//! Plays random events of a group of eight nodes, so that someone can take the time: `ken_bench_core EVENTS SEED`. The nodes
-//! pass eight numbers round a ring. Most of the events that are made up are enabled; the others change nothing.
+//! Plays random events of a group of eight nodes, so that someone can take the time: `ken_bench_core EVENTS
+//! SEED PAGES`. The nodes pass eight numbers round a ring, in heaps of so many pages. Most of the events that are made up are enabled; the others change nothing.
 #![tactic(auto)]
 
 mod events;
@@ -9,6 +9,7 @@ mod nodes;
 mod play;
 
 use fault::Fault;
+use ken_model::MAX_PAGES;
 use ken_num::num;
 use play::{Played, play};
 use std::alloc::Global;
@@ -35,10 +36,14 @@ fn command_line(rt: &HostRuntime) -> Result<Vec<String>, Fault> {
 
 fn run(alloc: Global, words: &[String]) -> Result<Played, Fault> {
     match words {
-        [_, events, seed] => {
+        [_, events, seed, pages] => {
             let events = num(events.as_bytes()).ok_or(Fault::Usage)?;
             let seed = num(seed.as_bytes()).ok_or(Fault::Usage)?;
-            play(alloc, events, seed)
+            let pages = num(pages.as_bytes()).ok_or(Fault::Usage)?;
+            if pages == 0 || pages > MAX_PAGES {
+                return Err(Fault::Usage);
+            }
+            play(alloc, events, seed, pages as u32)
         }
         _ => Err(Fault::Usage),
     }

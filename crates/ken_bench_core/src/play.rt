@@ -1,5 +1,5 @@
 // A list of events, made up one by one and played.
-ghost use Rattle.std.specs.Prelude.{◌≡◌, ◌≤◌, IfOk};
+ghost use Rattle.std.specs.Prelude.{◌≡◌, ◌<◌, ◌≤◌, IfOk};
 
 use crate::events::picked;
 use crate::fault::Fault;
@@ -30,11 +30,12 @@ impl fmt::Display for Played {
     }
 }
 
-/// Plays so many events, as the seed picks them.
-pub(crate) fn play(alloc: Global, events: u64, seed: u64) -> Result<Played, Fault>
+/// Plays so many events in heaps of so many pages, as the seed picks them.
+pub(crate) fn play(alloc: Global, events: u64, seed: u64, pages: u32) -> Result<Played, Fault>
+    requires { (0 < pages) × (pages ≤ 4096) }
     ensures { IfOk result (λ p. (p.events ≡ events) × (p.happened ≤ events)) }
 {
-    let facts = facts(alloc)?;
+    let facts = facts(alloc, pages)?;
     let mut cluster = Cluster::start(alloc, &facts)?;
     let mut nodes = [FIRST; NODES as usize];
     let mut words = Lcg::new(seed);
@@ -43,7 +44,7 @@ pub(crate) fn play(alloc: Global, events: u64, seed: u64) -> Result<Played, Faul
         let node = (words.next() % u64::from(NODES)) as u8;
         let known = nodes[usize::from(node)];
         let behind = nodes[usize::from(after(node))];
-        let event = picked(alloc, node, &known, &behind, words.next())?;
+        let event = picked(alloc, pages, node, &known, &behind, words.next())?;
         if cluster.step(alloc, &event)? {
             happened += 1;
             nodes[usize::from(node)] = known.after(&event);

@@ -1,4 +1,4 @@
-use Rattle.std.proofs.Common.{◌<◌, ◌≤◌, List, length, refl, sym, ap, subst, arith}
+use Rattle.std.proofs.Common.{◌*◌, ◌<◌, ◌≤◌, List, length, refl, sym, ap, subst, arith}
 use Rattle.std.specs.List.{AllByRecursion}
 use Rattle.ken_model.specs.declared.facts.Input.{Input}
 use Rattle.ken_bench_core.proofs.group.facts.Goals as goal
@@ -9,7 +9,7 @@ returns c = record {
   few_nodes = omega arith;
   some_turn = omega arith;
   few_turns = omega arith;
-  pages = (1, omega arith, omega arith, refl);
+  pages = (c.args.pages, c.requires.0, c.requires.1, ap (λ n. 256 * n) c.from.ensures);
   few_inputs = omega (arith, ap length c.new.ensures, c.loop-node.invariant.few, c.loop-node.auto.node-end);
   inputs = subst (λ (is : List Input). AllByRecursion (λ (i : Input). (i.node < 8) × (length i.text ≤ 512)) is) (sym c.new.ensures) c.loop-node.invariant.inputs;
 }
