@@ -16,7 +16,7 @@ use crate::walk::{self, Found};
 use crate::{Broken, adopt, carve, copy, format, head};
 use byteorder::{BigEndian, ByteOrder};
 use ken_frame::Frame;
-use ken_model::{CELLS, HEAD, Head, Items, Value};
+use ken_model::{CELLS, HEAD, Head, Items, PAGE, Value};
 use ken_pages::PageHeap;
 use std::alloc::{AllocError, Global};
 use std::marker::Model;
@@ -197,6 +197,22 @@ impl Objects {
         let mut bytes = [0; 8];
         BigEndian::write_u64(&mut bytes, root);
         self.pages.write(0, &bytes)
+    }
+
+    /// Reads as many bytes of a page as `buf` takes, from its first on, as they are now.
+    pub fn read_page(&self, page: u32, buf: &mut [u8])
+        requires { 256 * page + length buf.old ≤ length self.now.bytes }
+        ensures { buf.new ≡ take (length buf.old) (drop (256 * page) self.now.bytes) }
+    {
+        self.pages.read(PAGE * u64::from(page), buf);
+    }
+
+    /// A law, and no work: the bytes stand for the value, and so did those at `begin`.
+    pub fn stands(&self)
+        ensures now { StandsFor self.now.bytes self.now.value }
+        ensures before { IfSome self.now.begun (λ before. StandsFor before (value_of before)) }
+    {
+        let _ = &self.pages;
     }
 
     /// A copy of the value that the heap's bytes stand for.
