@@ -1,0 +1,6 @@
+pub mod Lines
+pub mod Lists
+pub mod Handed
+pub mod Heard
+pub mod Sent
+pub mod Resumed

@@ -1,0 +1,9 @@
+pub mod Causes
+pub mod Fates
+pub mod Outlets
+pub mod Fits
+pub mod Handing
+pub mod Parts
+pub mod Sending
+pub mod Taking
+pub mod Emitting

@@ -1,0 +1,238 @@
+// What a node was handed to send and emit, and how far it came.
+ghost use Rattle.std.specs.Prelude.{◌≡◌, ◌<◌, length, OnOk, OnErr};
+ghost use Rattle.ken_ship.specs.Fits.{AreMails};
+ghost use Rattle.ken_ship.specs.Handing.{acked_in, with_turn, progress_in};
+ghost use Rattle.std.specs.List.{All};
+ghost use Rattle.ken_outbox.specs.Waiting.{resumed};
+
+use crate::copies;
+use crate::items::{Progress, Sealed};
+use ken_links::{PopEnd, PushEnd, SLOTS, beside};
+use ken_model::{MAX_NODES, Message, Out, State};
+use ken_outbox::Outbox;
+use std::alloc::{AllocError, Global};
+use std::collections::VecDeque;
+
+// The outbox has a line for each of the nodes that there may be, and `turns` are those that aren't in it yet.
+#[derive(Drop)]
+pub(crate) struct Backlog {
+    alloc: Global,
+    pub node: u8,
+    outbox: Outbox,
+    turns: VecDeque<Sealed>,
+    progress: Progress,
+    ghost low: { node < 8 },
+    ghost each: { length outbox.lines ≡ 8 },
+    ghost mails: { AreMails node outbox.lines },
+    ghost acked: { acked_in outbox.lines ≡ progress.acked },
+    ghost emitted: { outbox.emitted ≡ progress.emitted },
+}
+
+// Adds a turn of a node to its outbox. After an error nothing has changed.
+fn add_turn(alloc: Global, node: u8, outbox: &mut Outbox, turn: &Sealed) -> Result<(), AllocError>
+    requires low { node < 8 }
+    requires each { length outbox.old.lines ≡ 8 }
+    ensures ok { OnOk result (outbox.new ≡ with_turn node turn.now outbox.old) }
+    ensures err { OnErr result (outbox.new ≡ outbox.old) }
+{
+    let sends = copies::mails(alloc, node, turn.stamp, turn.sends.as_slice())?;
+    let outs = copies::outs(alloc, turn.outs.as_slice())?;
+    outbox.add(sends, outs)
+}
+
+// How far messages were acknowledged and outputs emitted where a state resumes.
+fn retired(state: &State) -> Progress
+    requires sent { length state.now.sent ≡ 8 }
+    requires to { All (λ m. m.to < 8) state.now.messages }
+    ensures { result ≡ progress_in (resumed 8 state.now) }
+{
+    let mut acked = [0; MAX_NODES as usize];
+    acked.copy_from_slice(state.sent.as_slice());
+    for message in state.messages.as_slice() {
+        let number = &mut acked[usize::from(message.to)];
+        *number = number.saturating_sub(1);
+    }
+    Progress {
+        acked,
+        emitted: state.outputs.saturating_sub(state.outs.len() as u64),
+    }
+}
+
+impl Backlog {
+    ghost use Rattle.std.specs.VecDeque.{deque_len, deque_capacity};
+    ghost use Rattle.std.specs.Prelude.{◌≡◌, ◌+◌, ◌<◌, ◌≤◌, [], ◌∷◌, ◌++◌, drop, IfOk, OnOk, OnErr, MatchOption, option_copied, Some, slice_get, slice_index_or, slice_set};
+    ghost use Rattle.ken_outbox.specs.Waiting.{nothing, no_line, acked_by, next_number};
+    ghost use Rattle.ken_ship.specs.Fits.{IsMailFrom, IsMailTo};
+    ghost use Rattle.ken_links.specs.Rings.{pushed, free, popped, known, nones, IsRing, SamePushEnd, SamePopEnd};
+    ghost use Rattle.ken_ship.specs.Handing.{Handed, Received};
+    ghost use Rattle.ken_ship.specs.Parts.{due_in};
+
+    pub(crate) fn new(alloc: Global, node: u8) -> Result<Self, AllocError>
+        requires { node < 8 }
+        ensures { IfOk result (λ b. (b.node ≡ node) × (due_in b ≡ nothing 8)) }
+    {
+        Ok(Backlog {
+            alloc,
+            node,
+            outbox: Outbox::new(alloc, MAX_NODES)?,
+            turns: VecDeque::new(alloc),
+            progress: Progress {
+                acked: [0; MAX_NODES as usize],
+                emitted: 0,
+            },
+        })
+    }
+
+    // A node with the messages and outputs of a state. Those that the state counts and doesn't hold were acknowledged and
+    // emitted.
+    pub(crate) fn resume(alloc: Global, node: u8, state: &State) -> Result<Self, AllocError>
+        requires low { node < 8 }
+        requires sent { length state.now.sent ≡ 8 }
+        requires mails { All (IsMailFrom node) state.now.messages }
+        ensures node { IfOk result (λ b. b.node ≡ node) }
+        ensures due { IfOk result (λ b. due_in b ≡ resumed 8 state.now) }
+    {
+        Ok(Backlog {
+            alloc,
+            node,
+            outbox: Outbox::resume(alloc, MAX_NODES, state)?,
+            turns: VecDeque::new(alloc),
+            progress: retired(state),
+        })
+    }
+
+    // Adds the oldest turn that isn't in the outbox. After an error nothing has changed.
+    fn add_oldest(&mut self) -> Result<(), AllocError>
+        requires { 0 < length self.old.turns.items }
+        ensures node { self.new.node ≡ self.old.node }
+        ensures due { due_in self.new ≡ due_in self.old }
+        ensures turns { OnOk result (self.new.turns.items ≡ drop 1 self.old.turns.items) }
+    {
+        if let Some(turn) = self.turns.front() {
+            add_turn(self.alloc, self.node, &mut self.outbox, turn)?;
+            self.turns.pop_front();
+        }
+        Ok(())
+    }
+
+    // Adds each turn that isn't in the outbox, oldest first. After an error some are in it, and the others wait still.
+    pub(crate) fn add_all(&mut self) -> Result<(), AllocError>
+        ensures node { self.new.node ≡ self.old.node }
+        ensures due { due_in self.new ≡ due_in self.old }
+        ensures turns { OnOk result (self.new.turns.items ≡ []) }
+    {
+        while !self.turns.is_empty() {
+            self.add_oldest()?;
+        }
+        Ok(())
+    }
+
+    // Pops turns until the ring gives none, or 64 were given. After an error nothing was popped.
+    pub(crate) fn pop_from(&mut self, ring: &mut PopEnd<Sealed>) -> Result<(), AllocError>
+        ensures node { self.new.node ≡ self.old.node }
+        ensures ring { SamePopEnd ring.old ring.new }
+        ensures handed { Handed result self.old.node (popped ring.old) (popped ring.new) (nones ring.old) (nones ring.new) (due_in self.old) (due_in self.new) }
+    {
+        self.turns.reserve(SLOTS)?;
+        for _given in 0..SLOTS {
+            match ring.pop() {
+                Some(turn) => self.turns.push_back_reserved(turn),
+                None => return Ok(()),
+            }
+        }
+        Ok(())
+    }
+
+    // Moves each turn of the ring behind those that wait: then 64 slots are known to be free. After an error nothing has
+    // moved: what is in the ring is known.
+    pub(crate) fn receive(
+        &mut self,
+        push: &mut PushEnd<Sealed>,
+        ring: &mut PopEnd<Sealed>,
+    ) -> Result<(), AllocError>
+        requires { IsRing push.old ring.old }
+        ensures node { self.new.node ≡ self.old.node }
+        ensures ends { SamePushEnd push.old push.new × SamePopEnd ring.old ring.new × IsRing push.new ring.new }
+        ensures same { (pushed push.new ≡ pushed push.old) × (nones ring.new ≡ nones ring.old) }
+        ensures received { Received self.old.node (popped ring.old) (popped ring.new) (due_in self.old) (due_in self.new) }
+        ensures queued { popped ring.new ++ known ring.new ≡ pushed push.new }
+        ensures ok { OnOk result ((popped ring.new ≡ pushed push.new) × (64 ≤ free push.new)) }
+        ensures err { OnErr result ((popped ring.new ≡ popped ring.old) × (due_in self.new ≡ due_in self.old)) }
+    {
+        beside(push, ring);
+        self.turns.reserve(ring.known())?;
+        self.move_known(ring);
+        beside(push, ring);
+        Ok(())
+    }
+
+    // Moves each turn that is known to be in the ring behind those that wait. There is room.
+    fn move_known(&mut self, ring: &mut PopEnd<Sealed>)
+        requires { deque_len self.old.turns + length (known ring.old) ≤ deque_capacity self.old.turns }
+        ensures node { self.new.node ≡ self.old.node }
+        ensures end { SamePopEnd ring.old ring.new × (nones ring.new ≡ nones ring.old) }
+        ensures received { Received self.old.node (popped ring.old) (popped ring.new) (due_in self.old) (due_in self.new) }
+        ensures all { popped ring.new ≡ popped ring.old ++ known ring.old }
+    {
+        for _moved in 0..ring.known() {
+            self.turns.push_back_reserved(ring.pop_known());
+        }
+    }
+
+    // The i-th oldest message to a node that waits in the outbox, from 0.
+    pub(crate) fn due(&self, to: u8, i: usize) -> Option<&Message>
+        requires to { to < 8 }
+        requires turns { self.now.turns.items ≡ [] }
+        ensures due { option_copied result ≡ slice_get (slice_index_or (due_in self.now).lines to no_line).messages i }
+        ensures mail { MatchOption result (Unit {0}) (λ m. IsMailTo self.now.node to m.now) }
+    {
+        self.outbox.due(to, i)
+    }
+
+    // A copy of the oldest output that waits.
+    pub(crate) fn next_out(&self) -> Result<Option<Out>, AllocError>
+        requires { self.now.turns.items ≡ [] }
+        ensures { IfOk result (λ out. out ≡ slice_get (due_in self.now).outs 0) }
+    {
+        match self.outbox.next_out() {
+            Some((number, text)) => Ok(Some(Out {
+                number,
+                text: copies::octets(self.alloc, text)?,
+            })),
+            None => Ok(None),
+        }
+    }
+
+    // A node has consumed the messages to it up to a number. One that isn't larger than each before changes nothing.
+    pub(crate) fn acknowledge(&mut self, from: u8, through: u64)
+        requires from { from < 8 }
+        requires turns { self.old.turns.items ≡ [] }
+        ensures node { self.new.node ≡ self.old.node }
+        ensures turns { self.new.turns.items ≡ [] }
+        ensures due { due_in self.new ≡ record (due_in self.old) { lines = slice_set (due_in self.old).lines from (acked_by through (slice_index_or (due_in self.old).lines from no_line)) } }
+    {
+        self.outbox.acked(from, through);
+        let acked = &mut self.progress.acked[usize::from(from)];
+        *acked = (*acked).max(through);
+    }
+
+    // The oldest output, which has this number, was emitted.
+    pub(crate) fn emitted(&mut self, number: u64)
+        requires number { next_number (due_in self.old).outs ≡ Some number }
+        requires turns { self.old.turns.items ≡ [] }
+        ensures node { self.new.node ≡ self.old.node }
+        ensures turns { self.new.turns.items ≡ [] }
+        ensures due { due_in self.new ≡ record (due_in self.old) { emitted = number; outs = drop 1 (due_in self.old).outs } }
+    {
+        self.outbox.emitted(number);
+        self.progress.emitted = number;
+    }
+
+    // How far messages are acknowledged and outputs emitted.
+    pub(crate) fn progress(&self) -> Progress
+        requires { self.now.turns.items ≡ [] }
+        ensures { result ≡ progress_in (due_in self.now) }
+    {
+        self.progress
+    }
+}

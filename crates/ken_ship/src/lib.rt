@@ -1,0 +1,20 @@
+//! A node's externaliser: it sends what the node's turns sent until that is acknowledged, and emits what they output.
+#![tactic(auto)]
+
+mod backlog;
+mod copies;
+mod emit;
+mod faults;
+mod hearing;
+mod items;
+mod outlet;
+mod sending;
+mod worker;
+
+pub use emit::Emit;
+pub use faults::{NodeFault, OutFault};
+pub use hearing::MOST_TAKEN;
+pub use items::{Progress, Sealed};
+pub use outlet::Outlet;
+pub use sending::MOST_DUE;
+pub use worker::{MOST_REFUSALS, SendWorker};
