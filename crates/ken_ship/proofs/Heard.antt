@@ -23,10 +23,10 @@ pub record HeardSoFar (v nodes count : ℕ) (gave : List (List ℕ) → Type 0) 
   pub counted : length packets ≡ count
   pub taken : new ≡ record old { lines = after_acks (acks_in v nodes packets) old.lines }
 
--- one more
-pub heard_more : (v nodes count : ℕ) (gave gave2 : List (List ℕ) → Type 0) (bytes : List ℕ) (old mid new : Waiting) → HeardSoFar v nodes count gave old mid → ((packets : List (List ℕ)) → gave packets → gave2 (packets ++ bytes ∷ []))
-    → new ≡ record mid { lines = after_acks (ack_in v nodes (packet_of bytes)) mid.lines } → HeardSoFar v nodes (count + 1) gave2 old new
-heard_more v nodes count gave gave2 bytes old mid new so_far joins took = record {
+-- one more, which the node u, that is v, reads as b
+pub heard_more : (v u nodes count : ℕ) (gave gave2 : List (List ℕ) → Type 0) (bytes b : List ℕ) (old mid new : Waiting) → HeardSoFar v nodes count gave old mid → ((packets : List (List ℕ)) → gave packets → gave2 (packets ++ bytes ∷ []))
+    → u ≡ v → b ≡ bytes → new ≡ record mid { lines = after_acks (ack_in u nodes (packet_of b)) mid.lines } → HeardSoFar v nodes (count + 1) gave2 old new
+heard_more v u nodes count gave gave2 bytes b old mid new so_far joins same equal took = record {
   packets = so_far.packets ++ bytes ∷ [];
   given = joins so_far.packets so_far.given;
   counted = length_push so_far.packets bytes ∙ ap (λ (n : ℕ). n + 1) so_far.counted;
@@ -34,7 +34,10 @@ heard_more v nodes count gave gave2 bytes old mid new so_far joins took = record
       let before : List (ℕ × ℕ) = acks_in v nodes so_far.packets in
       let last : List (ℕ × ℕ) = ack_in v nodes (packet_of bytes) in
       let whole : after_acks (acks_in v nodes (so_far.packets ++ bytes ∷ [])) old.lines ≡ after_acks last (after_acks before old.lines) = ap (λ (xs : List (ℕ × ℕ)). after_acks xs old.lines) (acks_in-push v nodes so_far.packets bytes) ∙ after_acks-append before last old.lines in
-      took ∙ ap (λ (w : Waiting). record w { lines = after_acks last w.lines }) so_far.taken ∙ ap (λ (ls : List Unacked). record old { lines = ls }) (sym whole);
+      took
+      ∙ ap (λ (x : ℕ). record mid { lines = after_acks (ack_in x nodes (packet_of b)) mid.lines }) same
+      ∙ ap (λ (xs : List ℕ). record mid { lines = after_acks (ack_in v nodes (packet_of xs)) mid.lines }) equal
+      ∙ ap (λ (w : Waiting). record w { lines = after_acks last w.lines }) so_far.taken ∙ ap (λ (ls : List Unacked). record old { lines = ls }) (sym whole);
 }
 
 pub heard_until : (v nodes count nones nones2 : ℕ) (gave : List (List ℕ) → Type 0) (old new : Waiting) → HeardSoFar v nodes count gave old new → count ≤ MOST_TAKEN → (count ≡ MOST_TAKEN) ⊎ (risen nones ≤ nones2) → Heard v nodes gave nones nones2 old new
@@ -48,9 +51,3 @@ heard_until v nodes count nones nones2 gave old new so_far few until = record {
 
 pub heard_still : (v nodes count : ℕ) (gave gave2 : List (List ℕ) → Type 0) (old new : Waiting) → HeardSoFar v nodes count gave old new → ((packets : List (List ℕ)) → gave packets → gave2 packets) → HeardSoFar v nodes count gave2 old new
 heard_still v nodes count gave gave2 old new so_far still = record { packets = so_far.packets; given = still so_far.packets so_far.given; counted = so_far.counted; taken = so_far.taken }
-
--- the same packet at the same node
-pub same_acks : (nodes : ℕ) (w : Waiting) {v u : ℕ} {a b : List ℕ} → v ≡ u → a ≡ b
-    → ◌≡◌ {A = Waiting} (record w { lines = after_acks (ack_in v nodes (packet_of a)) w.lines }) (record w { lines = after_acks (ack_in u nodes (packet_of b)) w.lines })
-same_acks nodes w {v = v} {u = u} {a = a} {b = b} same equal =
-    ap (λ (x : ℕ). record w { lines = after_acks (ack_in x nodes (packet_of a)) w.lines }) same ∙ ap (λ (xs : List ℕ). record w { lines = after_acks (ack_in u nodes (packet_of xs)) w.lines }) equal

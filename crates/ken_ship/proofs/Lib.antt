@@ -4,3 +4,7 @@ pub mod Handed
 pub mod Heard
 pub mod Sent
 pub mod Resumed
+pub mod Numbered
+pub mod Acks
+pub mod Dues
+pub mod Emissions

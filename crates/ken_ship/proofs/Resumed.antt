@@ -6,7 +6,8 @@ use Rattle.std.proofs.lemmas.List.{get_or-map, get_or_past, length-map, take_all
 use Rattle.std.proofs.lemmas.List.Elements.{All-nil}
 use Rattle.ken_model.specs.declared.messages.Message.{Message}
 use Rattle.ken_model.specs.declared.states.State.{State}
-use Rattle.ken_outbox.specs.Waiting.{Unacked, no_line, sent_to, resumed_lines, resumed}
+use Rattle.ken_outbox.specs.Waiting.{Unacked, Waiting, no_line, sent_to, resumed_lines, resumed}
+use Rattle.ken_ship.specs.declared.items.Progress.{Progress}
 use Rattle.ken_ship.specs.Fits.{IsMailFrom, IsMailTo, AreMails}
 use Rattle.ken_ship.specs.Handing.{acked_in, progress_in}
 use Rattle.ken_ship.proofs.Lines.{IsSound, mails_to_one}
@@ -57,3 +58,6 @@ retired_is acked s long as_long each =
     ext_get_or 0 acked (acked_in lines) (as_long ∙ sym (length-map lines (λ (l : Unacked). l.acked) ∙ lines_long))
     (λ u low. each u ∙ sym (get_or-map (λ (l : Unacked). l.acked) lines u no_line 0 (omega (arith, low, as_long, lines_long)) ∙ ap (λ (l : Unacked). l.acked) (resumed_at s.sent s.messages u (omega (arith, low, as_long, long)))))
     ∙ ap (λ (ns : List ℕ). acked_in (resumed_lines 0 ns s.messages)) (sym front)
+
+pub progress_is : (acked : List ℕ) (emitted : ℕ) (w : Waiting) → acked ≡ acked_in w.lines → emitted ≡ w.emitted → ◌≡◌ {A = Progress} (record { acked = acked; emitted = emitted }) (progress_in w)
+progress_is acked emitted w numbers same = ap (λ (ns : List ℕ). record { acked = ns; emitted = emitted }) numbers ∙ ap (λ (n : ℕ). record { acked = acked_in w.lines; emitted = n }) same

@@ -7,3 +7,4 @@ pub mod Parts
 pub mod Sending
 pub mod Taking
 pub mod Emitting
+pub mod Laws

@@ -1,8 +1,9 @@
 -- What a contract sees of a node's externaliser.
-use Rattle.std.specs.Prelude.{◌≡◌, ℕ, List}
+use Rattle.std.specs.Prelude.{◌≡◌, ℕ, ◌+◌, List, length}
 use Rattle.ken_model.specs.declared.reports.Emission.{Emission}
 use Rattle.ken_outbox.specs.Waiting.{Waiting}
-use Rattle.ken_links.specs.Rings.{pushed, SamePushEnd, SamePopEnd}
+use Rattle.ken_links.specs.declared.push_end.PushEnd.{PushEnd}
+use Rattle.ken_links.specs.Rings.{pushed, free, SamePushEnd, SamePopEnd}
 use Rattle.ken_ship.specs.declared.items.Progress.{Progress}
 use Rattle.ken_ship.specs.declared.backlog.Backlog.{Backlog}
 use Rattle.ken_ship.specs.declared.worker.SendWorker.{SendWorker}
@@ -29,3 +30,7 @@ pub record IsSameWorker (a b : SendWorker) : Type 0 where
   pub nodes : b.nodes ≡ a.nodes
   pub sealed : SamePopEnd a.sealed b.sealed
   pub told : SamePushEnd a.told b.told
+
+-- each item that was pushed took a slot that was known to be free, and no other was lost
+abbrev pub SameSlots : PushEnd Progress → PushEnd Progress → Type 0
+SameSlots a b = free a + length (pushed a) ≡ free b + length (pushed b)

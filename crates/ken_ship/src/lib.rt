@@ -7,6 +7,7 @@ mod emit;
 mod faults;
 mod hearing;
 mod items;
+mod laws;
 mod outlet;
 mod sending;
 mod worker;
@@ -15,6 +16,9 @@ pub use emit::Emit;
 pub use faults::{NodeFault, OutFault};
 pub use hearing::MOST_TAKEN;
 pub use items::{Progress, Sealed};
+pub use laws::{
+    acks_are_events, an_emission_is_an_event, sends_are_events, what_is_handed_over_is_due,
+};
 pub use outlet::Outlet;
 pub use sending::MOST_DUE;
 pub use worker::{MOST_REFUSALS, SendWorker};

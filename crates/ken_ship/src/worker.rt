@@ -37,7 +37,7 @@ impl SendWorker {
     ghost use Rattle.std.specs.List.{All};
     ghost use Rattle.ken_ship.specs.Fits.{IsMailFrom};
     ghost use Rattle.ken_ship.specs.Outlets.{also_took};
-    ghost use Rattle.ken_ship.specs.Parts.{part_of, IsSameWorker};
+    ghost use Rattle.ken_ship.specs.Parts.{part_of, IsSameWorker, SameSlots};
     ghost use Rattle.ken_ship.specs.Sending.{all_due, SentDue};
     ghost use Rattle.ken_ship.specs.Taking.{Heard, TellsRisen};
     ghost use Rattle.ken_ship.specs.Emitting.{Emitted, emitted_of, outlet_answer};
@@ -161,7 +161,7 @@ impl SendWorker {
         ensures heard { OnOk result (Heard self.old.backlog.node self.old.nodes (N.given_between net.old net.new) (N.nones net.old) (N.nones net.new) (part_of self.old).due (part_of self.new).due) }
         ensures part { OnOk result (part_of self.new ≡ record (part_of self.old) { due = (part_of self.new).due; told = (part_of self.new).told }) }
         ensures told { OnOk result (TellsRisen (part_of self.old) (part_of self.new)) }
-        ensures free { free self.old.told ≤ free self.new.told + 1 }
+        ensures slots { SameSlots self.old.told self.new.told }
         ensures err { OnErr result ((part_of self.new ≡ part_of self.old) × (net.new ≡ net.old)) }
         ensures end { (N.node net.new ≡ N.node net.old) × (N.nodes net.new ≡ N.nodes net.old) }
         ensures put { N.put_between net.old net.new [] }
@@ -186,7 +186,7 @@ impl SendWorker {
         ensures worker { IsSameWorker self.old self.new }
         ensures sealed { self.new.sealed ≡ self.old.sealed }
         ensures part { Emitted self.old.backlog.node result (part_of self.old) (part_of self.new) }
-        ensures free { free self.old.told ≤ free self.new.told + 1 }
+        ensures slots { SameSlots self.old.told self.new.told }
         ensures took { O.took out.new ≡ also_took (emitted_of result (part_of self.old).due.outs) (O.took out.old) }
         ensures cause { HasCause (O.faults out.old) (O.faults out.new) (outlet_answer result) }
         ensures fate { Follows (Suffers (outlet_answer result)) (O.fate out.old) (O.fate out.new) }
@@ -212,7 +212,7 @@ impl SendWorker {
         ensures worker { IsSameWorker self.old self.new }
         ensures sealed { self.new.sealed ≡ self.old.sealed }
         ensures part { Emitted self.old.backlog.node (Ok result) (part_of self.old) (part_of self.new) }
-        ensures free { free self.old.told ≤ free self.new.told + 1 }
+        ensures slots { SameSlots self.old.told self.new.told }
         ensures done { result ≡ Emit.Done out.number }
     {
         let number = out.number;
@@ -230,7 +230,7 @@ impl SendWorker {
         ensures worker { IsSameWorker self.old self.new }
         ensures sealed { self.new.sealed ≡ self.old.sealed }
         ensures part { Emitted self.old.backlog.node result (part_of self.old) (part_of self.new) }
-        ensures free { free self.old.told ≤ free self.new.told + 1 }
+        ensures slots { SameSlots self.old.told self.new.told }
         ensures failed { (result ≡ Ok Emit.Refused) ⊎ (result ≡ Err NodeFault.Outlet) }
     {
         if self.refusals == MOST_REFUSALS {

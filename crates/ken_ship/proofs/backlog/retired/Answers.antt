@@ -4,7 +4,7 @@ use Rattle.ken_model.specs.declared.messages.Message.{Message}
 use Rattle.ken_model.specs.declared.states.State.{State}
 use Rattle.ken_outbox.specs.Waiting.{sent_to, resumed}
 use Rattle.ken_ship.specs.Handing.{acked_in}
-use Rattle.ken_ship.proofs.Resumed.{retired_is}
+use Rattle.ken_ship.proofs.Resumed.{retired_is, progress_is}
 use Rattle.ken_ship.proofs.backlog.retired.Goals as goal
 
 pub returns : goal.returns
@@ -17,4 +17,4 @@ returns c =
     λ u. c.loop-message.invariant.less u ∙ ap (λ (ms : List Message). get_or s.sent u 0 - length (sent_to u ms)) all in
     let numbers : acked ≡ acked_in (resumed 8 s).lines = retired_is acked s c.requires.sent c.loop-message.invariant.long each in
     let emitted : c.saturating_sub-2.result ≡ s.outputs - length s.outs = omega (arith, c.saturating_sub-2.ensures, c.len.ensures) in
-    ap (λ (ns : List ℕ). record { acked = ns; emitted = c.saturating_sub-2.result }) numbers ∙ ap (λ (n : ℕ). record { acked = acked_in (resumed 8 s).lines; emitted = n }) emitted
+    progress_is acked c.saturating_sub-2.result (resumed 8 s) numbers emitted

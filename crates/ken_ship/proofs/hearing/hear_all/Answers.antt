@@ -1,9 +1,7 @@
-use Rattle.std.proofs.Common.{◌≡◌, ℕ, List, ◌∷◌, [], inr, ◌∙◌, subst, arith, append-nil}
-use Rattle.ken_packet.specs.Reading.{packet_of}
+use Rattle.std.proofs.Common.{ℕ, List, ◌∷◌, [], inr, ◌∙◌, subst, arith, append-nil}
 use Rattle.ken_outbox.specs.Waiting.{Waiting}
 use Rattle.ken_ship.specs.Parts.{due_in}
-use Rattle.ken_ship.specs.Taking.{ack_in, after_acks}
-use Rattle.ken_ship.proofs.Heard.{same_acks, heard_more, heard_still, heard_until}
+use Rattle.ken_ship.proofs.Heard.{heard_more, heard_still, heard_until}
 use Rattle.ken_ship.proofs.hearing.hear_all.Goals as goal
 
 pub loop-taken-preserved : goal.loop-taken-preserved
@@ -12,13 +10,11 @@ loop-taken-preserved g c =
     let old : Waiting = due_in c.args.backlog.now in
     let mid : Waiting = due_in c.loop-taken.backlog in
     let bytes : List ℕ = c.in-Some.bytes in
-    let took : due_in c.hear.new.backlog ≡ record mid { lines = after_acks (ack_in c.args.backlog.now.node c.args.nodes (packet_of bytes)) mid.lines } =
-    c.hear.ensures.due ∙ same_acks c.args.nodes mid inv.node c.as_slice.ensures in
     record {
       node = c.hear.ensures.node ∙ inv.node;
       turns = c.hear.ensures.turns;
-      heard = heard_more c.args.backlog.now.node c.args.nodes c.loop-taken._taken (g.N.Net.given_between c.args.net.now c.loop-taken.net) (g.N.Net.given_between c.args.net.now c.take.new.self) bytes old mid (due_in c.hear.new.backlog) inv.heard
-          (λ packets so. g.met.N.Net.given_joins c.args.net.now c.loop-taken.net c.take.new.self packets (bytes ∷ []) so c.in-Some.ensures.given) took;
+      heard = heard_more c.args.backlog.now.node c.loop-taken.backlog.node c.args.nodes c.loop-taken._taken (g.N.Net.given_between c.args.net.now c.loop-taken.net) (g.N.Net.given_between c.args.net.now c.take.new.self) bytes c.as_slice.result.now old mid (due_in c.hear.new.backlog) inv.heard
+          (λ packets so. g.met.N.Net.given_joins c.args.net.now c.loop-taken.net c.take.new.self packets (bytes ∷ []) so c.in-Some.ensures.given) inv.node c.as_slice.ensures c.hear.ensures.due;
       count = c.in-Some.ensures.nones ∙ inv.count;
       end_is = (c.in-Some.ensures.end.0 ∙ inv.end_is.0, c.in-Some.ensures.end.1 ∙ inv.end_is.1);
       put = g.met.N.Net.put_joins c.args.net.now c.loop-taken.net c.take.new.self [] [] inv.put c.in-Some.ensures.put;

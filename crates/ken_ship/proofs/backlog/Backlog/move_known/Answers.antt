@@ -17,12 +17,13 @@ loop-moved-preserved c =
     let old : List Sealed = popped c.args.ring.now in
     let new : List Sealed = popped c.pop_known.new.self in
     let due : Waiting = due_in c.args.self.now in
+    let items : c.push_back_reserved.new.self.items ≡ before ++ t ∷ [] = c.push_back_reserved.ensures.items in
     let back : v ≡ c.loop-moved.self.node = sym inv.node in
     let so_far : Received v old (popped c.loop-moved.ring) due (with_turns v before box) = subst (λ (u : ℕ). Received v old (popped c.loop-moved.ring) due (with_turns u before box)) inv.node inv.received in
     let more : Received v old new due (with_turns v (before ++ t ∷ []) box) = received_more v old (popped c.loop-moved.ring) new before due box t so_far c.pop_known.ensures.popped in
     let here : Received v old new due (with_turns c.loop-moved.self.node c.push_back_reserved.new.self.items box) =
     subst (λ (u : ℕ). Received v old new due (with_turns u c.push_back_reserved.new.self.items box)) back
-    (subst (λ (ts : List Sealed). Received v old new due (with_turns v ts box)) (sym c.push_back_reserved.ensures.items) more) in
+    (subst (λ (ts : List Sealed). Received v old new due (with_turns v ts box)) (sym items) more) in
     let one : length (known c.loop-moved.ring) ≡ length (known c.pop_known.new.self) + 1 = omega (arith, ap (λ (ts : List Sealed). length ts) c.pop_known.ensures.known) in
     record {
       node = inv.node;

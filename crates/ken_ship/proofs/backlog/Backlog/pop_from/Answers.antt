@@ -1,4 +1,4 @@
-use Rattle.std.proofs.Common.{◌≡◌, ℕ, List, ◌+◌, ◌∙◌, subst, sym, arith, rules}
+use Rattle.std.proofs.Common.{◌≡◌, ◌∷◌, ◌++◌, [], ℕ, List, ◌+◌, ◌∙◌, subst, sym, arith, rules}
 use Rattle.ken_links.specs.Rings.{popped}
 use Rattle.ken_outbox.specs.Waiting.{Waiting}
 use Rattle.ken_ship.specs.declared.items.Sealed.{Sealed}
@@ -14,12 +14,12 @@ loop-given-preserved c =
     let box : Waiting = c.loop-given.self.outbox in
     let before : List Sealed = c.loop-given.self.turns.items in
     let t : Sealed = c.in-Some.turn in
+    let items : c.push_back_reserved.new.self.items ≡ before ++ t ∷ [] = c.push_back_reserved.ensures.items in
     let back : v ≡ c.loop-given.self.node = sym inv.node in
     let so_far : HandedSoFar v c.loop-given._given (popped c.args.ring.now) (popped c.loop-given.ring) (due_in c.args.self.now) (with_turns v before box) =
     subst (λ (u : ℕ). HandedSoFar v c.loop-given._given (popped c.args.ring.now) (popped c.loop-given.ring) (due_in c.args.self.now) (with_turns u before box)) inv.node inv.handed in
     let more = one_more v c.loop-given._given (popped c.args.ring.now) (popped c.loop-given.ring) (popped c.pop.new.self) before (due_in c.args.self.now) box t so_far c.in-Some.ensures.popped in
-    let with : List Sealed → Waiting = λ (ts : List Sealed). with_turns v ts box in
     let here : HandedSoFar v (c.loop-given._given + 1) (popped c.args.ring.now) (popped c.pop.new.self) (due_in c.args.self.now) (with_turns c.loop-given.self.node c.push_back_reserved.new.self.items box) =
     subst (λ (u : ℕ). HandedSoFar v (c.loop-given._given + 1) (popped c.args.ring.now) (popped c.pop.new.self) (due_in c.args.self.now) (with_turns u c.push_back_reserved.new.self.items box)) back
-    (subst (λ (ts : List Sealed). HandedSoFar v (c.loop-given._given + 1) (popped c.args.ring.now) (popped c.pop.new.self) (due_in c.args.self.now) (with_turns v ts box)) (sym c.push_back_reserved.ensures.items) more) in
+    (subst (λ (ts : List Sealed). HandedSoFar v (c.loop-given._given + 1) (popped c.args.ring.now) (popped c.pop.new.self) (due_in c.args.self.now) (with_turns v ts box)) (sym items) more) in
     record { node = inv.node; ring = search (rules, inv.ring, c.in-Some.ensures.ring); count = c.in-Some.ensures.counted ∙ inv.count; handed = here; room = omega (arith, inv.room) }
