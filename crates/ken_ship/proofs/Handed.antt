@@ -5,7 +5,7 @@ use Rattle.ken_links.specs.declared.push_end.TheConstants.{SLOTS}
 use Rattle.ken_links.specs.Counts.{Rose}
 use Rattle.ken_outbox.specs.Waiting.{Waiting}
 use Rattle.ken_ship.specs.declared.items.Sealed.{Sealed}
-use Rattle.ken_ship.specs.Handing.{with_turn, with_turns, Handed, Received}
+use Rattle.ken_ship.specs.Handing.{with_turn, with_turns, HandedOver, Received}
 
 pub with_turns-append : (v : ℕ) (ss ts : List Sealed) (w : Waiting) → with_turns v (ss ++ ts) w ≡ with_turns v ts (with_turns v ss w)
 with_turns-append v [] ts w = refl
@@ -33,7 +33,7 @@ one_more v count popped popped2 popped3 before old box t so_far pop = record {
 
 -- no more were given, or as many as a call takes
 pub handed_until : {T E : Type 0} → (x : T) (v count nones nones2 : ℕ) (popped popped2 : List Sealed) (old new : Waiting) → HandedSoFar v count popped popped2 old new → count ≤ SLOTS → (count ≡ SLOTS) ⊎ Rose nones nones2
-    → Handed {T = T} {E = E} (Ok x) v popped popped2 nones nones2 old new
+    → HandedOver {T = T} {E = E} (Ok x) v popped popped2 nones nones2 old new
 handed_until x v count nones nones2 popped popped2 old new so_far few until = record {
   turns = so_far.turns;
   popped_are = so_far.popped_are;
@@ -42,7 +42,7 @@ handed_until x v count nones nones2 popped popped2 old new so_far few until = re
   waits = so_far.waits;
 }
 
-pub none_handed : {T E : Type 0} → (e : E) (v nones nones2 : ℕ) (popped popped2 : List Sealed) (old new : Waiting) → popped2 ≡ popped → new ≡ old → Handed {T = T} {E = E} (Err e) v popped popped2 nones nones2 old new
+pub none_handed : {T E : Type 0} → (e : E) (v nones nones2 : ℕ) (popped popped2 : List Sealed) (old new : Waiting) → popped2 ≡ popped → new ≡ old → HandedOver {T = T} {E = E} (Err e) v popped popped2 nones nones2 old new
 none_handed e v nones nones2 popped popped2 old new same still = record { turns = []; popped_are = same ∙ sym (append-nil popped); most = omega arith; until = tt; waits = still }
 
 -- turns that are moved, none and one more

@@ -35,7 +35,7 @@ GaveAll (Ok _) count nones nones2 = (count ≡ SLOTS) ⊎ Rose nones nones2
 GaveAll (Err _) count nones nones2 = Unit {0}
 
 -- what they sent and output waits behind what waited
-pub record Handed {T E : Type 0} (result : Result T E) (v : ℕ) (popped popped2 : List Sealed) (nones nones2 : ℕ) (old new : Waiting) : Type 0 where
+pub record HandedOver {T E : Type 0} (result : Result T E) (v : ℕ) (popped popped2 : List Sealed) (nones nones2 : ℕ) (old new : Waiting) : Type 0 where
   pub turns : List Sealed
   pub popped_are : popped2 ≡ popped ++ turns
   pub most : length turns ≤ SLOTS

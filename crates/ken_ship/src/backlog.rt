@@ -64,7 +64,7 @@ impl Backlog {
     ghost use Rattle.ken_outbox.specs.Waiting.{nothing, no_line, acked_by, next_number};
     ghost use Rattle.ken_ship.specs.Fits.{IsMailFrom, IsMailTo};
     ghost use Rattle.ken_links.specs.Rings.{pushed, free, popped, known, nones, IsRing, SamePushEnd, SamePopEnd};
-    ghost use Rattle.ken_ship.specs.Handing.{Handed, Received};
+    ghost use Rattle.ken_ship.specs.Handing.{HandedOver, Received};
     ghost use Rattle.ken_ship.specs.Parts.{due_in};
 
     pub(crate) fn new(alloc: Global, node: u8) -> Result<Self, AllocError>
@@ -131,7 +131,7 @@ impl Backlog {
     pub(crate) fn pop_from(&mut self, ring: &mut PopEnd<Sealed>) -> Result<(), AllocError>
         ensures node { self.new.node ≡ self.old.node }
         ensures ring { SamePopEnd ring.old ring.new }
-        ensures handed { Handed result self.old.node (popped ring.old) (popped ring.new) (nones ring.old) (nones ring.new) (due_in self.old) (due_in self.new) }
+        ensures handed { HandedOver result self.old.node (popped ring.old) (popped ring.new) (nones ring.old) (nones ring.new) (due_in self.old) (due_in self.new) }
     {
         self.turns.reserve(SLOTS)?;
         for _given in 0..SLOTS {
@@ -212,8 +212,7 @@ impl Backlog {
         ensures due { due_in self.new ≡ record (due_in self.old) { lines = slice_set (due_in self.old).lines from (acked_by through (slice_index_or (due_in self.old).lines from no_line)) } }
     {
         self.outbox.acked(from, through);
-        let acked = &mut self.progress.acked[usize::from(from)];
-        *acked = (*acked).max(through);
+        self.progress.raise(from, through);
     }
 
     // The oldest output, which has this number, was emitted.

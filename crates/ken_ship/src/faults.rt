@@ -12,6 +12,17 @@ pub enum OutFault {
     Memory,
 }
 
+impl From<AllocError> for OutFault {
+    ghost use Rattle.std.specs.Prelude.{◌≡◌};
+    ghost use Rattle.ken_ship.specs.declared.faults.OutFault.TheVariants.{Memory};
+
+    ghost from_gives = { λ _ fault. fault ≡ Memory };
+
+    fn from(_refused: AllocError) -> Self {
+        OutFault::Memory
+    }
+}
+
 /// Why a call of a node's worker ended early.
 #[derive(Clone, Copy, Debug, Drop, PartialEq, Eq, Error)]
 pub enum NodeFault {

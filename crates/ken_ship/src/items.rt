@@ -25,3 +25,16 @@ pub struct Progress {
     /// The number through which the outputs were emitted.
     pub emitted: u64,
 }
+
+impl Progress {
+    ghost use Rattle.std.specs.Prelude.{◌≡◌, ◌<◌, max, slice_index, slice_set};
+
+    // Raises the number of a node. A number that isn't larger than each before changes nothing.
+    pub(crate) fn raise(&mut self, node: u8, through: u64)
+        requires { node < 8 }
+        ensures { self.new ≡ record self.old { acked = slice_set self.old.acked node (max (slice_index self.old.acked node) through) } }
+    {
+        let number = &mut self.acked[usize::from(node)];
+        *number = (*number).max(through);
+    }
+}

@@ -1,0 +1,86 @@
+ghost use Rattle.std.specs.Prelude.{◌≡◌, ◌≤◌, ◌<◌, IfOk};
+ghost use Rattle.std.specs.List.{All};
+ghost use Rattle.ken_record.specs.Grammar.{IsSent};
+ghost use Rattle.ken_links.specs.Rings.{free, IsRing};
+
+use ken_links::{PopEnd, PushEnd, ring};
+use ken_model::{Items, Octets, Out};
+use ken_record::Sent;
+use ken_ship::{Progress, Sealed, SendWorker};
+use std::alloc::{AllocError, Global};
+
+// The externaliser of node 0 of a run of so many nodes, with the ends of its rings that its handler holds.
+#[derive(Drop)]
+pub(crate) struct Desk {
+    pub worker: SendWorker,
+    pub sealed: PushEnd<Sealed>,
+    pub told: PopEnd<Progress>,
+}
+
+pub(crate) fn new_desk(alloc: Global, nodes: u8) -> Result<Desk, AllocError>
+    requires { (1 ≤ nodes) × (nodes ≤ 8) }
+    ensures node { IfOk result (λ d. (d.worker.backlog.node ≡ 0) × (d.worker.nodes ≡ nodes)) }
+    ensures free { IfOk result (λ d. (free d.sealed ≡ 64) × (free d.worker.told ≡ 64)) }
+    ensures rings { IfOk result (λ d. IsRing d.sealed d.worker.sealed × IsRing d.worker.told d.told) }
+{
+    let (sealed, pop) = ring(alloc)?;
+    let (push, told) = ring(alloc)?;
+    let worker = SendWorker::new(alloc, 0, nodes, pop, push)?;
+    Ok(Desk {
+        worker,
+        sealed,
+        told,
+    })
+}
+
+// Messages to a node with the numbers from `first` up to `end`, without that.
+fn sends(alloc: Global, to: u8, first: u64, end: u64) -> Result<Items<Sent>, AllocError>
+    requires to { to < 8 }
+    requires first { 1 ≤ first }
+    ensures { IfOk result (λ sends. All IsSent sends) }
+{
+    let mut sends = Vec::new(alloc);
+    for number in first..end {
+        sends.push(Sent {
+            to,
+            number,
+            bytes: Octets::new(Vec::from_slice(alloc, b"m")?),
+        })?;
+    }
+    Ok(Items::new(sends))
+}
+
+// Outputs with such numbers.
+pub(crate) fn outs(alloc: Global, first: u64, end: u64) -> Result<Items<Out>, AllocError> {
+    let mut outs = Vec::new(alloc);
+    for number in first..end {
+        outs.push(Out {
+            number,
+            text: Octets::new(Vec::from_slice(alloc, b"o")?),
+        })?;
+    }
+    Ok(Items::new(outs))
+}
+
+// A turn that sends such messages to a node.
+pub(crate) fn sending(alloc: Global, to: u8, first: u64, end: u64) -> Result<Sealed, AllocError>
+    requires to { to < 8 }
+    requires first { 1 ≤ first }
+{
+    Ok(Sealed {
+        turn: 1,
+        stamp: 1,
+        sends: sends(alloc, to, first, end)?,
+        outs: Items::new(Vec::new(alloc)),
+    })
+}
+
+// A turn that outputs two.
+pub(crate) fn emitting(alloc: Global) -> Result<Sealed, AllocError> {
+    Ok(Sealed {
+        turn: 1,
+        stamp: 1,
+        sends: sends(alloc, 0, 1, 1)?,
+        outs: outs(alloc, 1, 3)?,
+    })
+}
