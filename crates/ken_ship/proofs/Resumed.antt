@@ -1,15 +1,20 @@
 -- Lines that resume.
-use Rattle.std.proofs.Common.{◌≡◌, ℕ, zero, suc, ◌+◌, ◌-◌, ◌<◌, ◌≤◌, List, [], ◌∷◌, length, take, get_or, refl, sym, ap, ◌∙◌, subst, ⊎_elim, arith, add-zero}
+use Rattle.std.proofs.Common.{◌≡◌, ℕ, zero, suc, ◌+◌, ◌-◌, ◌<◌, ◌≤◌, List, [], ◌∷◌, length, take, IsTrue, slice_index, get_or, refl, sym, ap, ◌∙◌, subst, ⊎_elim, arith, add-zero}
 use Rattle.std.specs.List.{All}
 use Rattle.std.proofs.lemmas.Bool.{cases_lt}
-use Rattle.std.proofs.lemmas.List.{get_or-map, get_or_past, length-map, take_all, ext_get_or}
+use Rattle.std.proofs.lemmas.List.{length-drop, get_or-map, get_or_past, length-map, take_all, ext_get_or}
 use Rattle.std.proofs.lemmas.List.Elements.{All-nil}
 use Rattle.ken_model.specs.declared.messages.Message.{Message}
 use Rattle.ken_model.specs.declared.states.State.{State}
+use Rattle.ken_model.specs.Game.{Game}
+use Rattle.ken_model.specs.Network.{Turn}
 use Rattle.ken_outbox.specs.Waiting.{Unacked, Waiting, no_line, sent_to, resumed_lines, resumed}
+use Rattle.ken_core.specs.Turns.{mails_to, outs_of, sealed}
+use Rattle.ken_core.specs.Nodes.{Node}
 use Rattle.ken_ship.specs.declared.items.Progress.{Progress}
 use Rattle.ken_ship.specs.Fits.{IsMailFrom, IsMailTo, AreMails}
 use Rattle.ken_ship.specs.Handing.{acked_in, progress_in}
+use Rattle.ken_ship.specs.Laws.{IsPast, IsDueOf, HasSent, IsStateOf}
 use Rattle.ken_ship.proofs.Lines.{IsSound, mails_to_one}
 
 abbrev line_at : ℕ → ℕ → List Message → Unacked
@@ -61,3 +66,28 @@ retired_is acked s long as_long each =
 
 pub progress_is : (acked : List ℕ) (emitted : ℕ) (w : Waiting) → acked ≡ acked_in w.lines → emitted ≡ w.emitted → ◌≡◌ {A = Progress} (record { acked = acked; emitted = emitted }) (progress_in w)
 progress_is acked emitted w numbers same = ap (λ (ns : List ℕ). record { acked = ns; emitted = emitted }) numbers ∙ ap (λ (n : ℕ). record { acked = acked_in w.lines; emitted = n }) same
+
+pub resumed_is_due : (g : Game) (v : ℕ) (n : Node) (s : State) (own : List Turn) → g.nodes ≤ 8 → IsTrue n.turning.up → n.turning.turns ≡ sealed v own → length n.sending.acked ≡ g.nodes → HasSent g v n → IsStateOf g v n s → IsDueOf g v n (resumed 8 s)
+resumed_is_due g v n s own few up turns width has is =
+    let front : take 8 s.sent ≡ s.sent = take_all 8 s.sent (omega (arith, is.width)) in
+    let lines : List Unacked = resumed_lines 0 s.sent s.messages in
+    let same : (resumed 8 s).lines ≡ lines = ap (λ (ns : List ℕ). resumed_lines 0 ns s.messages) front in
+    let long : length lines ≡ 8 = resumed_long 0 s.sent s.messages ∙ is.width in
+    let outs : length s.outs ≡ length (outs_of n.turning.turns) - n.sending.emitted = ap length is.outs ∙ length-drop n.sending.emitted (outs_of n.turning.turns) in
+    record {
+      up = up;
+      own = own;
+      turns = turns;
+      width = width;
+      lines = λ u low.
+          let sent : List Message = mails_to v u n.turning.turns in
+          let acked : ℕ = slice_index n.sending.acked u in
+          let line : get_or (resumed 8 s).lines u no_line ≡ line_at u (get_or s.sent u 0) s.messages = ap (λ (ls : List Unacked). get_or ls u no_line) same ∙ resumed_at s.sent s.messages u (omega (arith, low, few, is.width)) in
+          let count : length (sent_to u s.messages) ≡ length sent - acked = ap (λ (ms : List Message). length ms) (is.messages u low) ∙ length-drop acked sent in
+          let number : get_or s.sent u 0 - length (sent_to u s.messages) ≡ acked = omega (arith, count, is.sent u low, has.acked u low) in
+          let past : IsPast acked sent (line_at u (get_or s.sent u 0) s.messages) = record { number = number; waits = is.messages u low } in
+          subst (λ (l : Unacked). IsPast acked sent l) (sym line) past;
+      long = let whole : length (resumed 8 s).lines ≡ 8 = ap (λ (ls : List Unacked). length ls) same ∙ long in omega (arith, whole, few);
+      emitted = omega (arith, is.outputs, outs, has.emitted);
+      outs = is.outs;
+    }

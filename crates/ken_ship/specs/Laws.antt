@@ -3,6 +3,7 @@ use Rattle.std.specs.Prelude.{◌≡◌, ℕ, ◌<◌, ◌≤◌, nat_lt, if◌t
 use Rattle.std.specs.List.{flat_map}
 use Rattle.ken_model.specs.declared.messages.Message.{Message}
 use Rattle.ken_model.specs.declared.messages.Out.{Out}
+use Rattle.ken_model.specs.declared.states.State.{State}
 use Rattle.ken_model.specs.Game.{Game}
 use Rattle.ken_model.specs.Network.{Turn}
 use Rattle.ken_record.specs.declared.effects.Effects.{Effects}
@@ -10,7 +11,7 @@ use Rattle.ken_packet.specs.declared.packet.Packet.{Packet as Spelled}
 use Rattle.ken_packet.specs.declared.packet.Packet.TheVariants.{Mail as SpelledMail, Ack}
 use Rattle.ken_packet.specs.Reading.{packet_of}
 use Rattle.ken_net.specs.Puts.{Put}
-use Rattle.ken_outbox.specs.Waiting.{Unacked, Waiting, no_line, nothing as nothing_waits}
+use Rattle.ken_outbox.specs.Waiting.{Unacked, Waiting, no_line, sent_to, resumed, nothing as nothing_waits}
 use Rattle.ken_core.specs.declared.events.Event.{Event}
 use Rattle.ken_core.specs.Turns.{mails_to, outs_of, sealed}
 use Rattle.ken_core.specs.Nodes.{Node, first_node}
@@ -103,3 +104,15 @@ pub record HasSent (g : Game) (v : ℕ) (n : Node) : Type 0 where
 -- where the node seals a turn more, which is handed over, what waits is again what it has
 abbrev pub HandedOverIsDue : Type 0
 HandedOverIsDue = (g : Game) (v : ℕ) (n n2 : Node) (w : Waiting) (s : Sealed) (e : Effects) (own : List Turn) → IsDueOf g v n w → HasSent g v n → IsTrue n2.turning.up → n2.turning.turns ≡ n.turning.turns ++ e ∷ [] → n2.turning.turns ≡ sealed v own → n2.sending ≡ n.sending → IsTurnOf s e → IsDueOf g v n2 (with_turn v s w)
+
+-- a state has what the node sent and output, and of it what isn't acknowledged or emitted
+pub record IsStateOf (g : Game) (v : ℕ) (n : Node) (s : State) : Type 0 where
+  pub width : length s.sent ≡ 8
+  pub sent : (u : ℕ) → u < g.nodes → slice_index s.sent u ≡ length (mails_to v u n.turning.turns)
+  pub messages : (u : ℕ) → u < g.nodes → sent_to u s.messages ≡ drop (slice_index n.sending.acked u) (mails_to v u n.turning.turns)
+  pub outputs : s.outputs ≡ length (outs_of n.turning.turns)
+  pub outs : s.outs ≡ drop n.sending.emitted (outs_of n.turning.turns)
+
+-- what waits where such a state resumes is what the node has
+abbrev pub ResumedIsDue : Type 0
+ResumedIsDue = (g : Game) (v : ℕ) (n : Node) (s : State) (own : List Turn) → g.nodes ≤ 8 → IsTrue n.turning.up → n.turning.turns ≡ sealed v own → length n.sending.acked ≡ g.nodes → HasSent g v n → IsStateOf g v n s → IsDueOf g v n (resumed 8 s)

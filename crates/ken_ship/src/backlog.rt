@@ -1,9 +1,9 @@
 // What a node was handed to send and emit, and how far it came.
 ghost use Rattle.std.specs.Prelude.{◌≡◌, ◌<◌, length, OnOk, OnErr};
-ghost use Rattle.ken_ship.specs.Fits.{AreMails};
-ghost use Rattle.ken_ship.specs.Handing.{acked_in, with_turn, progress_in};
 ghost use Rattle.std.specs.List.{All};
 ghost use Rattle.ken_outbox.specs.Waiting.{resumed};
+ghost use Rattle.ken_ship.specs.Fits.{AreMails};
+ghost use Rattle.ken_ship.specs.Handing.{acked_in, with_turn, progress_in};
 
 use crate::copies;
 use crate::items::{Progress, Sealed};
@@ -59,11 +59,11 @@ fn retired(state: &State) -> Progress
 }
 
 impl Backlog {
+    ghost use Rattle.std.specs.Prelude.{◌≡◌, ◌+◌, ◌<◌, ◌≤◌, [], ◌++◌, drop, IfOk, OnOk, OnErr, MatchOption, option_copied, Some, slice_get, slice_index_or, slice_set};
     ghost use Rattle.std.specs.VecDeque.{deque_len, deque_capacity};
-    ghost use Rattle.std.specs.Prelude.{◌≡◌, ◌+◌, ◌<◌, ◌≤◌, [], ◌∷◌, ◌++◌, drop, IfOk, OnOk, OnErr, MatchOption, option_copied, Some, slice_get, slice_index_or, slice_set};
+    ghost use Rattle.ken_links.specs.Rings.{pushed, free, popped, known, nones, IsRing, SamePushEnd, SamePopEnd};
     ghost use Rattle.ken_outbox.specs.Waiting.{nothing, no_line, acked_by, next_number};
     ghost use Rattle.ken_ship.specs.Fits.{IsMailFrom, IsMailTo};
-    ghost use Rattle.ken_links.specs.Rings.{pushed, free, popped, known, nones, IsRing, SamePushEnd, SamePopEnd};
     ghost use Rattle.ken_ship.specs.Handing.{HandedOver, Received};
     ghost use Rattle.ken_ship.specs.Parts.{due_in};
 

@@ -4,7 +4,7 @@ ghost use Rattle.ken_links.specs.Rings.{free, IsRing, SamePushEnd};
 use crate::desks::{Desk, emitting, new_desk, outs};
 use crate::outlets::ListedOutlet;
 use ken_model::{Items, State};
-use ken_ship::{Emit, NodeFault, SendWorker};
+use ken_ship::*;
 use std::alloc::{AllocError, Global};
 use std::test::Fail;
 
@@ -124,4 +124,21 @@ fn the_65th_refusal_is_a_fault_until_a_restart(rt: HostRuntime) -> Result<(), Fa
     assert!(rt; are_refused(&mut desk.worker, &mut out, 1));
     assert_eq!(rt; emitted(&mut desk.worker, &mut out), 1);
     Ok(())
+}
+
+// An externaliser can be handed to another thread.
+fn can_be_sent<T: Send>(_: &T) {}
+
+#[test]
+fn externalisers_can_be_sent(rt: HostRuntime) -> Result<(), Fail> {
+    can_be_sent(&new_desk(rt.alloc(), 2)?.worker);
+    Ok(())
+}
+
+#[test]
+fn the_laws_are_calls(_rt: HostRuntime) {
+    sends_are_events();
+    acks_are_events();
+    an_emission_is_an_event();
+    what_is_handed_over_is_due();
 }

@@ -1,4 +1,5 @@
 use Rattle.ken_ship.proofs.Emissions.{nothing_is_due_first, handed_over_is_due}
+use Rattle.ken_ship.proofs.Resumed.{resumed_is_due}
 use Rattle.ken_ship.proofs.laws.what_is_handed_over_is_due.Goals as goal
 
 pub returns-clause-first : goal.returns-clause-first
@@ -6,3 +7,6 @@ returns-clause-first c = nothing_is_due_first
 
 pub returns-clause-more : goal.returns-clause-more
 returns-clause-more c = handed_over_is_due
+
+pub returns-clause-resumed : goal.returns-clause-resumed
+returns-clause-resumed c = resumed_is_due
