@@ -65,6 +65,24 @@ nothing_is_due_first g v few = record {
   outs = refl;
 }
 
+abbrev TurnsAndSends : Node → List Effects × SendSide
+TurnsAndSends n = (n.turning.turns, n.sending)
+
+pub others_keep_due : (g : Game) (v : ℕ) (n n2 : Node) (w : Waiting) → IsDueOf g v n w → IsTrue n2.turning.up → n2.turning.turns ≡ n.turning.turns → n2.sending ≡ n.sending → IsDueOf g v n2 w
+others_keep_due g v n n2 w is up turns same =
+    let sides : TurnsAndSends n2 ≡ TurnsAndSends n = ap (λ (ts : List Effects). (ts, n2.sending)) turns ∙ ap (λ (x : SendSide). (n.turning.turns, x)) same in
+    let acks : n2.sending.acked ≡ n.sending.acked = ap (λ (x : SendSide). x.acked) same in
+    record {
+      up = up;
+      own = is.own;
+      turns = turns ∙ is.turns;
+      width = ap (λ (ns : List ℕ). length ns) acks ∙ is.width;
+      lines = λ u low. subst (λ (x : List Effects × SendSide). IsPast (slice_index x.1.acked u) (mails_to v u x.0) (get_or w.lines u no_line)) (sym sides) (is.lines u low);
+      long = is.long;
+      emitted = is.emitted ∙ ap (λ (x : SendSide). x.emitted) (sym same);
+      outs = is.outs ∙ ap (λ (x : List Effects × SendSide). drop x.1.emitted (outs_of x.0)) (sym sides);
+    }
+
 -- what a turn sent to one node
 sent_in : (v u stamp : ℕ) (sends : List Sent) → sent_to u (map (mail_of v stamp) sends) ≡ map (mail_of v stamp) (filter (λ (s : Sent). s.to == u) sends)
 sent_in v u stamp [] = refl

@@ -8,3 +8,4 @@ pub mod Numbered
 pub mod Acks
 pub mod Dues
 pub mod Emissions
+pub mod Waits

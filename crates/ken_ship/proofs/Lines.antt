@@ -81,7 +81,7 @@ all_past P through (m ∷ ms) each = kept (nat_le m.number through) (all_past P 
     kept true rest = rest
     kept false rest = each
 
-all_acked : (P : Message → Type 0) (through : ℕ) (l : Unacked) → All P l.messages → All P (acked_by through l).messages
+pub all_acked : (P : Message → Type 0) (through : ℕ) (l : Unacked) → All P l.messages → All P (acked_by through l).messages
 all_acked P through l each = kept (nat_lt l.acked through)
   where
     kept : (b : Bool) → All P (cond b (record { acked = through; messages = past through l.messages }) l).messages
@@ -104,7 +104,7 @@ acked_are_mails v u through ls were w =
     subst (λ (l : Unacked). All (IsMailTo v w) l.messages) (sym there) (were w))
     (cases_eq w u)
 
-acked_number : (through : ℕ) (l : Unacked) → (acked_by through l).acked ≡ max l.acked through
+pub acked_number : (through : ℕ) (l : Unacked) → (acked_by through l).acked ≡ max l.acked through
 acked_number through l = kept (nat_lt l.acked through) refl
   where
     kept : (b : Bool) → nat_lt l.acked through ≡ b → (cond b (record { acked = through; messages = past through l.messages }) l).acked ≡ max l.acked through

@@ -1,6 +1,6 @@
 -- What the calls of an externaliser are as events of its node.
-use Rattle.std.specs.Prelude.{◌≡◌, ℕ, ◌<◌, ◌≤◌, nat_lt, if◌then◌else◌, List, [], ◌∷◌, ◌++◌, map, drop, length, slice_index, slice_index_or, Option, Some, None, IsTrue}
-use Rattle.std.specs.List.{flat_map}
+use Rattle.std.specs.Prelude.{◌≡◌, ℕ, ◌<◌, ◌≤◌, ◌⊎◌, nat_lt, if◌then◌else◌, List, [], ◌∷◌, ◌++◌, map, drop, length, slice_index, slice_index_or, Option, Some, None, IsTrue}
+use Rattle.std.specs.List.{Contains, flat_map}
 use Rattle.ken_model.specs.declared.messages.Message.{Message}
 use Rattle.ken_model.specs.declared.messages.Out.{Out}
 use Rattle.ken_model.specs.declared.states.State.{State}
@@ -19,7 +19,7 @@ use Rattle.ken_core.specs.Packets.{Packet, Mail, Answer, Outgoing, put_by, nothi
 use Rattle.ken_core.specs.Steps.{emitted_node}
 use Rattle.ken_core.specs.Calls.{Call, AreSends, AreSomeSends, AreTaken, IsEmit}
 use Rattle.ken_ship.specs.declared.items.Sealed.{Sealed}
-use Rattle.ken_ship.specs.Handing.{with_turn}
+use Rattle.ken_ship.specs.Handing.{mails_of, with_turn, with_turns}
 use Rattle.ken_ship.specs.Sending.{mail_put, all_due}
 use Rattle.ken_ship.specs.Taking.{acks_in, after_acks}
 
@@ -90,6 +90,10 @@ EmissionIsEvent = (g : Game) (v : ℕ) (n : Node) (w : Waiting) (out : Out) (res
 abbrev pub NothingIsDueFirst : Type 0
 NothingIsDueFirst = (g : Game) (v : ℕ) → g.nodes ≤ 8 → IsDueOf g v (first_node g) (nothing_waits 8)
 
+-- what happens to a node's pages, its log and its other numbers changes nothing of it
+abbrev pub OthersKeepDue : Type 0
+OthersKeepDue = (g : Game) (v : ℕ) (n n2 : Node) (w : Waiting) → IsDueOf g v n w → IsTrue n2.turning.up → n2.turning.turns ≡ n.turning.turns → n2.sending ≡ n.sending → IsDueOf g v n2 w
+
 -- the turn that was handed over is this one of the node's
 pub record IsTurnOf (s : Sealed) (e : Effects) : Type 0 where
   pub stamp : s.stamp ≡ e.stamp
@@ -116,3 +120,30 @@ pub record IsStateOf (g : Game) (v : ℕ) (n : Node) (s : State) : Type 0 where
 -- what waits where such a state resumes is what the node has
 abbrev pub ResumedIsDue : Type 0
 ResumedIsDue = (g : Game) (v : ℕ) (n : Node) (s : State) (own : List Turn) → g.nodes ≤ 8 → IsTrue n.turning.up → n.turning.turns ≡ sealed v own → length n.sending.acked ≡ g.nodes → HasSent g v n → IsStateOf g v n s → IsDueOf g v n (resumed 8 s)
+
+-- the line of a node
+abbrev pub line_of : List Unacked → ℕ → Unacked
+line_of lines u = slice_index_or lines u no_line
+
+-- whatever acknowledgements are taken, no acknowledged number falls
+abbrev pub NumbersRise : Type 0
+NumbersRise = (acks : List (ℕ × ℕ)) (lines : List Unacked) (u : ℕ) → (line_of lines u).acked ≤ (line_of (after_acks acks lines) u).acked
+
+-- and each is what it was, or what one of them says
+abbrev pub NumbersWereTold : Type 0
+NumbersWereTold = (acks : List (ℕ × ℕ)) (lines : List Unacked) (u : ℕ) → ((line_of (after_acks acks lines) u).acked ≡ (line_of lines u).acked) ⊎ Contains acks (u, (line_of (after_acks acks lines) u).acked)
+
+-- what waits then waited before
+abbrev pub WaitedBefore : Type 0
+WaitedBefore = (acks : List (ℕ × ℕ)) (lines : List Unacked) (u : ℕ) (m : Message) → Contains (line_of (after_acks acks lines) u).messages m → Contains (line_of lines u).messages m
+
+-- a message to u that one of these turns of v sent
+pub record WasSentBy (v : ℕ) (turns : List Sealed) (u : ℕ) (m : Message) : Type 0 where
+  pub turn : Sealed
+  pub one : Contains turns turn
+  pub sent : Contains (mails_of v turn) m
+  pub to : m.to ≡ u
+
+-- what waits where turns are handed over waited before, or one of them sent it
+abbrev pub WasHandedOver : Type 0
+WasHandedOver = (v : ℕ) (turns : List Sealed) (w : Waiting) (u : ℕ) (m : Message) → Contains (line_of (with_turns v turns w).lines u).messages m → Contains (line_of w.lines u).messages m ⊎ WasSentBy v turns u m

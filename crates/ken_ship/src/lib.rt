@@ -18,6 +18,7 @@ pub use hearing::MOST_TAKEN;
 pub use items::{Progress, Sealed};
 pub use laws::{
     acks_are_events, an_emission_is_an_event, sends_are_events, what_is_handed_over_is_due,
+    what_waits_was_handed_over,
 };
 pub use outlet::Outlet;
 pub use sending::MOST_DUE;

@@ -141,4 +141,5 @@ fn the_laws_are_calls(_rt: HostRuntime) {
     acks_are_events();
     an_emission_is_an_event();
     what_is_handed_over_is_due();
+    what_waits_was_handed_over();
 }
