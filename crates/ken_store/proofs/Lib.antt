@@ -4,3 +4,33 @@ pub mod Lists
 pub mod Heaps
 pub mod Reading
 pub mod Recovering
+pub mod Fronts
+pub mod Mounted
+pub mod Creating
+mod Lives
+mod Again
+mod Standing
+mod Found
+mod Currents
+mod Ready
+mod First
+pub mod Sealing
+pub mod Patches
+pub mod Holding
+pub mod PatchLaws
+pub mod Patched
+pub mod PatchNext
+pub mod AheadLaws
+mod Rises
+mod Meanwhile
+mod SealMeanwhile
+mod BaseStands
+pub mod NextBase
+pub mod Lasts
+pub mod Turned
+pub mod Sizing
+mod ApartPages
+mod ApartLaws
+mod ApartRecovers
+mod TurnMeanwhile
+mod SealRecovers

@@ -1,5 +1,5 @@
 -- Disks that are read, by the answers of the calls that read them.
-use Rattle.std.proofs.Common.{◌≡◌, ℕ, ◌<◌, ◌≤◌, List, length, get_or, take, drop, ltb, Bool, true, false, not, ◌||◌, sym, ap, subst, refl, ◌∙◌, arith, Option, Some, None, Result, Ok, Err}
+use Rattle.std.proofs.Common.{◌≡◌, ℕ, ◌<◌, ◌≤◌, List, length, get_or, take, drop, ltb, Bool, true, false, not, ◌||◌, ap, subst, refl, ◌∙◌, arith, Option, Some, None, Result, Ok, Err}
 use Rattle.std.proofs.lemmas.Bool.{lt-ltb, le-ltb, ne_eqb}
 use Rattle.std.proofs.lemmas.List.{get_or-take, drop-take, take-take}
 use Rattle.ken_log.specs.Mounts.{is_open}
@@ -23,7 +23,10 @@ use Rattle.ken_record.specs.Reading.{header_at, item_at, Fails, ◌>>=◌}
 use Rattle.ken_record.specs.Versions.{One}
 use Rattle.ken_store.specs.declared.heads.Front.TheVariants.{Absent, Wrong, Begins}
 use Rattle.ken_store.specs.Logs.{front_from, front_of}
-use Rattle.ken_store.specs.Reads.{IsSame, Reads, of_disk, of_image}
+use Rattle.ken_store.specs.declared.disks.Which.{Which}
+use Rattle.ken_store.specs.declared.disks.Which.TheVariants.{First, Second}
+use Rattle.ken_store.specs.Answers.{disks_from}
+use Rattle.ken_store.specs.Reads.{IsSame, AreSame, Reads, of_disk, of_image}
 use Rattle.ken_store.specs.Reads as store
 
 -- a fate that a want of memory left
@@ -68,6 +71,11 @@ module _ {D : Type 0} (told : D → Option Story) (faults : D → ℕ) (fate : D
     count = subst (λ (n : ℕ). HasCause {T = Unit {0}} n (faults c) (Err disk.Failed)) first.count second.count;
     falls = subst (λ (o : Option Fate). Follows (Suffers {T = Unit {0}} (Err disk.Failed)) o (fate c)) first.falls second.falls;
   }
+
+  -- the image was read
+  pub same_image : (which : Which) (current image image2 other : D) → IsSame told faults fate image image2 → AreSame told faults fate (disks_from which current image other) (disks_from which current image2 other)
+  same_image First current image image2 other is = record { log = same_self current; image = is; second = same_self other }
+  same_image Second current image image2 other is = record { log = same_self other; image = is; second = same_self current }
 
 -- ---- headers
 

@@ -1,5 +1,5 @@
 -- What the answers of a recovery say, step by step.
-use Rattle.std.proofs.Common.{◌≡◌, ℕ, ◌+◌, ◌*◌, ◌<◌, ◌≤◌, List, [], ◌∷◌, length, take, ltb, Bool, true, false, not, ◌&&◌, refl, sym, ap, subst, ◌∙◌, arith, Option, Some, None, Result, Ok, Err}
+use Rattle.std.proofs.Common.{◌≡◌, ℕ, ◌+◌, ◌*◌, ◌<◌, ◌≤◌, List, [], ◌∷◌, length, ltb, Bool, true, false, not, ◌&&◌, refl, sym, ap, subst, ◌∙◌, arith, Option, Some, None, Result, Ok, Err}
 use Rattle.std.specs.Prelude.{if◌then◌else◌, nat_lt}
 use Rattle.std.specs.List.{AllByRecursion}
 use Rattle.std.proofs.lemmas.Bool.{le-ltb}
@@ -30,15 +30,17 @@ use Rattle.ken_store.specs.declared.disks.Which.TheVariants.{First, Second}
 use Rattle.ken_store.specs.declared.faults.StoreFault.{StoreFault}
 use Rattle.ken_store.specs.declared.faults.StoreFault.TheVariants as faults
 use Rattle.ken_store.specs.declared.numbers.Numbers.{Numbers}
+use Rattle.ken_store.specs.declared.heads.Logs.TheVariants.{NoLogs}
 use Rattle.ken_store.specs.declared.store.Recovered.{Recovered}
 use Rattle.ken_store.specs.declared.store.Recovered.TheVariants as found
-use Rattle.ken_store.specs.Logs.{log_on, may_own}
+use Rattle.ken_store.specs.Logs.{front_of, logs_of, log_on, may_own}
 use Rattle.ken_store.specs.Numbers.{no_numbers, are_within, follows, after_record, after_records}
 use Rattle.ken_store.specs.Bases.{base_numbers, base_stands, counts_stand, messages_stand, outs_stand}
 use Rattle.ken_store.specs.Kept.{base_pages, HasPagesWithin}
 use Rattle.ken_store.specs.Reads.{AreSame}
-use Rattle.ken_store.specs.Recovered.{Recovery, Whole, Broken, IsRefusedAt, numbers_from, numbers_of, with_numbers, checked, with_value, with_image, with_state, heap_of}
-use Rattle.ken_store.specs.Answers.{AreAtRest, Answers, Stands, IsMounted, Mounts}
+use Rattle.ken_store.specs.Recovered.{Recovery, Whole, Broken, IsRefusedAt, numbers_from, numbers_of, with_numbers, checked, with_value, with_image, heap_of}
+use Rattle.ken_store.proofs.Mounted.{no_logs}
+use Rattle.ken_store.specs.Answers.{AreAtRest, AreUnformatted, Answers, Stands, IsMounted, Mounts}
 
 and_true : (a b : Bool) → a && b ≡ true → (a ≡ true) × (b ≡ true)
 and_true true b is = (refl, is)
@@ -136,8 +138,24 @@ module _ {D : Type 0} (told : D → Option Story) (faults : D → ℕ) (fate : D
   current_rests First rests h is = rests.log h (sym same.log.story ∙ is)
   current_rests Second rests h is = rests.second h (sym same.second.story ∙ is)
 
+  pub other_rests : (which : Which) → AreAtRest told old → Tells (told (log_on which new.second new.log)) (λ h. IsAtRest h.now)
+  other_rests First rests h is = rests.second h (sym same.second.story ∙ is)
+  other_rests Second rests h is = rests.log h (sym same.log.story ∙ is)
+
   pub image_rests : AreAtRest told old → Tells (told new.image) (λ h. IsAtRest h.now)
   image_rests rests h is = rests.image h (sym same.image.story ∙ is)
+
+-- disks on which there are no logs
+module _ {D : Type 0} (told : D → Option Story) (faults : D → ℕ) (fate : D → Option Fate) (old new : Disks D) (same : AreSame told faults fate old new) (rests : AreAtRest told old) where
+  pub fresh_rests : AreAtRest told new
+  fresh_rests = record {
+    log = λ h is. rests.log h (sym same.log.story ∙ is);
+    image = λ h is. rests.image h (sym same.image.story ∙ is);
+    second = λ h is. rests.second h (sym same.second.story ∙ is);
+  }
+
+  pub fresh_none : Tells (told old.log) (λ l. Tells (told old.second) (λ s. logs_of (front_of l.now.seen) (front_of s.now.seen) ≡ NoLogs)) → AreUnformatted told new
+  fresh_none none l tl s ts = no_logs l.now.seen s.now.seen (none l (sym same.log.story ∙ tl) s (sym same.second.story ∙ ts))
 
 pub seen_on : (which : Which) (l s : Story) → (log_on which l s).now.seen ≡ log_on which l.now.seen s.now.seen
 seen_on First l s = refl

@@ -1,5 +1,5 @@
 -- What the answer of a recovery says of its disks.
-use Rattle.std.specs.Prelude.{◌≡◌, ℕ, List, Option, None, Result, Ok, Err}
+use Rattle.std.specs.Prelude.{◌≡◌, ℕ, List, Option, Result, Ok, Err}
 use Rattle.ken_disk.specs.Story.{Story, Tells, IsAtRest}
 use Rattle.ken_model.specs.declared.states.State.{State}
 use Rattle.ken_model.specs.Broken.{BreaksAt}
@@ -9,13 +9,12 @@ use Rattle.ken_record.specs.declared.record.Record.{Record}
 use Rattle.ken_log.specs.declared.log.Log.{Log}
 use Rattle.ken_log.specs.Mounts.{mount_of}
 use Rattle.ken_log.specs.Mounts as mounts
-use Rattle.ken_log.specs.Settled.{IsSettled}
-use Rattle.ken_image.specs.Whole.{IsWhole}
 use Rattle.ken_store.specs.declared.disks.Disks.{Disks}
 use Rattle.ken_store.specs.declared.disks.Which.{Which}
 use Rattle.ken_store.specs.declared.disks.Which.TheVariants.{First, Second}
 use Rattle.ken_store.specs.declared.faults.StoreFault.{StoreFault}
 use Rattle.ken_store.specs.declared.faults.StoreFault.TheVariants as faults
+use Rattle.ken_store.specs.declared.numbers.Numbers.{Numbers}
 use Rattle.ken_store.specs.declared.store.Store.{Store}
 use Rattle.ken_store.specs.declared.store.Recovered.{Recovered}
 use Rattle.ken_store.specs.declared.store.Recovered.TheVariants as found
@@ -31,6 +30,10 @@ pub record AreAtRest {D : Type 0} (told : D → Option Story) (disks : Disks D) 
   pub log : Tells (told disks.log) (λ h. IsAtRest h.now)
   pub image : Tells (told disks.image) (λ h. IsAtRest h.now)
   pub second : Tells (told disks.second) (λ h. IsAtRest h.now)
+
+-- neither of a node's logs is there
+abbrev pub AreUnformatted : {D : Type 0} → (D → Option Story) → Disks D → Type 0
+AreUnformatted told disks = Tells (told disks.log) (λ l. Tells (told disks.second) (λ s. (mount_of l.now.seen ≡ mounts.Unformatted) × (mount_of s.now.seen ≡ mounts.Unformatted)))
 
 -- the disks of a node, of which one has the current log
 abbrev pub disks_from : {D : Type 0} → Which → D → D → D → Disks D
@@ -70,17 +73,6 @@ Mounts (Ok (found.Whole store state records)) log second = mount_of (log_on stor
 Mounts (Ok (found.Fresh disks)) log second = Unit {0}
 Mounts (Err fault) log second = Unit {0}
 
--- a store takes calls: its log takes seals, its image takes patches, and no turn is begun
-pub record IsIdle {D : Type 0} (told : D → Option Story) (size : D → ℕ) (store : Store D) : Type 0 where
-  pub log : IsSettled told size store.turns.log
-  pub image : IsWhole told size store.patches.image
-  pub idle : store.turns.objects.begun ≡ None
-
-abbrev pub IsReady : {D : Type 0} → (D → Option Story) → (D → ℕ) → Result (Recovered D) StoreFault → Type 0
-IsReady told size (Ok (found.Whole store state records)) = IsIdle told size store
-IsReady told size (Ok (found.Fresh disks)) = Unit {0}
-IsReady told size (Err fault) = Unit {0}
-
 -- a store is over this log, with these records
 abbrev pub IsOver : {D : Type 0} → Result (Recovered D) StoreFault → Which → Log D → List Record → Type 0
 IsOver (Ok (found.Whole store state records)) which log items = (store.turns.which ≡ which) × (store.turns.log ≡ log) × (records ≡ items)
@@ -95,8 +87,8 @@ Stands (Err faults.Disk) heap = Unit {0}
 Stands (Err faults.Memory) heap = Unit {0}
 
 -- a state is what was checked, or the item that was refused
-abbrev pub IsChecked : Result State StoreFault → Result State (ℕ × ℕ) → Type 0
-IsChecked (Ok s) checked = checked ≡ Ok s
+abbrev pub IsChecked : Result (Numbers × State) StoreFault → Result State (ℕ × ℕ) → Type 0
+IsChecked (Ok x) checked = checked ≡ Ok x.1
 IsChecked (Err (faults.Damaged disk place)) checked = checked ≡ Err (disk, place)
 IsChecked (Err faults.Memory) checked = Unit {0}
 IsChecked (Err faults.Disk) checked = ⊥

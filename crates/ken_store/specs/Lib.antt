@@ -5,3 +5,12 @@ pub mod Kept
 pub mod Recovered
 pub mod Reads
 pub mod Answers
+pub mod Creations
+pub mod Ahead
+pub mod Patching
+pub mod PatchLaws
+pub mod Turning
+pub mod Standing
+pub mod Lending
+pub mod Turnovers
+pub mod Apart

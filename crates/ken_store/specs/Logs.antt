@@ -1,5 +1,5 @@
 -- Which of a node's two logs is current.
-use Rattle.std.specs.Prelude.{ℕ, ◌==◌, ◌&&◌, nat_lt, if◌then◌else◌, List, take, drop, Bool, true, Option, Some, None}
+use Rattle.std.specs.Prelude.{◌≡◌, ℕ, ◌<◌, ◌==◌, ◌&&◌, nat_lt, if◌then◌else◌, List, take, drop, Bool, true, Option, Some, None}
 use Rattle.ken_record.specs.declared.header.Header.{Header}
 use Rattle.ken_record.specs.Reading.{header_at}
 use Rattle.ken_log.specs.Mounts.{is_unformatted}
@@ -8,6 +8,7 @@ use Rattle.ken_store.specs.declared.disks.Which.{Which}
 use Rattle.ken_store.specs.declared.disks.Which.TheVariants.{First, Second}
 use Rattle.ken_store.specs.declared.heads.Front.{Front}
 use Rattle.ken_store.specs.declared.heads.Front.TheVariants.{Absent, Wrong, Begins}
+use Rattle.ken_store.specs.declared.state.Heads.{Heads}
 use Rattle.ken_store.specs.declared.heads.Logs.{Logs}
 use Rattle.ken_store.specs.declared.heads.Logs.TheVariants.{NoLogs, WrongHeader, Current}
 
@@ -24,6 +25,11 @@ front_of bytes = if is_unformatted bytes then Absent else front_from (header_at 
 abbrev pub disk_number : Which → ℕ
 disk_number First = 0
 disk_number Second = 2
+
+-- the log beside one
+abbrev pub other_log : Which → Which
+other_log First = Second
+other_log Second = First
 
 -- of two headers the greater generation is current, and equal ones are wrong in the second
 abbrev pub greater : Header → Header → Logs
@@ -46,6 +52,23 @@ logs_of (Begins a) (Begins b) = greater a b
 abbrev pub log_on : {A : Type 0} → Which → A → A → A
 log_on First first second = first
 log_on Second first second = second
+
+-- what a log begins with that has this header, if it is a log
+abbrev pub begun_by : Option Header → Front
+begun_by None = Absent
+begun_by (Some head) = Begins head
+
+abbrev pub current_head : Heads → Option Header
+current_head h = log_on h.which h.first h.second
+
+abbrev pub other_head : Heads → Option Header
+other_head h = log_on h.which h.second h.first
+
+-- what was read of two logs, the current one and the other
+pub record AreHeads (h : Heads) (current other : Front) : Type 0 where
+  pub this : current ≡ begun_by (current_head h)
+  pub that : other ≡ begun_by (other_head h)
+  pub older : (head last : Header) → current_head h ≡ Some head → other_head h ≡ Some last → last.generation < head.generation
 
 -- a header tells whose log it is
 abbrev pub is_owned : Owner → Header → Bool

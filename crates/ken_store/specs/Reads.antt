@@ -4,9 +4,11 @@ use Rattle.ken_disk.specs.declared.faults.DiskFault.{DiskFault}
 use Rattle.ken_disk.specs.declared.faults.DiskFault.TheVariants as disk
 use Rattle.ken_disk.specs.Causes.{HasCause}
 use Rattle.ken_disk.specs.Fates.{Fate, Suffers}
-use Rattle.ken_disk.specs.Story.{Story, Tells, Follows}
+use Rattle.ken_disk.specs.Story.{Story, Follows}
 use Rattle.ken_image.specs.declared.faults.ImageFault.{ImageFault}
 use Rattle.ken_image.specs.declared.faults.ImageFault.TheVariants as image
+use Rattle.ken_log.specs.declared.faults.SealFault.{SealFault}
+use Rattle.ken_log.specs.declared.faults.SealFault.TheVariants as seals
 use Rattle.ken_log.specs.declared.faults.LogFault.{LogFault}
 use Rattle.ken_log.specs.declared.faults.LogFault.TheVariants as logs
 use Rattle.ken_store.specs.declared.disks.Disks.{Disks}
@@ -15,7 +17,7 @@ use Rattle.ken_store.specs.declared.faults.StoreFault.{StoreFault}
 use Rattle.ken_store.specs.declared.faults.StoreFault.TheVariants.{Damaged, Disk, Memory}
 use Rattle.ken_store.specs.Logs.{disk_number}
 
--- the fault of a store for that of a disk, and of an image
+-- the fault of a store for that of a disk, of an image, and of a seal
 abbrev pub of_disk : DiskFault → StoreFault
 of_disk disk.Failed = Disk
 of_disk disk.Memory = Memory
@@ -23,6 +25,10 @@ of_disk disk.Memory = Memory
 abbrev pub of_image : ImageFault → StoreFault
 of_image image.Disk = Disk
 of_image image.Memory = Memory
+
+abbrev pub of_seal : SealFault → StoreFault
+of_seal seals.Disk = Disk
+of_seal seals.Memory = Memory
 
 -- the fault of a log on a disk
 abbrev pub of_log : Which → LogFault → StoreFault

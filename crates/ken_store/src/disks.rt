@@ -1,5 +1,5 @@
 ghost use Rattle.std.specs.Prelude.{◌≡◌};
-ghost use Rattle.ken_store.specs.Logs.{disk_number, log_on};
+ghost use Rattle.ken_store.specs.Logs.{disk_number, log_on, other_log};
 
 /// The disks of a node.
 #[derive(Debug, Drop)]
@@ -27,6 +27,16 @@ impl Which {
         match self {
             Which::First => 0,
             Which::Second => 2,
+        }
+    }
+
+    // The other log.
+    pub(crate) fn other(self) -> Which
+        ensures { result ≡ other_log self }
+    {
+        match self {
+            Which::First => Which::Second,
+            Which::Second => Which::First,
         }
     }
 }

@@ -1,11 +1,11 @@
 ghost use Rattle.std.specs.Prelude.{◌≡◌};
 ghost use Rattle.ken_store.specs.declared.faults.StoreFault.TheVariants.{Memory};
-ghost use Rattle.ken_store.specs.Reads.{of_disk, of_image, of_log};
+ghost use Rattle.ken_store.specs.Reads.{of_disk, of_image, of_seal, of_log};
 
 use crate::disks::Which;
 use ken_disk::DiskFault;
 use ken_image::ImageFault;
-use ken_log::LogFault;
+use ken_log::{LogFault, SealFault};
 use std::alloc::AllocError;
 use thiserror::Error;
 
@@ -40,6 +40,17 @@ impl From<ImageFault> for StoreFault {
         match fault {
             ImageFault::Disk => StoreFault::Disk,
             ImageFault::Memory => StoreFault::Memory,
+        }
+    }
+}
+
+impl From<SealFault> for StoreFault {
+    ghost from_gives = { λ fault e. e ≡ of_seal fault };
+
+    fn from(fault: SealFault) -> Self {
+        match fault {
+            SealFault::Disk => StoreFault::Disk,
+            SealFault::Memory => StoreFault::Memory,
         }
     }
 }

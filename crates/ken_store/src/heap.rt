@@ -9,6 +9,7 @@ ghost use Rattle.ken_store.specs.Kept.{record_pages, HasPagesWithin};
 ghost use Rattle.ken_store.specs.Reads.{Reads};
 
 use crate::StoreFault;
+use crate::handing::fill;
 use ken_alloc::Objects;
 use ken_disk::Disk;
 use ken_frame::{FRAME, Frame};
@@ -57,15 +58,6 @@ pub(crate) fn lay_over(heap: &mut PageHeap, frame: &mut Frame, pages: &[Page], c
     }
 }
 
-// Makes a frame have these bytes.
-fn fill(frame: &mut Frame, bytes: &[u8])
-    requires { length bytes.now ≡ 256 }
-    ensures { frame.new ≡ bytes.now }
-{
-    prove!(frame.as_slice().len() == FRAME);
-    frame.write(0, bytes);
-}
-
 // The heap that an image, a base's pages and records' pages come to.
 pub(crate) fn rebuild<D: Disk>(
     alloc: Global,
@@ -79,6 +71,8 @@ pub(crate) fn rebuild<D: Disk>(
     requires base { AreWithin image.old.pages base.now }
     requires records { AllByRecursion (HasPagesWithin image.old.pages) records.now }
     ensures stands { Tells (D.told image.old.disk) (λ h. Stands result (overlay (take (256 * image.old.pages) h.now.seen) (base.now ++ flat_map record_pages records.now))) }
+    ensures bytes { Tells (D.told image.old.disk) (λ h. IfOk result (λ o. o.bytes ≡ overlay (take (256 * image.old.pages) h.now.seen) (base.now ++ flat_map record_pages records.now))) }
+    ensures size { IfOk result (λ o. length o.bytes ≡ 256 * image.old.pages) }
     ensures idle { IfOk result (λ o. o.begun ≡ None) }
     ensures whole { IsWhole D.told D.size image.new }
     ensures count { image.new.pages ≡ image.old.pages }
@@ -111,6 +105,7 @@ fn lay_records(heap: &mut PageHeap, frame: &mut Frame, records: &[Record], count
 fn adopted(heap: PageHeap) -> Result<Objects, StoreFault>
     requires { heap.begun ≡ None }
     ensures stands { Stands result heap.bytes }
+    ensures same { IfOk result (λ o. o.bytes ≡ heap.bytes) }
     ensures idle { IfOk result (λ o. o.begun ≡ None) }
     ensures no_disk { IsErrOf result StoreFault.Disk → ⊥ }
 {

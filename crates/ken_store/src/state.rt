@@ -1,11 +1,11 @@
 // The state that a log tells.
-ghost use Rattle.std.specs.Prelude.{◌≡◌, ◌≤◌, ◌<◌, ◌^◌, length, IfOk};
+ghost use Rattle.std.specs.Prelude.{◌≡◌, ◌≤◌, ◌<◌, ◌^◌, length, Ok, IfOk};
 ghost use Rattle.std.specs.List.{AllByRecursion};
 ghost use Rattle.ken_record.specs.Grammar.{IsRecord};
 ghost use Rattle.ken_record.specs.Versions.{One};
 ghost use Rattle.ken_log.specs.Layout.{IsHead, log_bytes};
 ghost use Rattle.ken_store.specs.Answers.{IsChecked};
-ghost use Rattle.ken_store.specs.Recovered.{checked, state_of};
+ghost use Rattle.ken_store.specs.Recovered.{checked, numbers_of, state_of};
 
 use crate::StoreFault;
 use crate::disks::Which;
@@ -34,12 +34,13 @@ pub(crate) fn state_of<D: Disk>(
     heads: &Heads,
     log: &Log<D>,
     records: &[Record],
-) -> Result<State, StoreFault>
+) -> Result<(Numbers, State), StoreFault>
     requires nodes { owner.now.nodes ≤ 8 }
     requires head { IsHead log.now.header log.now.base }
     requires items { AllByRecursion (IsRecord One) records.now }
     requires end { length (log_bytes log.now.header log.now.base records.now) < 2 ^ 64 }
-    ensures { IsChecked result (checked owner.now heads.now.which heads.now.first heads.now.second log.now.header log.now.base records.now) }
+    ensures checked { IsChecked result (checked owner.now heads.now.which heads.now.first heads.now.second log.now.header log.now.base records.now) }
+    ensures numbers { IfOk result (λ x. numbers_of owner.now log.now.header log.now.base records.now ≡ Ok x.0) }
 {
     if !owner.may_own(&heads.first) {
         return Err(StoreFault::Damaged { disk: 0, place: 0 });
@@ -57,7 +58,7 @@ pub(crate) fn state_of<D: Disk>(
         }
     };
     match with_lists(alloc, owner.node, &numbers, log, records) {
-        Ok(state) => Ok(state),
+        Ok(state) => Ok((numbers, state)),
         Err(_) => Err(StoreFault::Memory),
     }
 }

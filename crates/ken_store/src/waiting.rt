@@ -4,9 +4,10 @@ ghost use Rattle.std.specs.List.{flat_map};
 ghost use Rattle.ken_record.specs.declared.record.Record.{Record};
 ghost use Rattle.ken_store.specs.Kept.{due_to, sent_to, messages_to, messages_in, outs_in, base_messages, base_outs, base_pages, record_outs};
 
+use crate::copies;
 use ken_disk::Disk;
 use ken_log::Log;
-use ken_model::{Items, MAX_NODES, Message, Octets, Out};
+use ken_model::{Items, MAX_NODES, Message, Out};
 use ken_record::{Due, Page, Record};
 use std::alloc::{AllocError, Global};
 
@@ -42,7 +43,7 @@ pub(crate) fn outs_in<D: Disk>(
     Ok(Items::new(outs))
 }
 
-fn base_messages<D: Disk>(log: &Log<D>) -> &[Due]
+pub(crate) fn base_messages<D: Disk>(log: &Log<D>) -> &[Due]
     ensures { result.now ≡ base_messages log.now.base }
 {
     match log.base() {
@@ -51,7 +52,7 @@ fn base_messages<D: Disk>(log: &Log<D>) -> &[Due]
     }
 }
 
-fn base_outs<D: Disk>(log: &Log<D>) -> &[Out]
+pub(crate) fn base_outs<D: Disk>(log: &Log<D>) -> &[Out]
     ensures { result.now ≡ base_outs log.now.base }
 {
     match log.base() {
@@ -103,7 +104,7 @@ fn put_due(
                 to,
                 number: message.number,
                 stamp: message.stamp,
-                bytes: copied(alloc, &message.bytes)?,
+                bytes: copies::octets(alloc, &message.bytes)?,
             })?;
         }
     }
@@ -126,7 +127,7 @@ fn put_sent(
                 to,
                 number: sent.number,
                 stamp: item.stamp,
-                bytes: copied(alloc, &sent.bytes)?,
+                bytes: copies::octets(alloc, &sent.bytes)?,
             })?;
         }
     }
@@ -139,14 +140,8 @@ fn put_outs(alloc: Global, outs: &mut Vec<Out>, items: &[Out]) -> Result<(), All
     for out in items {
         outs.push(Out {
             number: out.number,
-            text: copied(alloc, &out.text)?,
+            text: copies::octets(alloc, &out.text)?,
         })?;
     }
     Ok(())
-}
-
-fn copied(alloc: Global, octets: &Octets) -> Result<Octets, AllocError>
-    ensures { IfOk result (λ copy. copy ≡ octets.now) }
-{
-    Ok(Octets::new(Vec::from_slice(alloc, octets.as_slice())?))
 }

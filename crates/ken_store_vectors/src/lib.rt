@@ -2,4 +2,8 @@
 #![tactic(auto)]
 
 #[cfg(test)]
+mod creations;
+#[cfg(test)]
+mod found;
+#[cfg(test)]
 mod recoveries;

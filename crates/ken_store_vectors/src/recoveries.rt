@@ -2,9 +2,9 @@
 ghost use Rattle.std.specs.Prelude.{◌≤◌, length, IfOk};
 ghost use Rattle.ken_disk.specs.Story.{IsAtRest};
 
+use crate::found::{Found, numbers};
 use ken_disk::write_through;
 use ken_memdisk::MemDisk;
-use ken_model::{Items, State, Value};
 use ken_store::*;
 use std::alloc::{AllocError, Global};
 use std::test::Fail;
@@ -42,14 +42,6 @@ const OUTPUT: usize = 84;
 
 const PAGE: usize = 93;
 
-// What is found, by a few of its numbers: the turns, the stamp, what was consumed from the outside, and the root.
-#[derive(Clone, Copy, Debug, PartialEq, Eq)]
-enum Found {
-    Fresh,
-    Whole(u64, u64, u64, u64),
-    Fault(StoreFault),
-}
-
 fn damaged(disk: u8, place: u64) -> Found {
     Found::Fault(StoreFault::Damaged { disk, place })
 }
@@ -62,19 +54,6 @@ fn disk_of(alloc: Global, bytes: &[u8]) -> Result<MemDisk, Fail>
     let mut disk = MemDisk::new(alloc, &[])?;
     write_through(&mut disk, 0, bytes)?;
     Ok(disk)
-}
-
-fn last_of(counts: &Items<u64>) -> u64 {
-    counts.as_slice().last().copied().unwrap_or(0)
-}
-
-fn numbers(state: &State, value: &Value) -> Found {
-    Found::Whole(
-        state.turns,
-        state.stamp,
-        last_of(&state.consumed),
-        value.root,
-    )
 }
 
 // What is found on a log and an image, where the second log holds these bytes.

@@ -1,5 +1,4 @@
-use Rattle.std.proofs.Common.{◌≡◌, ◌≤◌, ◌∙◌, length, get_or, ap, sym, subst, arith}
-use Rattle.std.specs.Prelude.{IfOk}
+use Rattle.std.proofs.Common.{◌∙◌, ap, sym, arith}
 use Rattle.ken_record.specs.Reading.{header_at}
 use Rattle.ken_store.specs.Logs.{front_from}
 use Rattle.ken_store.proofs.Reading.{front_short, front_closed, front_open, read_gate, read_rest}

@@ -1,4 +1,4 @@
-use Rattle.std.proofs.Common.{◌≡◌, ◌∙◌, ap, sym, subst}
+use Rattle.std.proofs.Common.{◌≡◌, ◌∙◌, sym}
 use Rattle.std.proofs.lemmas.Result.{err_from_is_err_and}
 use Rattle.ken_record.specs.declared.faults.RecordFault.TheVariants.{Bad}
 use Rattle.ken_store.proofs.Reading.{found_front, wrong_front}

@@ -1,4 +1,3 @@
-use Rattle.std.proofs.Common.{◌≡◌, ◌∙◌, ap, sym}
 use Rattle.ken_store.proofs.Heaps.{laid_more}
 use Rattle.ken_store.proofs.heap.lay_over.Goals as goal
 

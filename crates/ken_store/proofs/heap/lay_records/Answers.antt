@@ -1,4 +1,4 @@
-use Rattle.std.proofs.Common.{◌≡◌, ◌∙◌, ap}
+use Rattle.std.proofs.Common.{◌∙◌, ap}
 use Rattle.ken_cover.specs.Overlay.{overlay}
 use Rattle.ken_store.proofs.Heaps.{piled_more}
 use Rattle.ken_store.proofs.heap.lay_records.Goals as goal

@@ -1,4 +1,4 @@
-use Rattle.std.proofs.Common.{◌≡◌, ◌+◌, ◌*◌, ◌≤◌, ◌∙◌, length, take, ap, sym, arith}
+use Rattle.std.proofs.Common.{◌+◌, ◌*◌, ◌≤◌, ◌∙◌, length, take, ap, sym, arith}
 use Rattle.ken_store.proofs.Heaps.{loaded_more, length-written}
 use Rattle.ken_store.proofs.Reading.{same_on, load_ok}
 use Rattle.ken_store.proofs.heap.load_image.Goals as goal

@@ -1,5 +1,5 @@
-use Rattle.std.proofs.Common.{◌≡◌, true, subst, sym, ◌∙◌, ap}
-use Rattle.ken_store.proofs.Places.{Resumed, resumed_more}
+use Rattle.std.proofs.Common.{sym, ◌∙◌}
+use Rattle.ken_store.proofs.Places.{resumed_more}
 use Rattle.ken_store.proofs.resume.resume.Goals as goal
 
 pub loop-index-preserved : goal.loop-index-preserved

@@ -1,4 +1,3 @@
-use Rattle.std.proofs.Common.{◌≡◌, ◌∙◌, ◌++◌, ap, sym}
 use Rattle.ken_store.specs.Kept.{messages_to}
 use Rattle.ken_store.proofs.Lists.{flat_map-range_more}
 use Rattle.ken_store.proofs.waiting.messages_in.Goals as goal

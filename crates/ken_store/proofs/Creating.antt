@@ -1,0 +1,145 @@
+-- A store is created.
+use Rattle.std.proofs.Common.{◌≡◌, ℕ, zero, suc, ◌+◌, ◌-◌, ◌*◌, ◌≤◌, inl, inr, ⊎_elim, List, [], ◌++◌, length, take, drop, replicate, Bool, true, false, ◌==◌, refl, sym, ap, subst, ◌∙◌, arith, eq-eqb, Option, Some, None, Result, Ok, Err}
+use Rattle.std.specs.Prelude.{if◌then◌else◌, OnOk}
+use Rattle.std.specs.List.{flat_map, range_with_len}
+use Rattle.std.proofs.Math.Seq.{drop-append-add}
+use Rattle.std.proofs.lemmas.Bool.{ne_eqb}
+use Rattle.std.proofs.lemmas.List.{replicate-append-replicate, drop-replicate, take-append-drop}
+use Rattle.std.proofs.lemmas.List.Concat.{flat_map-cons}
+use Rattle.ken_disk.specs.Story.{DiskState, Story, Follows, IsImage, IsAtRest, Leaves}
+use Rattle.ken_disk.proofs.Images.{image_at_rest}
+use Rattle.ken_disk.proofs.Since.{stays}
+use Rattle.ken_disk.proofs.Told.{some_is, told_both}
+use Rattle.ken_model.specs.Layout.{first_bytes, first_heap}
+use Rattle.ken_model.specs.Network.{empty_heap}
+use Rattle.ken_model.proofs.First.{first_is_empty}
+use Rattle.ken_log.specs.declared.faults.SealFault.{SealFault}
+use Rattle.ken_log.specs.Formats.{MountsAsAny, Replaces}
+use Rattle.ken_log.specs.Mounts.{mount_of}
+use Rattle.ken_log.specs.Mounts as mounts
+use Rattle.ken_log.specs.Seals.{MountsAs}
+use Rattle.ken_image.specs.Pages.{first_page, first_image}
+use Rattle.ken_image.specs.Whole.{Keeps}
+use Rattle.ken_store.specs.declared.owner.Owner.{Owner}
+use Rattle.ken_store.specs.declared.faults.StoreFault.{StoreFault}
+use Rattle.ken_store.specs.declared.heads.Front.{Front}
+use Rattle.ken_store.specs.declared.heads.Front.TheVariants.{Absent, Begins}
+use Rattle.ken_store.specs.declared.disks.Which.TheVariants.{First}
+use Rattle.ken_store.specs.Logs.{front_of, logs_of, is_owned}
+use Rattle.ken_store.specs.Numbers.{no_numbers}
+use Rattle.ken_store.specs.Recovered.{Fresh, state_of, recovered, with_logs, with_log}
+use Rattle.ken_store.specs.Creations.{first_header, created, HoldsFirst, FreshOrCreated, Creates}
+use Rattle.ken_store.proofs.Mounted.{front_none, front_whole}
+use Rattle.ken_store.proofs.Recovering.{whole_answer}
+
+-- without logs nothing is found
+pub fresh : (o : Owner) (l i s : List ℕ) → mount_of l ≡ mounts.Unformatted → mount_of s ≡ mounts.Unformatted → recovered o l i s ≡ Fresh
+fresh o l i s first second =
+    ap (λ (f : Front). with_logs o l i s (logs_of f (front_of s))) (front_none l first)
+    ∙ ap (λ (f : Front). with_logs o l i s (logs_of Absent f)) (front_none s second)
+
+eq_self : (n : ℕ) → (n == n) ≡ true
+eq_self n = eq-eqb n n refl
+
+pub owned : (o : Owner) → is_owned o (first_header o) ≡ true
+owned o = rw (eq_self o.node, eq_self o.nodes, eq_self o.pages) refl
+
+-- over the first heap and a first log the new store is found
+pub made : (o : Owner) (l i s : List ℕ) → 1 ≤ o.pages → o.pages ≤ 4096 → mount_of l ≡ mounts.Whole (first_header o) None [] → mount_of s ≡ mounts.Unformatted → HoldsFirst o.pages i → recovered o l i s ≡ created o
+made o l i s some most first second holds =
+    let state = state_of o.node no_numbers None [] in
+    let heap : take (256 * o.pages) i ≡ first_heap o.pages = holds.holds in
+    ap (λ (f : Front). with_logs o l i s (logs_of f (front_of s))) (front_whole l (first_header o) None [] first)
+    ∙ ap (λ (f : Front). with_logs o l i s (logs_of (Begins (first_header o)) f)) (front_none s second)
+    ∙ ap (λ m. with_log o First (Some (first_header o)) None i m) first
+    ∙ rw (owned o) (whole_answer o state None [] i holds.long (empty_heap (256 * o.pages)) (rw heap (first_is_empty o.pages some most)))
+
+-- ---- the first image is the first heap
+
+zeros : (first : List ℕ) (a n : ℕ) → 1 ≤ a → flat_map (first_page first) (range_with_len a n) ≡ replicate (256 * n) 0
+zeros first a zero some = refl
+zeros first a (suc n) some =
+    let later : (a == 0) ≡ false = ne_eqb a 0 (λ e. let none : ⊥ = omega (arith, e, some) in none) in
+    let more : 256 + 256 * n ≡ 256 * suc n = omega arith in
+    flat_map-cons (first_page first) a (range_with_len (a + 1) n)
+    ∙ ap (λ (b : Bool). (if b then first else replicate 256 0) ++ flat_map (first_page first) (range_with_len (a + 1) n)) later
+    ∙ ap (λ (l : List ℕ). replicate 256 0 ++ l) (zeros first (a + 1) n (omega (arith, some)))
+    ∙ replicate-append-replicate 256 (256 * n) 0
+    ∙ ap (λ (k : ℕ). replicate k 0) more
+
+heap_rest : (n : ℕ) → drop 256 (first_heap (suc n)) ≡ replicate (256 * n) 0
+heap_rest n =
+    let left : 256 * suc n - 32 - 224 ≡ 256 * n = omega arith in
+    drop-append-add (first_bytes (suc n)) (replicate (256 * suc n - 32) 0) 224
+    ∙ drop-replicate 224 (256 * suc n - 32) 0
+    ∙ ap (λ (k : ℕ). replicate k 0) left
+
+pub first_image-heap : (pages : ℕ) → 1 ≤ pages → first_image pages (take 256 (first_heap pages)) ≡ first_heap pages
+first_image-heap zero some = absurd (omega (arith, some))
+first_image-heap (suc n) some =
+    let first = take 256 (first_heap (suc n)) in
+    flat_map-cons (first_page first) 0 (range_with_len 1 n)
+    ∙ ap (λ (l : List ℕ). first ++ l) (zeros first 1 n (omega arith) ∙ sym (heap_rest n))
+    ∙ take-append-drop 256 (first_heap (suc n))
+
+-- ---- the stories of a creation
+
+-- what is known of what was told before and after
+pub follows_at : {X : Type 0} (R : X → X → Type 0) (x y : X) (old new : Option X) → Follows R old new → old ≡ Some x → new ≡ Some y → R x y
+follows_at R x y old new follows was is =
+    let both = told_both R x old new was follows in
+    subst (R x) (some_is both.0 y (sym both.1 ∙ is)) both.2
+
+module _ (o : Owner) (log second : Story) (log_rests : IsAtRest log.now) (second_rests : IsAtRest second.now) (log_none : mount_of log.now.seen ≡ mounts.Unformatted) (second_none : mount_of second.now.seen ≡ mounts.Unformatted) where
+  none_on : (h : Story) → IsAtRest h.now → mount_of h.now.seen ≡ mounts.Unformatted → (image : List ℕ) → IsImage h.now image → mount_of image ≡ mounts.Unformatted
+  none_on h rests none image is = ap mount_of (image_at_rest h.now rests image is) ∙ none
+
+  before : (l i s : List ℕ) → IsImage log.now l → IsImage second.now s → recovered o l i s ≡ Fresh
+  before l i s first other = fresh o l i s (none_on log log_rests log_none l first) (none_on second second_rests second_none s other)
+
+  -- the log is as it was
+  pub creates_not : (T : Type 0) (fault : StoreFault) (image image2 : Story) → Creates {T = T} o (Err fault) log image second log image2
+  creates_not T fault image image2 = record {
+    before = before;
+    order = inl refl;
+    any_moment = λ l i s may now other. inl (before l i s ((stays (IsImage log.now) log (λ l is. is)).each l may) other);
+    ok = tt;
+  }
+
+  module _ (some : 1 ≤ o.pages) (most : o.pages ≤ 4096) (image log2 image2 : Story) (holds : Leaves (HoldsFirst o.pages) image2.now) {T : Type 0} (q : Result T SealFault) (replaces : Replaces (mount_of log.now.seen) (mounts.Whole (first_header o) None []) q log log2) where
+    found_on : (l i s : List ℕ) → MountsAsAny (mount_of log.now.seen) (mounts.Whole (first_header o) None []) l → IsImage image2.now i → IsImage second.now s → FreshOrCreated o (recovered o l i s)
+    found_on l i s any now other =
+        let none = none_on second second_rests second_none s other in
+        ⊎_elim (λ was. inl (fresh o l i s (was ∙ log_none) none))
+        (λ rest. ⊎_elim (λ no_log. inl (fresh o l i s no_log none)) (λ whole. inr (made o l i s some most whole none (holds i now))) rest) any
+
+    made_on : (l i s : List ℕ) → mount_of l ≡ mounts.Whole (first_header o) None [] → IsImage image2.now i → IsImage second.now s → recovered o l i s ≡ created o
+    made_on l i s whole now other = made o l i s some most whole (none_on second second_rests second_none s other) (holds i now)
+
+    pub creates_err : (U : Type 0) (fault : StoreFault) → Creates {T = U} o (Err fault) log image second log2 image2
+    creates_err U fault = record {
+      before = before;
+      order = inr holds;
+      any_moment = λ l i s may now other. found_on l i s (replaces.any_moment.each l may) now other;
+      ok = tt;
+    }
+
+    pub creates_ok : {U : Type 0} (x : U) (y : T) → q ≡ Ok y → Creates {T = U} o (Ok x) log image second log2 image2
+    creates_ok x y ok = record {
+      before = before;
+      order = inr holds;
+      any_moment = λ l i s may now other. found_on l i s (replaces.any_moment.each l may) now other;
+      ok = λ l i s is now other. made_on l i s (after l is) now other;
+    }
+      where
+        after : (l : List ℕ) → IsImage log2.now l → mount_of l ≡ mounts.Whole (first_header o) None []
+        after = subst (λ (r : Result T SealFault). OnOk r (Leaves (MountsAs (mounts.Whole (first_header o) None [])) log2.now)) ok replaces.ok
+
+-- an image that was formatted holds the first heap, and a crash leaves it so
+pub holds_first : (pages : ℕ) (first : List ℕ) (s : DiskState) → 1 ≤ pages → first ≡ take 256 (first_heap pages) → IsAtRest s → Keeps pages s → take (256 * pages) s.seen ≡ first_image pages first → Leaves (HoldsFirst pages) s
+holds_first pages first s some is rests keeps holds image may =
+    let same = image_at_rest s rests image may in
+    record {
+      long = omega (arith, keeps.long, ap length rests.safe, ap length same);
+      holds = ap (take (256 * pages)) same ∙ holds ∙ ap (first_image pages) is ∙ first_image-heap pages some;
+    }

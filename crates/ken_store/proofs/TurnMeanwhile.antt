@@ -1,0 +1,158 @@
+-- What a crash leaves while the log of a store is turned over.
+use Rattle.std.proofs.Common.{◌≡◌, ℕ, ◌*◌, List, [], take, true, refl, sym, ap, subst, ◌∙◌, ◌⊎◌, ⊎_elim, inl, inr, arith, Option, Some, None, Result, Ok, Err}
+use Rattle.ken_disk.specs.Story.{Story, Follows, IsImage}
+use Rattle.ken_disk.proofs.Images.{image_at_rest}
+use Rattle.ken_disk.proofs.Told.{some_is, told_both}
+use Rattle.ken_model.specs.declared.states.State.{State}
+use Rattle.ken_model.specs.declared.values.Value.{Value}
+use Rattle.ken_model.specs.Reading.{read_value}
+use Rattle.ken_record.specs.declared.base.Base.{Base}
+use Rattle.ken_record.specs.declared.header.Header.{Header}
+use Rattle.ken_record.specs.declared.record.Record.{Record}
+use Rattle.ken_log.specs.declared.faults.SealFault.{SealFault}
+use Rattle.ken_log.specs.Formats.{Replaces, next_header}
+use Rattle.ken_log.specs.Mounts.{mount_of}
+use Rattle.ken_log.specs.Mounts as mounts
+use Rattle.ken_cover.specs.Covers.{IsPossible, MayLeaveOut}
+use Rattle.ken_cover.specs.Sides.{ImagePages, turned_pages}
+use Rattle.ken_cover.proofs.Keeps.{turnover_keeps_coverage}
+use Rattle.ken_store.specs.declared.disks.Disks.{Disks}
+use Rattle.ken_store.specs.declared.disks.Which.{Which}
+use Rattle.ken_store.specs.declared.disks.Which.TheVariants.{First, Second}
+use Rattle.ken_store.specs.declared.heads.Front.TheVariants.{Begins}
+use Rattle.ken_store.specs.declared.owner.Owner.{Owner}
+use Rattle.ken_store.specs.declared.store.Store.{Store}
+use Rattle.ken_store.specs.declared.turning.TurnSide.{TurnSide}
+use Rattle.ken_store.specs.Answers.{disks_in, disks_from}
+use Rattle.ken_store.specs.Apart.{Apart}
+use Rattle.ken_store.specs.Logs.{front_of, other_log}
+use Rattle.ken_store.specs.Recovered.{Recovery, Whole}
+use Rattle.ken_store.specs.Standing.{IsNoneOrWhole, RecoversMeanwhile, TakesCalls, Standing, is_either}
+use Rattle.ken_store.specs.Turning.{Turning, IsPassed, sealed_bytes, turn_pages, state_in}
+use Rattle.ken_store.specs.Turnovers.{IsTurned, IsUnturned, base_of, kept_disk, replaced_disk, without_told}
+use Rattle.std.specs.Prelude.{OnOk, OnErr, IsErrOf}
+use Rattle.ken_alloc.specs.Objects.{Heap}
+use Rattle.ken_store.specs.declared.faults.StoreFault.{StoreFault}
+use Rattle.ken_store.specs.declared.faults.StoreFault.TheVariants as faults
+use Rattle.ken_store.specs.declared.numbers.Numbers.{Numbers}
+use Rattle.ken_store.proofs.ApartLaws.{turnover_keeps_apart}
+use Rattle.ken_store.proofs.SealMeanwhile.{stands_undone}
+use Rattle.ken_store.proofs.Sealing.{pages_are}
+use Rattle.ken_store.proofs.Lives.{live_pages}
+use Rattle.ken_store.proofs.Mounted.{front_none, front_whole}
+use Rattle.ken_store.proofs.Standing.{by_which, found_over, left_now, possible_now, recovered_by}
+use Rattle.ken_store.proofs.Turned.{next_numbers, turned_live_pages, turned_state}
+
+-- the other way round
+swapped : (which : Which) (o : Owner) (log image other : List ℕ) → recovered_by (other_log which) o other image log ≡ recovered_by which o log image other
+swapped First o log image other = refl
+swapped Second o log image other = refl
+
+-- a disk that mounts as before is passed over as before
+passed_as : (o : Owner) (head : Header) (seen image : List ℕ) → (mount_of seen ≡ mounts.Unformatted) ⊎ ((h : Header) × ((base : Option Base) × ((records : List Record) × (mount_of seen ≡ mounts.Whole h base records)))) → IsPassed o head (front_of seen) → mount_of image ≡ mount_of seen → IsPassed o head (front_of image)
+passed_as o head seen image which passed same = ⊎_elim
+    (λ none. subst (IsPassed o head) (sym (front_none image (same ∙ none))) tt)
+    (λ whole.
+    let before : front_of seen ≡ Begins whole.0 = front_whole seen whole.0 whole.1.0 whole.1.1.0 whole.1.1.1 in
+    let now : front_of image ≡ Begins whole.0 = front_whole image whole.0 whole.1.0 whole.1.1.0 (same ∙ whole.1.1.1) in
+    subst (IsPassed o head) (before ∙ sym now) passed)
+    which
+
+module _ {D : Type 0} (told : D → Option Story) (size : D → ℕ) (old : Store D) (i : ImagePages) (stands : Standing told size old i) (idle : old.turns.objects.begun ≡ None) (settled : ℕ) (acked : List ℕ) (emitted : ℕ) (may : MayLeaveOut settled (turn_pages old.turns) i) (v : Value) (reads : read_value (turn_pages old.turns).heap ≡ Some v) (sound : IsNoneOrWhole told old.turns.other) where
+  abbrev base : Base
+  base = base_of old.turns settled acked emitted
+
+  abbrev next : Header
+  next = next_header old.turns.log base
+
+  abbrev kept : Recovery → Type 0
+  kept = is_either (Whole (state_in old.turns) v) (Whole (without_told acked emitted (state_in old.turns)) v)
+
+  -- the other disk has no log that counts
+  not_turned : (l s : Story) → told old.turns.log.disk ≡ Some l → told old.turns.other ≡ Some s → (log image other : List ℕ) → IsImage l.now log → IsPassed old.turns.owner old.turns.log.header (front_of other) → IsPossible i (take (256 * old.turns.owner.pages) image)
+      → recovered_by old.turns.which old.turns.owner log image other ≡ Whole (state_in old.turns) v
+  not_turned l s tl ts log image other in_log passed possible =
+      let log_is = image_at_rest l.now (stands.takes.turns.log.rests l tl) log in_log in
+      found_over old.turns.owner old.turns.log.header old.turns.log.base old.turns.records.items old.turns.numbers stands.takes.turns.numbers true (turn_pages old.turns) i stands.covers
+      (live_pages old.turns.log.header old.turns.log.base old.turns.base_turns.items old.turns.records.items stands.takes.turns.turns) v reads old.turns.which log image other
+      (ap mount_of log_is ∙ stands.takes.turns.mounts l tl) (stands.takes.turns.other l tl s ts).owned passed possible
+
+  -- it has the new one
+  turned : (l s : Story) → told old.turns.log.disk ≡ Some l → told old.turns.other ≡ Some s → (log image other : List ℕ) → IsImage l.now log → mount_of other ≡ mounts.Whole next (Some base) [] → IsPossible i (take (256 * old.turns.owner.pages) image)
+      → recovered_by old.turns.which old.turns.owner log image other ≡ Whole (without_told acked emitted (state_in old.turns)) v
+  turned l s tl ts log image other in_log mounts_so possible =
+      let log_is = image_at_rest l.now (stands.takes.turns.log.rests l tl) log in_log in
+      let owned = (stands.takes.turns.other l tl s ts).owned in
+      let front : front_of log ≡ Begins old.turns.log.header = front_whole log old.turns.log.header old.turns.log.base old.turns.records.items (ap mount_of log_is ∙ stands.takes.turns.mounts l tl) in
+      sym (swapped old.turns.which old.turns.owner log image other)
+      ∙ found_over old.turns.owner next (Some base) [] old.turns.numbers (next_numbers told size old.turns old.turns stands.takes.turns idle settled acked emitted) true (turned_pages old.turns.owner.pages settled old.turns.numbers.turns (turn_pages old.turns)) i
+      (turnover_keeps_coverage old.turns.owner.pages true (turn_pages old.turns) i settled old.turns.numbers.turns may stands.covers)
+      (turned_live_pages old.turns settled acked emitted) v reads (other_log old.turns.which) other image log
+      mounts_so owned (subst (IsPassed old.turns.owner next) (sym front) (omega arith, owned)) possible
+      ∙ ap (λ (x : State). Whole x v) (turned_state old.turns settled acked emitted)
+
+  pub turn_any_moment : (T : Type 0) (result : Result T SealFault) (disk : D) (image : D) (new : Disks D) → new ≡ disks_from old.turns.which old.turns.log.disk image disk → image ≡ old.patches.image.disk
+      → Follows (λ h s. Replaces {T = T} (mount_of h.now.seen) (mounts.Whole next (Some base) []) result h s) (told old.turns.other) (told disk) → RecoversMeanwhile told old.turns.owner (disks_in old) new kept
+  turn_any_moment T result disk image new is same_image story =
+      subst (λ (d : Disks D). RecoversMeanwhile told old.turns.owner (disks_in old) d kept) (sym is)
+      (by_which told old.turns.owner kept old.turns.log.disk old.patches.image.disk old.turns.other old.turns.log.disk image disk old.turns.which
+      (λ l h s l2 h2 s2 tl th ts tl2 th2 ts2 log img oth in_log in_image in_other.
+      let both = told_both (λ h s. Replaces {T = T} (mount_of h.now.seen) (mounts.Whole next (Some base) []) result h s) s _ _ ts story in
+      let through = subst (λ (x : Story). Replaces {T = T} (mount_of s.now.seen) (mounts.Whole next (Some base) []) result s x) (some_is both.0 s2 (sym both.1 ∙ ts2)) both.2 in
+      let log_now = left_now l l2 log (some_is l l2 (sym tl ∙ tl2)) in_log in
+      let possible = possible_now told size old i stands v reads h th img (left_now h h2 img (some_is h h2 (sym th ∙ ap told (sym same_image) ∙ th2)) in_image) in
+      let passed = (stands.takes.turns.other l tl s ts).passed in
+      ⊎_elim
+      (λ before. inl (not_turned l s tl ts log img oth log_now (passed_as old.turns.owner old.turns.log.header s.now.seen oth (sound s ts) passed before) possible))
+      (λ rest. ⊎_elim
+      (λ none. inl (not_turned l s tl ts log img oth log_now (subst (IsPassed old.turns.owner old.turns.log.header) (sym (front_none oth none)) tt) possible))
+      (λ whole. inr (turned l s tl ts log img oth log_now whole possible))
+      rest)
+      (through.any_moment.each oth in_other)))
+
+-- where the disks are after a turnover
+changed_places : {D : Type 0} (which : Which) (a image b : D) → disks_from (other_log which) a image b ≡ disks_from which b image a
+changed_places First a image b = refl
+changed_places Second a image b = refl
+
+pub disks_turned : {D T : Type 0} (r : Result T StoreFault) (settled : ℕ) (acked : List ℕ) (emitted : ℕ) (old new : TurnSide D) (image : D) → OnOk r (IsTurned settled acked emitted old new) → OnErr r (IsUnturned old new) → kept_disk r new ≡ old.log.disk
+    → disks_from new.which new.log.disk image new.other ≡ disks_from old.which old.log.disk image (replaced_disk r new)
+disks_turned (Ok x) settled acked emitted old new image turned unturned own =
+    ap (λ (w : Which). disks_from w new.log.disk image new.other) turned.which
+    ∙ changed_places old.which new.log.disk image new.other
+    ∙ ap (λ d. disks_from old.which d image new.log.disk) own
+disks_turned (Err e) settled acked emitted old new image turned unturned own =
+    ap (λ (w : Which). disks_from w new.log.disk image new.other) unturned.which
+    ∙ ap (λ d. disks_from old.which d image new.other) own
+
+-- a store goes on standing
+pub turned_stands : {D T : Type 0} (told : D → Option Story) (size : D → ℕ) (r : Result T StoreFault) (settled : ℕ) (acked : List ℕ) (emitted : ℕ) (old : Store D) (new : TurnSide D) (i : ImagePages) → Standing told size old i → MayLeaveOut settled (turn_pages old.turns) i
+    → OnOk r (IsTurned settled acked emitted old.turns new) → OnOk r (Turning told size new) → OnOk r (Standing told size (record { turns = new; patches = old.patches }) i)
+turned_stands told size (Err e) settled acked emitted old new i stands may turned turning = tt
+turned_stands told size (Ok x) settled acked emitted old new i stands may turned turning =
+    let before : Apart told size old.turns old.patches [] i = record {
+      turns = stands.takes.turns;
+      patches = stands.patches;
+      count = stands.takes.count;
+      waits = tt;
+      known = stands.takes.known;
+      covers = stands.covers;
+      behind = stands.behind;
+      before = stands.before;
+    } in
+    let now = turnover_keeps_apart told size old.turns new old.patches [] i settled before may turning turned.live turned.owner turned.numbers in
+    record {
+      takes = record { turns = turning; patches = stands.takes.patches; count = now.count; known = now.known };
+      patches = stands.patches;
+      covers = now.covers;
+      behind = now.behind;
+      before = now.before;
+    }
+
+-- and where memory ran out, all that it stands for is as it was
+pub unturned_stands : {D T : Type 0} (told : D → Option Story) (size : D → ℕ) (r : Result T StoreFault) (old : Store D) (new : TurnSide D) (i : ImagePages) → Standing told size old i → OnErr r (IsUnturned old.turns new) → (IsErrOf r faults.Memory → Turning told size new) → IsErrOf r faults.Memory → Standing told size (record { turns = new; patches = old.patches }) i
+unturned_stands told size (Ok x) old new i stands un turning is = absurd (let none : ⊥ = cc is in none)
+unturned_stands told size (Err e) old new i stands un turning is =
+    let takes : TakesCalls told size (record { turns = new; patches = old.patches }) = record { turns = turning is; patches = stands.takes.patches; count = stands.takes.count ∙ ap (λ (o : Owner). o.pages) (sym un.owner); known = stands.takes.known ∙ ap (λ (n : Numbers). n.turns) (sym un.numbers) } in
+    let pages : turn_pages new ≡ turn_pages old.turns = pages_are _ _ _ _ (ap (λ (h : Heap). sealed_bytes h.bytes h.begun) un.objects) (rw (un.head, un.base, un.base_turns, un.records) refl) in
+    stands_undone told size old (record { turns = new; patches = old.patches }) i stands takes pages un.owner un.numbers refl refl

@@ -1,0 +1,5 @@
+use Rattle.ken_store.proofs.AheadLaws.{seal_alone_keeps_ahead}
+use Rattle.ken_store.proofs.patch_laws.seal_alone_keeps_ahead.Goals as goal
+
+pub returns : goal.returns
+returns c = seal_alone_keeps_ahead

@@ -1,0 +1,5 @@
+use Rattle.ken_store.proofs.AheadLaws.{turnover_keeps_settled}
+use Rattle.ken_store.proofs.patch_laws.turnover_keeps_settled.Goals as goal
+
+pub returns : goal.returns
+returns c = turnover_keeps_settled

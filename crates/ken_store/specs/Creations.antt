@@ -1,0 +1,71 @@
+-- A store is created: the image first, and then the log, whose gate is the moment of creation.
+use Rattle.std.specs.Prelude.{◌≡◌, ℕ, ◌*◌, ◌≤◌, ◌⊎◌, List, [], length, take, Option, None, Result, Ok, Err, OnOk}
+use Rattle.ken_disk.specs.declared.faults.DiskFault.TheVariants as disk
+use Rattle.ken_disk.specs.Causes.{HasCause}
+use Rattle.ken_disk.specs.Fates.{Fate, Suffers}
+use Rattle.ken_disk.specs.Moments.{MayLeave}
+use Rattle.ken_disk.specs.Story.{Story, Follows, IsImage, Leaves}
+use Rattle.ken_model.specs.Layout.{first_heap}
+use Rattle.ken_model.specs.Network.{empty_heap}
+use Rattle.ken_record.specs.declared.header.Header.{Header}
+use Rattle.ken_store.specs.declared.owner.Owner.{Owner}
+use Rattle.ken_store.specs.declared.disks.Disks.{Disks}
+use Rattle.ken_store.specs.declared.faults.StoreFault.{StoreFault}
+use Rattle.ken_store.specs.declared.faults.StoreFault.TheVariants as store
+use Rattle.ken_store.specs.declared.store.Store.{Store}
+use Rattle.ken_store.specs.Numbers.{no_numbers}
+use Rattle.ken_store.specs.Recovered.{Recovery, Fresh, Whole, state_of, recovered}
+use Rattle.ken_store.specs.Answers.{disks_in}
+
+-- the header of a node's first log
+abbrev pub first_header : Owner → Header
+first_header o = record { node = o.node; nodes = o.nodes; pages = o.pages; generation = 1; turns = 0; base_len = 0 }
+
+-- what a new store recovers to: no turn was made, and the heap has no block
+abbrev pub created : Owner → Recovery
+created o = Whole (state_of o.node no_numbers None []) (empty_heap (256 * o.pages))
+
+-- an image begins with the first heap
+pub record HoldsFirst (pages : ℕ) (image : List ℕ) : Type 0 where
+  pub long : 256 * pages ≤ length image
+  pub holds : take (256 * pages) image ≡ first_heap pages
+
+abbrev pub FreshOrCreated : Owner → Recovery → Type 0
+FreshOrCreated o recovery = (recovery ≡ Fresh) ⊎ (recovery ≡ created o)
+
+-- of the stories of the log, the image and the second log before, and of the first two after
+pub record Creates {T : Type 0} (o : Owner) (result : Result T StoreFault) (log image second log2 image2 : Story) : Type 0 where
+  -- while the log is as it was, nothing is found, whatever the image's disk holds
+  pub before : (l i s : List ℕ) → IsImage log.now l → IsImage second.now s → recovered o l i s ≡ Fresh
+  -- the log is touched only when the image is made, and safe
+  pub order : (log2 ≡ log) ⊎ Leaves (HoldsFirst o.pages) image2.now
+  -- from then on a crash at any moment leaves disks on which nothing is found, or the new store
+  pub any_moment : (l i s : List ℕ) → MayLeave log log2 l → IsImage image2.now i → IsImage second.now s → FreshOrCreated o (recovered o l i s)
+  -- and after Ok the new store
+  pub ok : OnOk result ((l i s : List ℕ) → IsImage log2.now l → IsImage image2.now i → IsImage second.now s → recovered o l i s ≡ created o)
+
+-- where the disks are after a creation
+abbrev pub made_disks : {D : Type 0} → Result (Store D) (StoreFault × Disks D) → Disks D
+made_disks (Ok store) = disks_in store
+made_disks (Err fault) = fault.1
+
+abbrev pub made_answer : {D : Type 0} → Result (Store D) (StoreFault × Disks D) → Result (Store D) StoreFault
+made_answer (Ok store) = Ok store
+made_answer (Err fault) = Err fault.0
+
+module _ {D : Type 0} (faults : D → ℕ) (fate : D → Option Fate) where
+  -- no call of a disk failed, and one did
+  pub record IsUnfailed (old new : D) : Type 0 where
+    pub count : faults new ≡ faults old
+    pub falls : fate new ≡ fate old
+
+  pub record HasFailed (old new : D) : Type 0 where
+    pub count : HasCause {T = Unit {0}} (faults old) (faults new) (Err disk.Failed)
+    pub falls : Follows (Suffers {T = Unit {0}} (Err disk.Failed)) (fate old) (fate new)
+
+  -- by the answer of what wrote the log and the image
+  abbrev pub FailsBy : {T : Type 0} → Result T StoreFault → Disks D → Disks D → Type 0
+  FailsBy (Err store.Disk) old new = (HasFailed old.log new.log × IsUnfailed old.image new.image) ⊎ (IsUnfailed old.log new.log × HasFailed old.image new.image)
+  FailsBy (Err store.Memory) old new = IsUnfailed old.log new.log × IsUnfailed old.image new.image
+  FailsBy (Err (store.Damaged n place)) old new = ⊥
+  FailsBy (Ok x) old new = IsUnfailed old.log new.log × IsUnfailed old.image new.image
