@@ -1,57 +1,15 @@
 // Creations on disks in memory, cut at their calls, and what is found then.
-ghost use Rattle.std.specs.Prelude.{IfOk};
-ghost use Rattle.ken_disk.specs.Story.{IsAtRest};
-ghost use Rattle.ken_store.specs.Answers.{AreAtRest, AreUnformatted};
-
+use crate::disks::{crashed, create_on};
 use crate::found::{Found, numbers};
-use ken_disk::Disk;
 use ken_memdisk::{Cut, MemDisk};
 use ken_store::*;
 use std::alloc::Global;
 use std::process::Abort;
 use std::test::Fail;
 
-// Disks on which nothing is found.
-fn fresh_on(alloc: Global, disks: Disks<MemDisk>) -> Result<Disks<MemDisk>, Fail>
-    requires { AreAtRest ⟦<MemDisk as Disk>⟧.told disks }
-    ensures rests { IfOk result (λ d. AreAtRest ⟦<MemDisk as Disk>⟧.told d) }
-    ensures none { IfOk result (λ d. AreUnformatted ⟦<MemDisk as Disk>⟧.told d) }
-{
-    match recover(alloc, disks, 0, 1, 1) {
-        Ok(Recovered::Fresh(disks)) => Ok(disks),
-        Ok(Recovered::Whole(_store, _state, _records)) => Err(Fail::from("there is a store")),
-        Err((_fault, _disks)) => Err(Fail::from("the disks are refused")),
-    }
-}
-
-// Creates the store of one node with one page, and gives the disks back.
-fn create_on(
-    alloc: Global,
-    disks: Disks<MemDisk>,
-) -> Result<(Result<(), StoreFault>, Disks<MemDisk>), Fail>
-    requires { AreAtRest ⟦<MemDisk as Disk>⟧.told disks }
-{
-    match create(alloc, fresh_on(alloc, disks)?, 0, 1, 1) {
-        Ok(store) => Ok((Ok(()), store.release())),
-        Err((fault, disks)) => Ok((Err(fault), disks)),
-    }
-}
-
-fn restarted(mut disk: MemDisk, pick: u64) -> Result<MemDisk, Fail>
-    ensures { IfOk result (λ d. IsAtRest d.held.story.now) }
-{
-    disk.restart(pick)?;
-    Ok(disk)
-}
-
 // What is found on disks after a restart of each.
 fn found_on(alloc: Global, disks: Disks<MemDisk>, pick: u64) -> Result<Found, Fail> {
-    let disks = Disks {
-        log: restarted(disks.log, pick)?,
-        image: restarted(disks.image, pick)?,
-        second: restarted(disks.second, pick)?,
-    };
-    match recover(alloc, disks, 0, 1, 1) {
+    match recover(alloc, crashed(disks, pick)?, 0, 1, 1) {
         Ok(Recovered::Fresh(_disks)) => Ok(Found::Fresh),
         Ok(Recovered::Whole(store, state, _records)) => {
             Ok(numbers(&state, &store.value(alloc)?))
@@ -72,7 +30,7 @@ fn created(
         image: MemDisk::new(rt.alloc(), &[Cut { call: image, pick }])?,
         second: MemDisk::new(rt.alloc(), &[])?,
     };
-    let (answer, disks) = create_on(rt.alloc(), disks)?;
+    let (answer, disks) = create_on(rt.alloc(), disks, 1)?;
     Ok((answer == Ok(()), found_on(rt.alloc(), disks, pick)?))
 }
 

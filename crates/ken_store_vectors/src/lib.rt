@@ -4,6 +4,8 @@
 #[cfg(test)]
 mod creations;
 #[cfg(test)]
+mod disks;
+#[cfg(test)]
 mod found;
 #[cfg(test)]
 mod recoveries;

@@ -1,11 +1,7 @@
 // Recoveries from disks in memory, by their bytes.
 ghost use Rattle.std.specs.Prelude.{◌≤◌, length, IfOk};
-ghost use Rattle.ken_disk.specs.Story.{IsAtRest};
 
-use crate::found::{Found, numbers};
-use ken_disk::write_through;
-use ken_memdisk::MemDisk;
-use ken_store::*;
+use crate::found::{Found, damaged, left_by};
 use std::alloc::{AllocError, Global};
 use std::test::Fail;
 
@@ -42,42 +38,8 @@ const OUTPUT: usize = 84;
 
 const PAGE: usize = 93;
 
-fn damaged(disk: u8, place: u64) -> Found {
-    Found::Fault(StoreFault::Damaged { disk, place })
-}
-
-// A disk that holds these bytes.
-fn disk_of(alloc: Global, bytes: &[u8]) -> Result<MemDisk, Fail>
-    requires { length bytes.now ≤ 4096 }
-    ensures { IfOk result (λ d. IsAtRest d.held.story.now) }
-{
-    let mut disk = MemDisk::new(alloc, &[])?;
-    write_through(&mut disk, 0, bytes)?;
-    Ok(disk)
-}
-
-// What is found on a log and an image, where the second log holds these bytes.
-fn left_by(alloc: Global, log: &[u8], image: &[u8], second: &[u8]) -> Result<Found, Fail>
-    requires log { length log.now ≤ 4096 }
-    requires image { length image.now ≤ 4096 }
-    requires second { length second.now ≤ 4096 }
-{
-    let disks = Disks {
-        log: disk_of(alloc, log)?,
-        image: disk_of(alloc, image)?,
-        second: disk_of(alloc, second)?,
-    };
-    match recover(alloc, disks, 0, 3, 16) {
-        Ok(Recovered::Fresh(_disks)) => Ok(Found::Fresh),
-        Ok(Recovered::Whole(store, state, _records)) => {
-            Ok(numbers(&state, &store.value(alloc)?))
-        }
-        Err((fault, _disks)) => Ok(Found::Fault(fault)),
-    }
-}
-
 // The bytes of the log, of which one is changed.
-fn log_with(alloc: Global, place: usize, byte: u8) -> Result<Vec<u8>, AllocError>
+pub(crate) fn log_with(alloc: Global, place: usize, byte: u8) -> Result<Vec<u8>, AllocError>
     ensures { IfOk result (λ bytes. length bytes.items ≤ 4096) }
 {
     let mut bytes = Vec::from_slice(alloc, &LOG)?;
@@ -130,6 +92,7 @@ fn what_is_missing_is_refused_where_it_ends(rt: HostRuntime) -> Result<(), Fail>
     let log = log_with(rt.alloc(), 0, 0xa5)?;
     let image = [0; IMAGE];
     let cases = [
+        (0, 0, 0, Found::Fresh),
         (0, IMAGE, 0, Found::Fresh),
         (31, IMAGE, 31, Found::Fresh),
         (32, IMAGE, 0, damaged(0, 32)),
@@ -154,5 +117,17 @@ fn what_is_missing_is_refused_where_it_ends(rt: HostRuntime) -> Result<(), Fail>
             "logs of {first} and {second} bytes, an image of {len}"
         );
     }
+    Ok(())
+}
+
+// A record's numbers are read only once its log mounts.
+#[test]
+fn a_log_that_does_not_mount_is_refused_first(rt: HostRuntime) -> Result<(), Fail> {
+    let mut log = log_with(rt.alloc(), TURN, 2)?;
+    let image = [0; IMAGE];
+    assert_eq!(rt; left_by(rt.alloc(), &log, &image, &[])?, damaged(0, 32));
+    assert_eq!(rt; log.pop(), Some(0));
+    log.push(0xa5)?;
+    assert_eq!(rt; left_by(rt.alloc(), &log, &image, &[])?, damaged(0, 350));
     Ok(())
 }
