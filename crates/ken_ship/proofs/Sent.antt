@@ -60,9 +60,9 @@ module _ {S : Type 0} (put : S → S → List Put → Type 0) (joins : (a b c : 
       subst (put a c) (sym whole) (joins a b c (map mail_put (all_due u lines)) (map mail_put (due_to lines u)) before (subst (put b c) sent.are sent.were_put))
 
   -- and after an error a front of what is due to the next
-  pub node_stopped : {T E T2 E2 : Type 0} → (e : E) (e2 : E2) (a b c : S) (lines : List Unacked) (u n : ℕ) → u < n → put a b (map mail_put (all_due u lines)) → SentDue {T = T} {E = E} (Err e) (put b c) (due_to lines u)
-      → SentDue {T = T2} {E = E2} (Err e2) (put a c) (all_due n lines)
-  node_stopped e e2 a b c lines u n low before sent =
+  pub node_stopped : {T E V F : Type 0} → (e : E) (f : F) (a b c : S) (lines : List Unacked) (u n : ℕ) → u < n → put a b (map mail_put (all_due u lines)) → SentDue {T = T} {E = E} (Err e) (put b c) (due_to lines u)
+      → SentDue {T = V} {E = F} (Err f) (put a c) (all_due n lines)
+  node_stopped e f a b c lines u n low before sent =
       let first : List Put = map mail_put (all_due u lines) in
       let rest = due_parts lines (u + 1) n (omega (arith, low)) in
       let rest_is : List Message = rest.0 in
