@@ -1,5 +1,5 @@
 -- The handler's side, in the pages' words, and what its log tells.
-use Rattle.std.specs.Prelude.{◌≡◌, ◌≢◌, ℕ, ◌+◌, ◌*◌, ◌<◌, ◌≤◌, List, [], ◌∷◌, ◌++◌, length, map, Option, Some, None, Result, Ok, Err, true, IsTrue}
+use Rattle.std.specs.Prelude.{◌≡◌, ◌≢◌, ℕ, ◌+◌, ◌*◌, ◌^◌, ◌<◌, ◌≤◌, List, [], ◌∷◌, ◌++◌, length, map, Option, Some, None, Result, Ok, Err, true, IsTrue}
 use Rattle.std.specs.List.{AllByRecursion, zip}
 use Rattle.ken_disk.specs.Fates.{Fate, Suffers}
 use Rattle.ken_disk.specs.Story.{Story, Tells, Follows, IsAtRest}
@@ -32,7 +32,7 @@ use Rattle.ken_store.specs.declared.faults.StoreFault.{StoreFault}
 use Rattle.ken_store.specs.declared.faults.StoreFault.TheVariants as faults
 use Rattle.ken_store.specs.declared.turning.TurnSide.{TurnSide}
 use Rattle.ken_store.specs.Logs.{front_of, is_owned}
-use Rattle.ken_store.specs.Numbers.{after_record}
+use Rattle.ken_store.specs.Numbers.{after_record, follows}
 use Rattle.ken_store.specs.Kept.{base_pages}
 use Rattle.ken_store.specs.Recovered.{numbers_of, state_of}
 
@@ -128,6 +128,12 @@ undone h = undone_from h h.begun
 -- a turn's record
 abbrev pub record_of : ℕ → Effects → List Page → Record
 record_of turn e pages = record { turn = turn; stamp = e.stamp; from = e.from; number = e.number; draws = e.draws; sends = e.sends; outs = e.outs; pages = pages }
+
+-- a turn with these effects may be sealed: they have a spelling, their numbers go on, and the log has room for the longest record
+pub record MaySeal {D : Type 0} (side : TurnSide D) (e : Effects) : Type 0 where
+  pub fits : IsRecord One (record_of (side.numbers.turns + 1) e [])
+  pub follows : follows side.owner side.numbers (record_of (side.numbers.turns + 1) e []) ≡ true
+  pub room : side.log.end + 1081844 ≤ 2 ^ 40
 
 abbrev pub as_page : ℕ × List ℕ → Page
 as_page x = record { page = x.0; bytes = x.1 }

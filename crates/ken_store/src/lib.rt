@@ -14,6 +14,7 @@ mod handing;
 mod heads;
 mod heap;
 mod laws;
+mod may_seal;
 mod numbers;
 mod owner;
 mod patch_laws;
@@ -39,6 +40,7 @@ pub use creation::create;
 pub use disks::Disks;
 pub use faults::StoreFault;
 pub use laws::standing_stores;
+pub use may_seal::SEAL_ROOM;
 pub use patch_laws::{
     hand_keeps_ahead, hand_keeps_settled, patch_keeps_ahead, patch_keeps_settled,
     recovery_is_ahead, seal_alone_keeps_ahead, seal_alone_keeps_settled, seal_keeps_ahead,

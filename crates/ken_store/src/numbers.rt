@@ -1,13 +1,14 @@
 // The numbers that a node's records come to.
-ghost use Rattle.std.specs.Prelude.{◌≡◌, ◌+◌, ◌≤◌, ◌<◌, ◌==◌, slice_index_or, IsTrue};
+ghost use Rattle.std.specs.Prelude.{◌≡◌, ◌+◌, ◌≤◌, ◌<◌, ◌==◌, ◌&&◌, ◌||◌, [], nat_lt, slice_index_or, slice_set, IsTrue};
 ghost use Rattle.ken_record.specs.Grammar.{IsBase};
 ghost use Rattle.ken_record.specs.Versions.{One};
 ghost use Rattle.ken_store.specs.Bases.{base_numbers};
 ghost use Rattle.ken_store.specs.Numbers.{no_numbers, sender_index, sends_follow, sent_after, outs_follow, outputs_after, are_within, comes_next, follows, after_record};
+ghost use Rattle.ken_store.specs.Turning.{record_of};
 
 use crate::owner::Owner;
 use ken_model::{MAX_NODES, OUTSIDE, Out};
-use ken_record::{Base, Header, Page, Record, SENDERS, Sent};
+use ken_record::{Base, Effects, Header, Page, Record, SENDERS, Sent};
 
 // One for each node that there may be.
 pub(crate) const NODES: usize = MAX_NODES as usize;
@@ -80,21 +81,37 @@ impl Numbers {
         true
     }
 
+    // Whether the next turn follows with these effects, where it changes no page.
+    pub(crate) fn follow(&self, owner: &Owner, effects: &Effects) -> bool
+        ensures { result ≡ follows owner.now self.now (record_of (self.now.turns + 1) effects.now []) }
+    {
+        let mut sent = self.sent;
+        let mut outputs = self.outputs;
+        self.message_comes_next(owner, effects.stamp, effects.from, effects.number)
+            && take_sends(&mut sent, owner.nodes, effects.sends.as_slice())
+            && take_outs(&mut outputs, effects.outs.as_slice())
+    }
+
     // Whether the record's turn, stamp and message come next.
     fn comes_next(&self, owner: &Owner, item: &Record) -> bool
         requires { owner.now.nodes ≤ 8 }
         ensures next { result ≡ comes_next owner.now self.now item.now }
         ensures sender { IsTrue result → sender_index item.now.from < 9 }
     {
-        let sender = item.from < owner.nodes || item.from == OUTSIDE;
         is_next(self.turns, item.turn)
-            && self.stamp < item.stamp
-            && sender
-            && is_next(self.consumed_from(item.from), item.number)
+            && self.message_comes_next(owner, item.stamp, item.from, item.number)
+    }
+
+    // Whether the stamp is greater, and the message the next one of a sender of the run.
+    fn message_comes_next(&self, owner: &Owner, stamp: u64, from: u8, number: u64) -> bool
+        ensures { result ≡ (nat_lt self.now.stamp stamp && (nat_lt from owner.now.nodes || from == 255) && (number == slice_index_or self.now.consumed (sender_index from) 0 + 1)) }
+    {
+        let sender = from < owner.nodes || from == OUTSIDE;
+        self.stamp < stamp && sender && is_next(self.consumed_from(from), number)
     }
 
     // The number of the last message that was consumed from a sender.
-    fn consumed_from(&self, from: u8) -> u64
+    pub(crate) fn consumed_from(&self, from: u8) -> u64
         ensures { result ≡ slice_index_or self.now.consumed (sender_index from) 0 }
     {
         self.consumed.get(sender_index(from)).copied().unwrap_or(0)
@@ -121,21 +138,33 @@ fn sender_index(from: u8) -> usize
 
 // Whether the sends follow; then these are the numbers of their links.
 fn take_sends(sent: &mut [u64; NODES], nodes: u8, sends: &[Sent]) -> bool
-    requires { nodes ≤ 8 }
     ensures follow { result ≡ sends_follow nodes sent.old sends.now }
     ensures taken { IsTrue result → sent.new ≡ sent_after sent.old sends.now }
 {
     for send in sends {
-        if send.to >= nodes {
+        if send.to >= nodes || !is_next(sent_to(sent, send.to), send.number) {
             return false;
         }
-        let to = send.to as usize;
-        if !is_next(sent[to], send.number) {
-            return false;
-        }
-        sent[to] = send.number;
+        put_sent_to(sent, send.to, send.number);
     }
     true
+}
+
+// The number of the last message to a node, and 0 where there can be no such node.
+fn sent_to(sent: &[u64; NODES], to: u8) -> u64
+    ensures { result ≡ slice_index_or sent.now to 0 }
+{
+    sent.get(to as usize).copied().unwrap_or(0)
+}
+
+// Notes it. Where there can be no such node, nothing changes.
+#[tactic(auto, using(std::proofs::lemmas::List::set_past))]
+fn put_sent_to(sent: &mut [u64; NODES], to: u8, number: u64)
+    ensures { sent.new ≡ slice_set sent.old to number }
+{
+    if to < MAX_NODES {
+        sent[to as usize] = number;
+    }
 }
 
 // Whether the outputs follow; then this is the last one's number.
