@@ -1,11 +1,13 @@
-// What a store tells of its heap and of its log; the handler's side tells the same.
-ghost use Rattle.std.specs.Prelude.{◌≡◌, ◌≤◌, ◌^◌, length, IfOk};
+// What a store tells of its heap, of its log and of how far it has come; its sides tell the same.
+ghost use Rattle.std.specs.Prelude.{◌≡◌, ◌<◌, ◌≤◌, ◌^◌, length, slice_index, slice_index_or, IfOk};
 ghost use Rattle.ken_model.specs.Layout.{StandsFor};
 ghost use Rattle.ken_record.specs.Spelling.{base_bytes};
 ghost use Rattle.ken_record.specs.Versions.{One};
+ghost use Rattle.ken_store.specs.Numbers.{sender_index};
 ghost use Rattle.ken_store.specs.Turning.{Turning};
 ghost use Rattle.ken_store.specs.Turnovers.{base_of};
 
+use crate::patching::PatchSide;
 use crate::store::Store;
 use crate::turning::TurnSide;
 use ken_disk::Disk;
@@ -42,6 +44,49 @@ impl<D: Disk> TurnSide<D> {
     {
         self.log.end()
     }
+
+    /// How many pages its heap has.
+    pub fn pages(&self) -> u32
+        ensures { result ≡ self.now.owner.pages }
+    {
+        self.owner.pages
+    }
+
+    /// The last turn that was sealed, 0 for none.
+    pub fn turns(&self) -> u64
+        ensures { result ≡ self.now.numbers.turns }
+    {
+        self.numbers.turns
+    }
+
+    /// The stamp of that turn, 0 for none.
+    pub fn stamp(&self) -> u64
+        ensures { result ≡ self.now.numbers.stamp }
+    {
+        self.numbers.stamp
+    }
+
+    /// The number of the last message that was consumed from a sender: a node, or 255 for the outside. It is 0 for none.
+    pub fn consumed_from(&self, sender: u8) -> u64
+        ensures { result ≡ slice_index_or self.now.numbers.consumed (sender_index sender) 0 }
+    {
+        self.numbers.consumed_from(sender)
+    }
+
+    /// The number of the last message that was sent to a node, 0 for none.
+    pub fn sent_to(&self, node: u8) -> u64
+        requires { node < 8 }
+        ensures { result ≡ slice_index self.now.numbers.sent node }
+    {
+        self.numbers.sent[node as usize]
+    }
+
+    /// The number of the last output, 0 for none.
+    pub fn outputs(&self) -> u64
+        ensures { result ≡ self.now.numbers.outputs }
+    {
+        self.numbers.outputs
+    }
 }
 
 impl<D: Disk> Store<D> {
@@ -74,6 +119,49 @@ impl<D: Disk> Store<D> {
         self.turns.log_end()
     }
 
+    /// How many pages its heap has.
+    pub fn pages(&self) -> u32
+        ensures { result ≡ self.now.turns.owner.pages }
+    {
+        self.turns.pages()
+    }
+
+    /// The last turn that was sealed, 0 for none.
+    pub fn turns(&self) -> u64
+        ensures { result ≡ self.now.turns.numbers.turns }
+    {
+        self.turns.turns()
+    }
+
+    /// The stamp of that turn, 0 for none.
+    pub fn stamp(&self) -> u64
+        ensures { result ≡ self.now.turns.numbers.stamp }
+    {
+        self.turns.stamp()
+    }
+
+    /// The number of the last message that was consumed from a sender: a node, or 255 for the outside. It is 0 for none.
+    pub fn consumed_from(&self, sender: u8) -> u64
+        ensures { result ≡ slice_index_or self.now.turns.numbers.consumed (sender_index sender) 0 }
+    {
+        self.turns.consumed_from(sender)
+    }
+
+    /// The number of the last message that was sent to a node, 0 for none.
+    pub fn sent_to(&self, node: u8) -> u64
+        requires { node < 8 }
+        ensures { result ≡ slice_index self.now.turns.numbers.sent node }
+    {
+        self.turns.sent_to(node)
+    }
+
+    /// The number of the last output, 0 for none.
+    pub fn outputs(&self) -> u64
+        ensures { result ≡ self.now.turns.numbers.outputs }
+    {
+        self.turns.outputs()
+    }
+
     /// The length in bytes of the base that a turnover would write with these. It takes no memory.
     pub fn base_size(&self, settled: u64, acked: &[u64], emitted: u64) -> u64
         requires turning { Turning D.told D.size self.now.turns }
@@ -81,5 +169,21 @@ impl<D: Disk> Store<D> {
         ensures { result ≡ length (base_bytes One (base_of self.now.turns settled acked.now emitted)) }
     {
         self.turns.base_size(settled, acked, emitted)
+    }
+}
+
+impl<D: Disk> PatchSide<D> {
+    /// The last turn that it knows of, 0 for none.
+    pub fn known(&self) -> u64
+        ensures { result ≡ self.now.known }
+    {
+        self.known
+    }
+
+    /// How many pages its image has.
+    pub fn pages(&self) -> u32
+        ensures { result ≡ self.now.image.pages }
+    {
+        self.image.pages()
     }
 }
