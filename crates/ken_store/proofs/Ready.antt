@@ -1,5 +1,5 @@
 -- A store that was found takes calls.
-use Rattle.std.proofs.Common.{◌≡◌, ℕ, ◌+◌, ◌*◌, ◌≤◌, List, [], ◌∷◌, ◌++◌, length, take, map, replicate, true, false, sym, ap, subst, ◌∙◌, arith, Option, Some, None}
+use Rattle.std.proofs.Common.{◌≡◌, ℕ, ◌+◌, ◌*◌, ◌≤◌, List, [], ◌∷◌, ◌++◌, length, take, map, replicate, true, false, refl, sym, ap, subst, ◌∙◌, arith, Option, Some, None}
 use Rattle.std.specs.List.{AllByRecursion, flat_map}
 use Rattle.std.proofs.lemmas.List.Concat.{flat_map-cons}
 use Rattle.std.proofs.lemmas.List.{length-take-le}
@@ -113,5 +113,5 @@ module _ {D : Type 0} (told : D → Option Story) (size : D → ℕ) (store : St
       before = before;
     }
 
-  pub ready : (state : State) → state ≡ state_in store.turns → IsReadyStore told size store state
-  ready state tells = record { takes = takes; idle = idle; tells = tells; again = λ h is i shut holds. stands h is i shut holds }
+  pub ready : (state : State) → state ≡ state_in store.turns → IsReadyStore told size store.turns.owner store state
+  ready state tells = record { takes = takes; owner = refl; idle = idle; tells = tells; again = λ h is i shut holds. stands h is i shut holds }

@@ -13,6 +13,8 @@ use Rattle.ken_store.specs.declared.disks.Disks.{Disks}
 use Rattle.ken_store.specs.declared.faults.StoreFault.{StoreFault}
 use Rattle.ken_store.specs.declared.faults.StoreFault.TheVariants as store
 use Rattle.ken_store.specs.declared.store.Store.{Store}
+use Rattle.ken_store.specs.declared.disks.Which.TheVariants.{First}
+use Rattle.ken_store.specs.declared.turning.TurnSide.{TurnSide}
 use Rattle.ken_store.specs.Numbers.{no_numbers}
 use Rattle.ken_store.specs.Recovered.{Recovery, Fresh, Whole, state_of, recovered}
 use Rattle.ken_store.specs.Answers.{disks_in}
@@ -20,6 +22,16 @@ use Rattle.ken_store.specs.Answers.{disks_in}
 -- the header of a node's first log
 abbrev pub first_header : Owner → Header
 first_header o = record { node = o.node; nodes = o.nodes; pages = o.pages; generation = 1; turns = 0; base_len = 0 }
+
+-- the side of a node that made no turn, over its first log
+pub record IsNew {D : Type 0} (o : Owner) (side : TurnSide D) : Type 0 where
+  pub owner : side.owner ≡ o
+  pub numbers : side.numbers ≡ no_numbers
+  pub head : side.log.header ≡ first_header o
+  pub base : side.log.base ≡ None
+  pub records : side.records.items ≡ []
+  pub ends : side.log.end ≡ 32
+  pub which : side.which ≡ First
 
 -- what a new store recovers to: no turn was made, and the heap has no block
 abbrev pub created : Owner → Recovery

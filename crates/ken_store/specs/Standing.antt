@@ -50,17 +50,19 @@ abbrev pub StandsAgain : {D : Type 0} → (D → Option Story) → (D → ℕ) �
 StandsAgain told size store =
     Tells (told store.patches.image.disk) (λ h. (i : ImagePages) → ((p : ℕ) → i.«open» p ≡ false) → HoldsImage store.turns.owner.pages i h.now → Standing told size store (recovered_image_pages (turn_pages store.turns).live i))
 
--- what a recovery found takes calls: a store, with no turn begun and its state; disks on which nothing was found may be created on
-pub record IsReadyStore {D : Type 0} (told : D → Option Story) (size : D → ℕ) (store : Store D) (state : State) : Type 0 where
+-- what a recovery found takes calls: a store of its owner, with no turn begun and its state; disks on which nothing was found may be
+-- created on
+pub record IsReadyStore {D : Type 0} (told : D → Option Story) (size : D → ℕ) (o : Owner) (store : Store D) (state : State) : Type 0 where
   pub takes : TakesCalls told size store
+  pub owner : store.turns.owner ≡ o
   pub idle : store.turns.objects.begun ≡ None
   pub tells : state ≡ state_in store.turns
   pub again : StandsAgain told size store
 
-abbrev pub IsReady : {D : Type 0} → (D → Option Story) → (D → ℕ) → Result (Recovered D) StoreFault → Type 0
-IsReady told size (Ok (found.Whole store state records)) = IsReadyStore told size store state
-IsReady told size (Ok (found.Fresh disks)) = AreAtRest told disks × AreUnformatted told disks
-IsReady told size (Err fault) = Unit {0}
+abbrev pub IsReady : {D : Type 0} → (D → Option Story) → (D → ℕ) → Owner → Result (Recovered D) StoreFault → Type 0
+IsReady told size o (Ok (found.Whole store state records)) = IsReadyStore told size o store state
+IsReady told size o (Ok (found.Fresh disks)) = AreAtRest told disks × AreUnformatted told disks
+IsReady told size o (Err fault) = Unit {0}
 
 -- whatever a crash at any moment between two states of a node's disks leaves recovers so. It speaks of calls that write one disk:
 -- of the others only what they are now is left

@@ -6,7 +6,7 @@ ghost use Rattle.ken_model.specs.Network.{empty_heap};
 ghost use Rattle.ken_cover.specs.Sides.{first_image_pages};
 ghost use Rattle.ken_store.specs.Answers.{TellsAll, AreAtRest, AreUnformatted};
 ghost use Rattle.ken_store.specs.Standing.{Standing};
-ghost use Rattle.ken_store.specs.Creations.{Creates, FailsBy, made_disks, made_answer};
+ghost use Rattle.ken_store.specs.Creations.{Creates, FailsBy, IsNew, made_disks, made_answer};
 
 use crate::StoreFault;
 use crate::disks::{Disks, Which};
@@ -48,6 +48,7 @@ pub fn create<D: Disk>(
     ensures value { IfOk result (λ store. store.turns.objects.value ≡ empty_heap (256 * pages)) }
     ensures ready { IfOk result (λ store. Standing D.told D.size store (first_image_pages (first_heap pages))) }
     ensures idle { IfOk result (λ store. store.turns.objects.begun ≡ None) }
+    ensures new { IfOk result (λ store. IsNew (record { node = node; nodes = nodes; pages = pages }) store.turns) }
     ensures second { (made_disks result).second ≡ disks.second }
     ensures faults { FailsBy D.faults D.fate (made_answer result) disks (made_disks result) }
 {

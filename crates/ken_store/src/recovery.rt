@@ -57,7 +57,7 @@ pub fn recover<D: Disk>(
     requires rests { AreAtRest D.told disks }
     ensures answers { TellsAll D.told disks (λ l i s. Answers (answer_of result) (recovered (record { node = node; nodes = nodes; pages = pages }) l.now.seen i.now.seen s.now.seen)) }
     ensures records { TellsAll D.told disks (λ l i s. Mounts (answer_of result) l.now.seen s.now.seen) }
-    ensures ready { IsReady D.told D.size (answer_of result) }
+    ensures ready { IsReady D.told D.size (record { node = node; nodes = nodes; pages = pages }) (answer_of result) }
     ensures reads { ReadsDisks D.told D.faults D.fate (answer_of result) disks (disks_of result) }
 {
     let logs = match logs_on(alloc, &mut disks) {
@@ -112,7 +112,7 @@ fn recover_log<D: Disk>(
     requires current { Tells (D.told current) (λ h. IsAtRest h.now) }
     requires image { Tells (D.told image) (λ h. IsAtRest h.now) }
     ensures answers { Tells (D.told current) (λ c. Tells (D.told image) (λ i. Answers (answer_of result) (with_log owner heads.which heads.first heads.second i.now.seen (mount_of c.now.seen)))) }
-    ensures ready { IsReady D.told D.size (answer_of result) }
+    ensures ready { IsReady D.told D.size owner (answer_of result) }
     ensures records { Tells (D.told current) (λ c. IsMounted (answer_of result) heads.which c.now.seen) }
     ensures reads { ReadsDisks D.told D.faults D.fate (answer_of result) (disks_from heads.which current image other) (disks_of result) }
 {
@@ -145,7 +145,7 @@ fn recover_store<D: Disk>(
     requires end { length (log_bytes log.header log.base records.items) < 2 ^ 64 }
     requires image { Tells (D.told image) (λ h. IsAtRest h.now) }
     ensures answers { Tells (D.told image) (λ i. Answers (answer_of result) (with_state owner log.base records.items i.now.seen (checked owner heads.which heads.first heads.second log.header log.base records.items))) }
-    ensures ready { IsReady D.told D.size (answer_of result) }
+    ensures ready { IsReady D.told D.size owner (answer_of result) }
     ensures over { IsOver (answer_of result) heads.which log records.items }
     ensures reads { ReadsDisks D.told D.faults D.fate (answer_of result) (disks_from heads.which log.disk image other) (disks_of result) }
 {
