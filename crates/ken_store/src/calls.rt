@@ -54,13 +54,13 @@ impl<D: Disk> Store<D> {
         self.turns.objects()
     }
 
-    /// Takes the turn back, where one is begun: all bytes of the heap are as they were at `begin`.
+    /// Takes the turn back, where one is begun: all bytes of the heap are as they were at `begin`. A store that took calls takes
+    /// them, and one that is spent stays so.
     pub fn abort(&mut self)
-        requires { TakesCalls D.told D.size self.old }
         ensures undone { self.new.turns.objects ≡ undone self.old.turns.objects }
         ensures log { KeepsLog self.old.turns self.new.turns }
         ensures patches { self.new.patches ≡ self.old.patches }
-        ensures takes { TakesCalls D.told D.size self.new }
+        ensures takes { TakesCalls D.told D.size self.old → TakesCalls D.told D.size self.new }
         ensures stands { (i : ImagePages) → Standing D.told D.size self.old i → Standing D.told D.size self.new i }
     {
         self.turns.abort();

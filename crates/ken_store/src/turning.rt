@@ -64,12 +64,12 @@ impl<D: Disk> TurnSide<D> {
         &mut self.objects
     }
 
-    /// Takes the turn back, where one is begun: all bytes of the heap are as they were at `begin`.
+    /// Takes the turn back, where one is begun: all bytes of the heap are as they were at `begin`. A side that took calls takes
+    /// them, and one that is spent stays so.
     pub fn abort(&mut self)
-        requires { Turning D.told D.size self.old }
         ensures undone { self.new.objects ≡ undone self.old.objects }
         ensures same { KeepsLog self.old self.new }
-        ensures turning { Turning D.told D.size self.new }
+        ensures turning { Turning D.told D.size self.old → Turning D.told D.size self.new }
     {
         self.objects.abort();
     }

@@ -14,7 +14,7 @@ use Rattle.ken_store.proofs.store.Store.seal.Goals as goal
 
 pub returns-then-is_err-clause-stands : goal.returns-then-is_err-clause-stands
 returns-then-is_err-clause-stands g c = λ i stands is.
-    stands_undone g.D.Disk.told g.D.Disk.size c.args.self.now (record { turns = c.abort.new.self; patches = c.reserve.new.self }) i stands (record { turns = c.abort.ensures.turning; patches = (patches_same g.D.Disk.told g.D.Disk.size c.args.self.now.patches c.reserve.new.self c.reserve.ensures.image c.reserve.ensures.ahead c.reserve.ensures.known c.requires.takes.patches); count = ap (λ x. x.pages) c.reserve.ensures.image ∙ c.requires.takes.count ∙ ap (λ o. o.pages) (sym c.abort.ensures.same.owner); known = c.reserve.ensures.known ∙ c.requires.takes.known ∙ ap (λ n. n.turns) (sym c.abort.ensures.same.numbers) }) (undone_pages c.args.self.now.turns c.abort.new.self c.abort.ensures.same c.abort.ensures.undone) c.abort.ensures.same.owner c.abort.ensures.same.numbers c.reserve.ensures.image c.reserve.ensures.ahead
+    stands_undone g.D.Disk.told g.D.Disk.size c.args.self.now (record { turns = c.abort.new.self; patches = c.reserve.new.self }) i stands (record { turns = c.abort.ensures.turning c.requires.takes.turns; patches = (patches_same g.D.Disk.told g.D.Disk.size c.args.self.now.patches c.reserve.new.self c.reserve.ensures.image c.reserve.ensures.ahead c.reserve.ensures.known c.requires.takes.patches); count = ap (λ x. x.pages) c.reserve.ensures.image ∙ c.requires.takes.count ∙ ap (λ o. o.pages) (sym c.abort.ensures.same.owner); known = c.reserve.ensures.known ∙ c.requires.takes.known ∙ ap (λ n. n.turns) (sym c.abort.ensures.same.numbers) }) (undone_pages c.args.self.now.turns c.abort.new.self c.abort.ensures.same c.abort.ensures.undone) c.abort.ensures.same.owner c.abort.ensures.same.numbers c.reserve.ensures.image c.reserve.ensures.ahead
 
 pub returns-then-is_err-clause-any_moment : goal.returns-then-is_err-clause-any_moment
 returns-then-is_err-clause-any_moment g c = λ i v stands reads.
