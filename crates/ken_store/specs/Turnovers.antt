@@ -1,5 +1,5 @@
 -- The base that a log goes over to, and what a turnover makes of the handler's side.
-use Rattle.std.specs.Prelude.{◌≡◌, ℕ, Bool, ◌==◌, ◌&&◌, nat_lt, List, [], ◌++◌, map, filter, slice_index, Option, Some, Result, Ok, Err}
+use Rattle.std.specs.Prelude.{◌≡◌, ℕ, ◌+◌, Bool, ◌==◌, ◌&&◌, nat_lt, List, [], ◌++◌, map, filter, slice_index, Option, Some, Result, Ok, Err}
 use Rattle.std.specs.List.{flat_map, range_with_len}
 use Rattle.ken_disk.specs.Fates.{Fate, Suffers}
 use Rattle.ken_disk.specs.Story.{Story, Follows}
@@ -94,6 +94,12 @@ pub record IsTurned {D : Type 0} (settled : ℕ) (acked : List ℕ) (emitted : �
   pub numbers : new.numbers ≡ old.numbers
   pub objects : new.objects ≡ old.objects
   pub which : new.which ≡ other_log old.which
+
+-- the new log is of the next generation, has no record, and ends behind its header and a base of this length
+pub record BeginsWith {D : Type 0} (base : ℕ) (old new : TurnSide D) : Type 0 where
+  pub generation : new.log.header.generation ≡ old.log.header.generation + 1
+  pub records : new.log.records ≡ 0
+  pub ends : new.log.end ≡ 32 + base
 
 -- the log is as it was, but that it may be spent; the other disk may have changed
 pub record IsUnturned {D : Type 0} (old new : TurnSide D) : Type 0 where

@@ -18,7 +18,7 @@ ghost use Rattle.ken_store.specs.Numbers.{follows};
 ghost use Rattle.ken_store.specs.Patching.{HoldsImage, IsFaultOfCall, PatchesBy, PatchSuffers, Settles, disk_answer, patch_calls, settled_turn};
 ghost use Rattle.ken_store.specs.Recovered.{Whole};
 ghost use Rattle.ken_store.specs.Standing.{IsNoneOrWhole, RecoversMeanwhile, Standing, StandsSealed, TakesCalls, is_either, is_one, sealed_recovery};
-ghost use Rattle.ken_store.specs.Turnovers.{IsTurned, IsUnturned, ReplacesOn, base_of, kept_disk, replaced_disk, without_told};
+ghost use Rattle.ken_store.specs.Turnovers.{BeginsWith, IsTurned, IsUnturned, ReplacesOn, base_of, kept_disk, replaced_disk, without_told};
 ghost use Rattle.ken_record.specs.Spelling.{base_bytes};
 ghost use Rattle.ken_log.specs.Formats.{next_header};
 ghost use Rattle.ken_store.specs.Turning.{AreChangedPages, IsSameNode, IsSealed, IsStillBegun, IsUndone, KeepsLog, SealsOn, begun_on, coming_record, log_answer, record_of, state_in, turn_pages, undone};
@@ -111,6 +111,7 @@ impl<D: Disk> Store<D> {
         requires generation { self.old.turns.log.header.generation + 1 < 2 ^ 32 }
         requires length { length (base_bytes One (base_of self.old.turns settled acked.now emitted)) < 2 ^ 32 }
         ensures turned { OnOk result (IsTurned settled acked.now emitted self.old.turns self.new.turns) }
+        ensures end { OnOk result (BeginsWith (length (base_bytes One (base_of self.old.turns settled acked.now emitted))) self.old.turns self.new.turns) }
         ensures unturned { OnErr result (IsUnturned self.old.turns self.new.turns) }
         ensures takes { OnOk result (TakesCalls D.told D.size self.new) }
         ensures goes_on { IsErrOf result StoreFault.Memory → TakesCalls D.told D.size self.new }

@@ -4,7 +4,7 @@ ghost use Rattle.ken_log.specs.Formats.{next_header};
 ghost use Rattle.ken_record.specs.Spelling.{base_bytes};
 ghost use Rattle.ken_record.specs.Versions.{One};
 ghost use Rattle.ken_store.specs.Turning.{Turning, log_answer};
-ghost use Rattle.ken_store.specs.Turnovers.{base_of, IsTurned, IsUnturned, ReplacesOn, replaced_disk, kept_disk};
+ghost use Rattle.ken_store.specs.Turnovers.{base_of, BeginsWith, IsTurned, IsUnturned, ReplacesOn, replaced_disk, kept_disk};
 
 use crate::StoreFault;
 use crate::turning::TurnSide;
@@ -23,6 +23,7 @@ impl<D: Disk> TurnSide<D> {
         requires generation { self.old.log.header.generation + 1 < 2 ^ 32 }
         requires length { length (base_bytes One (base_of self.old settled acked.now emitted)) < 2 ^ 32 }
         ensures turned { OnOk result (IsTurned settled acked.now emitted self.old self.new) }
+        ensures end { OnOk result (BeginsWith (length (base_bytes One (base_of self.old settled acked.now emitted))) self.old self.new) }
         ensures unturned { OnErr result (IsUnturned self.old self.new) }
         ensures turning { OnOk result (Turning D.told D.size self.new) }
         ensures goes_on { IsErrOf result StoreFault.Memory → Turning D.told D.size self.new }
