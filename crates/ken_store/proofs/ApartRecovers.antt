@@ -14,16 +14,18 @@ use Rattle.ken_store.specs.declared.disks.Which.TheVariants.{First, Second}
 use Rattle.ken_store.specs.declared.patching.PatchSide.{PatchSide}
 use Rattle.ken_store.specs.declared.turning.TurnSide.{TurnSide}
 use Rattle.ken_store.specs.Answers.{disks_from}
-use Rattle.ken_store.specs.Apart.{hand_all, Apart, disks_apart, ApartRecovers, PatchRecoversApart, SyncRecoversApart, SealRecoversApart, UnsealedRecoversApart}
+use Rattle.ken_store.specs.Apart.{hand_all, Apart, disks_apart, ApartRecovers, PatchRecoversApart, SyncRecoversApart, SealRecoversApart, UnsealedRecoversApart, TurnoverRecoversApart}
 use Rattle.ken_store.specs.Patching.{MayBePatched, Patched}
 use Rattle.ken_store.specs.Recovered.{Recovery, Whole}
 use Rattle.ken_store.specs.Standing.{RecoversTo, RecoversMeanwhile, is_one}
-use Rattle.ken_store.specs.Turning.{coming_record, turn_pages, state_in}
+use Rattle.ken_store.specs.Turning.{coming_record, log_answer, turn_pages, state_in}
+use Rattle.ken_store.specs.Turnovers.{replaced_disk}
 use Rattle.ken_store.proofs.ApartPages.{hand_all-patched, hand_all-possible}
 use Rattle.ken_store.proofs.Sealing.{comes}
 use Rattle.ken_store.proofs.SealMeanwhile.{changed_within, sealed_size}
 use Rattle.ken_store.proofs.SealRecovers.{either_recovers, before_recovers}
 use Rattle.ken_store.proofs.Standing.{by_which, left_now, recovered_by, side_recovers}
+use Rattle.ken_store.proofs.TurnMeanwhile.{disks_turned, turn_any_moment}
 
 module _ {D : Type 0} (told : D → Option Story) (size : D → ℕ) (handler : TurnSide D) (patcher : PatchSide D) (waiting : List (ℕ × List Page)) (i : ImagePages) (apart : Apart told size handler patcher waiting i) where
   -- an image that is left now is possible of the pages, and what waits doesn't touch it
@@ -101,3 +103,8 @@ module _ {D : Type 0} (told : D → Option Story) (size : D → ℕ) where
   pub unsealed_recovers_apart : UnsealedRecoversApart told size
   unsealed_recovers_apart handler new patcher waiting i v apart same reads still =
       before_recovers told size handler apart.turns (hand_all waiting i) apart.covers v reads new same.which same.other patcher.image.disk patcher.image.disk refl (possible_then told size handler patcher waiting i apart) still
+
+  pub turnover_recovers_apart : TurnoverRecoversApart told size
+  turnover_recovers_apart handler new patcher waiting i result settled acked emitted v apart idle may sound reads turned unturned own story =
+      turn_any_moment told size handler apart.turns (hand_all waiting i) apart.covers idle settled acked emitted may v reads sound (Unit {0}) (log_answer result) (replaced_disk result new) patcher.image.disk patcher.image.disk _
+      (disks_turned result settled acked emitted handler new patcher.image.disk turned unturned own) refl (possible_then told size handler patcher waiting i apart) story

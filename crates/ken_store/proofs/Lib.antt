@@ -34,3 +34,5 @@ mod ApartLaws
 mod ApartRecovers
 mod TurnMeanwhile
 mod SealRecovers
+mod OtherLog
+mod Undone

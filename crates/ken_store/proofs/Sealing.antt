@@ -288,19 +288,23 @@ told_before R a b follow = tells_after R (λ h. (h0 : Story) × (a ≡ Some h0))
 
 module _ {D : Type 0} (told : D → Option Story) (size : D → ℕ) (old new : TurnSide D) (is : Turning told size old) where
   -- nothing of the log changed, and the heap has its pages
-  pub turning_same : KeepsLog old new → new.objects ≡ old.objects → Turning told size new
-  turning_same same objects = record {
+  pub turning_kept : KeepsLog old new → HasPages old.owner.pages new.objects → Turning told size new
+  turning_kept same heap = record {
     owner = rw same.owner is.owner;
     log = rw same.log is.log;
     mounts = rw (same.log, same.records) is.mounts;
     count = rw (same.log, same.records) is.count;
     items = rw same.records is.items;
     numbers = rw (same.owner, same.log, same.records, same.numbers) is.numbers;
-    heap = rw (same.owner, objects) is.heap;
+    heap = rw same.owner heap;
     turns = rw (same.base_turns, same.log) is.turns;
     rests = rw same.other is.rests;
     other = rw (same.log, same.other, same.owner) is.other;
   }
+
+  -- nor did the heap
+  pub turning_same : KeepsLog old new → new.objects ≡ old.objects → Turning told size new
+  turning_same same objects = turning_kept same (subst (HasPages old.owner.pages) (sym objects) is.heap)
 
   -- another log took the place of the one there was, with the same head, and these records
   pub turning_with : (log : Log D) (rs : List Record) (n : Numbers) → IsSameNode old new → new.log ≡ log → log.header ≡ old.log.header → log.base ≡ old.log.base

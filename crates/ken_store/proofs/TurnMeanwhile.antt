@@ -13,7 +13,7 @@ use Rattle.ken_log.specs.declared.faults.SealFault.{SealFault}
 use Rattle.ken_log.specs.Formats.{Replaces, next_header}
 use Rattle.ken_log.specs.Mounts.{mount_of}
 use Rattle.ken_log.specs.Mounts as mounts
-use Rattle.ken_cover.specs.Covers.{IsPossible, MayLeaveOut}
+use Rattle.ken_cover.specs.Covers.{Covers, IsPossible, MayLeaveOut}
 use Rattle.ken_cover.specs.Sides.{ImagePages, turned_pages}
 use Rattle.ken_cover.proofs.Keeps.{turnover_keeps_coverage}
 use Rattle.ken_store.specs.declared.disks.Disks.{Disks}
@@ -23,7 +23,7 @@ use Rattle.ken_store.specs.declared.heads.Front.TheVariants.{Begins}
 use Rattle.ken_store.specs.declared.owner.Owner.{Owner}
 use Rattle.ken_store.specs.declared.store.Store.{Store}
 use Rattle.ken_store.specs.declared.turning.TurnSide.{TurnSide}
-use Rattle.ken_store.specs.Answers.{disks_in, disks_from}
+use Rattle.ken_store.specs.Answers.{disks_from}
 use Rattle.ken_store.specs.Apart.{Apart}
 use Rattle.ken_store.specs.Logs.{front_of, other_log}
 use Rattle.ken_store.specs.Recovered.{Recovery, Whole}
@@ -40,7 +40,7 @@ use Rattle.ken_store.proofs.SealMeanwhile.{stands_undone}
 use Rattle.ken_store.proofs.Sealing.{pages_are}
 use Rattle.ken_store.proofs.Lives.{live_pages}
 use Rattle.ken_store.proofs.Mounted.{front_none, front_whole}
-use Rattle.ken_store.proofs.Standing.{by_which, found_over, left_now, possible_now, recovered_by}
+use Rattle.ken_store.proofs.Standing.{by_which, found_over, left_now, recovered_by}
 use Rattle.ken_store.proofs.Turned.{next_numbers, turned_live_pages, turned_state}
 
 -- the other way round
@@ -58,54 +58,56 @@ passed_as o head seen image which passed same = ⊎_elim
     subst (IsPassed o head) (before ∙ sym now) passed)
     which
 
-module _ {D : Type 0} (told : D → Option Story) (size : D → ℕ) (old : Store D) (i : ImagePages) (stands : Standing told size old i) (idle : old.turns.objects.begun ≡ None) (settled : ℕ) (acked : List ℕ) (emitted : ℕ) (may : MayLeaveOut settled (turn_pages old.turns) i) (v : Value) (reads : read_value (turn_pages old.turns).heap ≡ Some v) (sound : IsNoneOrWhole told old.turns.other) where
+module _ {D : Type 0} (told : D → Option Story) (size : D → ℕ) (old : TurnSide D) (turning : Turning told size old) (i : ImagePages) (covers : Covers old.owner.pages true (turn_pages old) i) (idle : old.objects.begun ≡ None) (settled : ℕ) (acked : List ℕ) (emitted : ℕ) (may : MayLeaveOut settled (turn_pages old) i) (v : Value) (reads : read_value (turn_pages old).heap ≡ Some v) (sound : IsNoneOrWhole told old.other) where
   abbrev base : Base
-  base = base_of old.turns settled acked emitted
+  base = base_of old settled acked emitted
 
   abbrev next : Header
-  next = next_header old.turns.log base
+  next = next_header old.log base
 
   abbrev kept : Recovery → Type 0
-  kept = is_either (Whole (state_in old.turns) v) (Whole (without_told acked emitted (state_in old.turns)) v)
+  kept = is_either (Whole (state_in old) v) (Whole (without_told acked emitted (state_in old)) v)
 
   -- the other disk has no log that counts
-  not_turned : (l s : Story) → told old.turns.log.disk ≡ Some l → told old.turns.other ≡ Some s → (log image other : List ℕ) → IsImage l.now log → IsPassed old.turns.owner old.turns.log.header (front_of other) → IsPossible i (take (256 * old.turns.owner.pages) image)
-      → recovered_by old.turns.which old.turns.owner log image other ≡ Whole (state_in old.turns) v
+  not_turned : (l s : Story) → told old.log.disk ≡ Some l → told old.other ≡ Some s → (log image other : List ℕ) → IsImage l.now log → IsPassed old.owner old.log.header (front_of other) → IsPossible i (take (256 * old.owner.pages) image)
+      → recovered_by old.which old.owner log image other ≡ Whole (state_in old) v
   not_turned l s tl ts log image other in_log passed possible =
-      let log_is = image_at_rest l.now (stands.takes.turns.log.rests l tl) log in_log in
-      found_over old.turns.owner old.turns.log.header old.turns.log.base old.turns.records.items old.turns.numbers stands.takes.turns.numbers true (turn_pages old.turns) i stands.covers
-      (live_pages old.turns.log.header old.turns.log.base old.turns.base_turns.items old.turns.records.items stands.takes.turns.turns) v reads old.turns.which log image other
-      (ap mount_of log_is ∙ stands.takes.turns.mounts l tl) (stands.takes.turns.other l tl s ts).owned passed possible
+      let log_is = image_at_rest l.now (turning.log.rests l tl) log in_log in
+      found_over old.owner old.log.header old.log.base old.records.items old.numbers turning.numbers true (turn_pages old) i covers
+      (live_pages old.log.header old.log.base old.base_turns.items old.records.items turning.turns) v reads old.which log image other
+      (ap mount_of log_is ∙ turning.mounts l tl) (turning.other l tl s ts).owned passed possible
 
   -- it has the new one
-  turned : (l s : Story) → told old.turns.log.disk ≡ Some l → told old.turns.other ≡ Some s → (log image other : List ℕ) → IsImage l.now log → mount_of other ≡ mounts.Whole next (Some base) [] → IsPossible i (take (256 * old.turns.owner.pages) image)
-      → recovered_by old.turns.which old.turns.owner log image other ≡ Whole (without_told acked emitted (state_in old.turns)) v
+  turned : (l s : Story) → told old.log.disk ≡ Some l → told old.other ≡ Some s → (log image other : List ℕ) → IsImage l.now log → mount_of other ≡ mounts.Whole next (Some base) [] → IsPossible i (take (256 * old.owner.pages) image)
+      → recovered_by old.which old.owner log image other ≡ Whole (without_told acked emitted (state_in old)) v
   turned l s tl ts log image other in_log mounts_so possible =
-      let log_is = image_at_rest l.now (stands.takes.turns.log.rests l tl) log in_log in
-      let owned = (stands.takes.turns.other l tl s ts).owned in
-      let front : front_of log ≡ Begins old.turns.log.header = front_whole log old.turns.log.header old.turns.log.base old.turns.records.items (ap mount_of log_is ∙ stands.takes.turns.mounts l tl) in
-      sym (swapped old.turns.which old.turns.owner log image other)
-      ∙ found_over old.turns.owner next (Some base) [] old.turns.numbers (next_numbers told size old.turns old.turns stands.takes.turns idle settled acked emitted) true (turned_pages old.turns.owner.pages settled old.turns.numbers.turns (turn_pages old.turns)) i
-      (turnover_keeps_coverage old.turns.owner.pages true (turn_pages old.turns) i settled old.turns.numbers.turns may stands.covers)
-      (turned_live_pages old.turns settled acked emitted) v reads (other_log old.turns.which) other image log
-      mounts_so owned (subst (IsPassed old.turns.owner next) (sym front) (omega arith, owned)) possible
-      ∙ ap (λ (x : State). Whole x v) (turned_state old.turns settled acked emitted)
+      let log_is = image_at_rest l.now (turning.log.rests l tl) log in_log in
+      let owned = (turning.other l tl s ts).owned in
+      let front : front_of log ≡ Begins old.log.header = front_whole log old.log.header old.log.base old.records.items (ap mount_of log_is ∙ turning.mounts l tl) in
+      sym (swapped old.which old.owner log image other)
+      ∙ found_over old.owner next (Some base) [] old.numbers (next_numbers told size old old turning idle settled acked emitted) true (turned_pages old.owner.pages settled old.numbers.turns (turn_pages old)) i
+      (turnover_keeps_coverage old.owner.pages true (turn_pages old) i settled old.numbers.turns may covers)
+      (turned_live_pages old settled acked emitted) v reads (other_log old.which) other image log
+      mounts_so owned (subst (IsPassed old.owner next) (sym front) (omega arith, owned)) possible
+      ∙ ap (λ (x : State). Whole x v) (turned_state old settled acked emitted)
 
-  pub turn_any_moment : (T : Type 0) (result : Result T SealFault) (disk : D) (image : D) (new : Disks D) → new ≡ disks_from old.turns.which old.turns.log.disk image disk → image ≡ old.patches.image.disk
-      → Follows (λ h s. Replaces {T = T} (mount_of h.now.seen) (mounts.Whole next (Some base) []) result h s) (told old.turns.other) (told disk) → RecoversMeanwhile told old.turns.owner (disks_in old) new kept
-  turn_any_moment T result disk image new is same_image story =
-      subst (λ (d : Disks D). RecoversMeanwhile told old.turns.owner (disks_in old) d kept) (sym is)
-      (by_which told old.turns.owner kept old.turns.log.disk old.patches.image.disk old.turns.other old.turns.log.disk image disk old.turns.which
+  -- the image's disk tells what it told
+  pub turn_any_moment : (T : Type 0) (result : Result T SealFault) (disk image image2 : D) (new : Disks D) → new ≡ disks_from old.which old.log.disk image2 disk → told image2 ≡ told image
+      → ((h : Story) → told image ≡ Some h → (img : List ℕ) → IsImage h.now img → IsPossible i (take (256 * old.owner.pages) img))
+      → Follows (λ h s. Replaces {T = T} (mount_of h.now.seen) (mounts.Whole next (Some base) []) result h s) (told old.other) (told disk) → RecoversMeanwhile told old.owner (disks_from old.which old.log.disk image old.other) new kept
+  turn_any_moment T result disk image image2 new is same_image possible_now story =
+      subst (λ (d : Disks D). RecoversMeanwhile told old.owner (disks_from old.which old.log.disk image old.other) d kept) (sym is)
+      (by_which told old.owner kept old.log.disk image old.other old.log.disk image2 disk old.which
       (λ l h s l2 h2 s2 tl th ts tl2 th2 ts2 log img oth in_log in_image in_other.
       let both = told_both (λ h s. Replaces {T = T} (mount_of h.now.seen) (mounts.Whole next (Some base) []) result h s) s _ _ ts story in
       let through = subst (λ (x : Story). Replaces {T = T} (mount_of s.now.seen) (mounts.Whole next (Some base) []) result s x) (some_is both.0 s2 (sym both.1 ∙ ts2)) both.2 in
       let log_now = left_now l l2 log (some_is l l2 (sym tl ∙ tl2)) in_log in
-      let possible = possible_now told size old i stands v reads h th img (left_now h h2 img (some_is h h2 (sym th ∙ ap told (sym same_image) ∙ th2)) in_image) in
-      let passed = (stands.takes.turns.other l tl s ts).passed in
+      let possible = possible_now h th img (left_now h h2 img (some_is h h2 (sym th ∙ sym same_image ∙ th2)) in_image) in
+      let passed = (turning.other l tl s ts).passed in
       ⊎_elim
-      (λ before. inl (not_turned l s tl ts log img oth log_now (passed_as old.turns.owner old.turns.log.header s.now.seen oth (sound s ts) passed before) possible))
+      (λ before. inl (not_turned l s tl ts log img oth log_now (passed_as old.owner old.log.header s.now.seen oth (sound s ts) passed before) possible))
       (λ rest. ⊎_elim
-      (λ none. inl (not_turned l s tl ts log img oth log_now (subst (IsPassed old.turns.owner old.turns.log.header) (sym (front_none oth none)) tt) possible))
+      (λ none. inl (not_turned l s tl ts log img oth log_now (subst (IsPassed old.owner old.log.header) (sym (front_none oth none)) tt) possible))
       (λ whole. inr (turned l s tl ts log img oth log_now whole possible))
       rest)
       (through.any_moment.each oth in_other)))

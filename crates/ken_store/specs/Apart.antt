@@ -1,29 +1,37 @@
 -- The two sides of a store while they are apart, with sealed records on their way from the handler to the patcher.
-use Rattle.std.specs.Prelude.{◌≡◌, ℕ, ◌+◌, ◌*◌, ◌<◌, ◌≤◌, List, [], ◌∷◌, ◌++◌, take, Option, Some, None, true, IsTrue, IsSome}
+use Rattle.std.specs.Prelude.{◌≡◌, ℕ, ◌+◌, ◌*◌, ◌<◌, ◌≤◌, List, [], ◌∷◌, ◌++◌, take, Option, Some, None, Result, Ok, Err, true, IsTrue, IsSome, OnOk, OnErr}
 use Rattle.ken_disk.specs.Moments.{Through}
 use Rattle.ken_disk.specs.Story.{Story, Follows}
 use Rattle.ken_model.specs.declared.values.Value.{Value}
 use Rattle.ken_model.specs.Reading.{read_value}
 use Rattle.ken_alloc.specs.Objects.{Heap}
+use Rattle.ken_record.specs.declared.base.Base.{Base}
 use Rattle.ken_record.specs.declared.effects.Effects.{Effects}
+use Rattle.ken_record.specs.declared.header.Header.{Header}
 use Rattle.ken_record.specs.declared.page.Page.{Page}
 use Rattle.ken_record.specs.Grammar.{IsRecord, rise_from, page_rank}
 use Rattle.ken_record.specs.Versions.{One}
+use Rattle.ken_log.specs.declared.faults.SealFault.TheVariants as seals
+use Rattle.ken_log.specs.Formats.{Replaces, next_header}
 use Rattle.ken_log.specs.Mounts.{mount_of, with_record}
+use Rattle.ken_log.specs.Mounts as mounts
 use Rattle.ken_log.specs.Seals.{MountsAs, MountsAsEither}
 use Rattle.ken_cover.specs.Sides.{ImagePages, handed_pages, synced_pages, turned_pages}
 use Rattle.ken_cover.specs.Overlay.{AreWithin}
 use Rattle.ken_cover.specs.Covers.{IsPossible, Covers, MayLeaveOut}
 use Rattle.ken_store.specs.declared.disks.Disks.{Disks}
+use Rattle.ken_store.specs.declared.faults.StoreFault.{StoreFault}
 use Rattle.ken_store.specs.declared.patching.PatchSide.{PatchSide}
+use Rattle.ken_store.specs.declared.store.Store.{Store}
 use Rattle.ken_store.specs.declared.turning.TurnSide.{TurnSide}
 use Rattle.ken_store.specs.Answers.{disks_from}
 use Rattle.ken_store.specs.Patching.{MayBePatched, Patched, Patching, settled_turn}
 use Rattle.ken_store.specs.PatchLaws.{IsAheadOf, LastChangedBefore}
 use Rattle.ken_store.specs.Numbers.{follows, after_record}
 use Rattle.ken_store.specs.Recovered.{Recovery, Whole, state_of}
-use Rattle.ken_store.specs.Standing.{RecoversTo, RecoversMeanwhile, is_one, is_either}
-use Rattle.ken_store.specs.Turning.{AreChangedPages, IsSameNode, IsSealed, KeepsLog, Turning, begun_on, coming_record, record_of, turn_pages, state_in, undone}
+use Rattle.ken_store.specs.Standing.{IsNoneOrWhole, RecoversTo, RecoversMeanwhile, Standing, is_one, is_either}
+use Rattle.ken_store.specs.Turning.{AreChangedPages, IsSameNode, IsSealed, KeepsLog, Turning, begun_on, coming_record, log_answer, record_of, turn_pages, state_in, undone}
+use Rattle.ken_store.specs.Turnovers.{IsTurned, IsUnturned, base_of, kept_disk, replaced_disk, without_told}
 
 -- records that were sealed and aren't handed yet, oldest first, each a turn with its pages: the image's pages once they are handed
 abbrev pub hand_all : List (ℕ × List Page) → ImagePages → ImagePages
@@ -209,3 +217,38 @@ module _ {D : Type 0} (told : D → Option Story) (size : D → ℕ) where
       (handler new : TurnSide D) (patcher : PatchSide D) (waiting : List (ℕ × List Page)) (i : ImagePages) (v : Value) → Apart told size handler patcher waiting i → IsSameNode handler new → read_value (turn_pages handler).heap ≡ Some v
       → Follows (λ h s. Through (MountsAs (mount_of h.now.seen)) h s) (told handler.log.disk) (told new.log.disk)
       → RecoversMeanwhile told handler.owner (disks_apart handler patcher) (disks_apart new patcher) (is_one (Whole (state_in handler) v))
+
+  -- and of a turnover: to that, or to it without the messages and outputs that were told, where the other disk had no log or a whole one
+  abbrev pub TurnoverRecoversApart : Type 0
+  TurnoverRecoversApart =
+      (handler new : TurnSide D) (patcher : PatchSide D) (waiting : List (ℕ × List Page)) (i : ImagePages) (result : Result (Unit {0}) StoreFault) (settled : ℕ) (acked : List ℕ) (emitted : ℕ) (v : Value) → Apart told size handler patcher waiting i
+      → handler.objects.begun ≡ None → MayLeaveOut settled (turn_pages handler) (hand_all waiting i) → IsNoneOrWhole told handler.other → read_value (turn_pages handler).heap ≡ Some v
+      → OnOk result (IsTurned settled acked emitted handler new) → OnErr result (IsUnturned handler new) → kept_disk result new ≡ handler.log.disk
+      → Follows (λ h s. Replaces (mount_of h.now.seen) (mounts.Whole (next_header handler.log (base_of handler settled acked emitted)) (Some (base_of handler settled acked emitted)) []) (log_answer result) h s) (told handler.other) (told (replaced_disk result new))
+      → RecoversMeanwhile told handler.owner (disks_apart handler patcher) (disks_apart new patcher) (is_either (Whole (state_in handler) v) (Whole (without_told acked emitted (state_in handler)) v))
+
+  -- ---- the disk of the other log, which no call but a turnover touches
+
+  -- after a turnover it has the log that was, a whole one
+  abbrev pub TurnoverLeavesNoneOrWhole : Type 0
+  TurnoverLeavesNoneOrWhole = (handler new : TurnSide D) → Turning told size handler → new.other ≡ handler.log.disk → IsNoneOrWhole told new.other
+
+  -- where a turnover ran out of memory it has no log, or what it had
+  abbrev pub TurnoverKeepsNoneOrWhole : Type 0
+  TurnoverKeepsNoneOrWhole =
+      (handler new : TurnSide D) (head : Header) (base : Base) → Turning told size new → IsNoneOrWhole told handler.other
+      → Follows (λ h s. Replaces {T = Unit {0}} (mount_of h.now.seen) (mounts.Whole head (Some base) []) (Err seals.Memory) h s) (told handler.other) (told new.other) → IsNoneOrWhole told new.other
+
+  -- ---- a turn that is begun may be taken back, whatever it did to the heap
+
+  -- the side takes calls, with the pages and the heap of the begin
+  abbrev pub WorkMayBeUndone : Type 0
+  WorkMayBeUndone =
+      (handler new : TurnSide D) (heap : Heap) → Turning told size handler → IsSome handler.objects.begun → heap.begun ≡ handler.objects.begun → new.objects ≡ undone heap → KeepsLog (record handler { objects = heap }) new
+      → Turning told size new × (turn_pages new ≡ turn_pages handler) × (new.objects ≡ undone handler.objects)
+
+  -- and a store stands as it did
+  abbrev pub WorkStandsUndone : Type 0
+  WorkStandsUndone =
+      (store new : Store D) (heap : Heap) (i : ImagePages) → Standing told size store i → IsSome store.turns.objects.begun → heap.begun ≡ store.turns.objects.begun → new.turns.objects ≡ undone heap
+      → KeepsLog (record store.turns { objects = heap }) new.turns → new.patches ≡ store.patches → Standing told size new i
