@@ -1,14 +1,12 @@
 -- A turn that is taken back, whatever it did to the heap.
-use Rattle.std.proofs.Common.{◌≡◌, ℕ, ◌*◌, length, List, Option, Some, None, IsSome, refl, sym, ap, subst, ◌∙◌}
+use Rattle.std.proofs.Common.{◌≡◌, ℕ, List, Option, Some, None, IsSome, refl, sym, ap, subst, ◌∙◌}
 use Rattle.ken_disk.specs.Story.{Story}
 use Rattle.ken_alloc.specs.Objects.{Heap}
 use Rattle.ken_store.specs.declared.numbers.Numbers.{Numbers}
 use Rattle.ken_store.specs.declared.owner.Owner.{Owner}
-use Rattle.ken_store.specs.declared.store.Store.{Store}
-use Rattle.ken_store.specs.declared.turning.TurnSide.{TurnSide}
 use Rattle.ken_store.specs.Apart.{WorkMayBeUndone, WorkStandsUndone}
 use Rattle.ken_store.specs.Standing.{TakesCalls}
-use Rattle.ken_store.specs.Turning.{HasPages, KeepsLog, Turning, turn_pages, undone, undone_from}
+use Rattle.ken_store.specs.Turning.{HasPages, KeepsLog, undone, undone_from}
 use Rattle.ken_store.proofs.SealMeanwhile.{stands_undone, undone_pages}
 use Rattle.ken_store.proofs.Sealing.{turning_kept}
 

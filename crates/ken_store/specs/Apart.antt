@@ -1,5 +1,5 @@
 -- The two sides of a store while they are apart, with sealed records on their way from the handler to the patcher.
-use Rattle.std.specs.Prelude.{◌≡◌, ℕ, ◌+◌, ◌*◌, ◌<◌, ◌≤◌, List, [], ◌∷◌, ◌++◌, take, Option, Some, None, Result, Ok, Err, true, IsTrue, IsSome, OnOk, OnErr}
+use Rattle.std.specs.Prelude.{◌≡◌, ℕ, ◌+◌, ◌*◌, ◌<◌, ◌≤◌, List, [], ◌∷◌, ◌++◌, take, Option, Some, None, Result, Err, true, IsTrue, IsSome, OnOk, OnErr}
 use Rattle.ken_disk.specs.Moments.{Through}
 use Rattle.ken_disk.specs.Story.{Story, Follows}
 use Rattle.ken_model.specs.declared.values.Value.{Value}
