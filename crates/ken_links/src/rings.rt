@@ -34,7 +34,8 @@ pub fn beside<T>(push: &mut PushEnd<T>, pop: &mut PopEnd<T>)
 }
 
 /// Moves each item of a ring to the end of a list, oldest first; then 64 slots are known to be free. The error comes only
-/// where the list has no room for 64 more items. Then nothing has moved: what was in the ring is there, and known.
+/// where the list has no room for 64 more items. Then nothing has moved: what was in the ring is there, and known. The list's
+/// capacity never shrinks.
 pub fn empty<T>(
     push: &mut PushEnd<T>,
     pop: &mut PopEnd<T>,
@@ -48,6 +49,7 @@ pub fn empty<T>(
     ensures ok { OnOk result ((popped pop.new ≡ pushed push.new) × (64 ≤ free push.new)) }
     ensures err { OnErr result ((popped pop.new ≡ popped pop.old) × (into.new.items ≡ into.old.items)) }
     ensures full { OnErr result (vec_capacity into.old < vec_len into.old + 64) }
+    ensures capacity { vec_capacity into.old ≤ vec_capacity into.new }
 {
     beside(push, pop);
     into.reserve(pop.known())?;
@@ -62,6 +64,7 @@ fn move_known<T>(pop: &mut PopEnd<T>, into: &mut Vec<T>)
     ensures end { SamePopEnd pop.old pop.new × (nones pop.new ≡ nones pop.old) }
     ensures popped { popped pop.new ≡ popped pop.old ++ known pop.old }
     ensures list { into.new.items ≡ into.old.items ++ known pop.old }
+    ensures capacity { vec_capacity into.new ≡ vec_capacity into.old }
 {
     for _ in 0..pop.known() {
         into.push_reserved(pop.pop_known());

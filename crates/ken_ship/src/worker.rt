@@ -110,7 +110,7 @@ impl SendWorker {
 
     /// Moves all that it told its handler to the end of a list, oldest first, from the end of the ring at which the handler
     /// pops: then 64 slots are known to be free. The error, which is want of memory, comes only where the list has no room for
-    /// 64 more items; then nothing has moved.
+    /// 64 more items; then nothing has moved. The list's capacity never shrinks.
     pub fn tell(
         &mut self,
         ring: &mut PopEnd<Progress>,
@@ -127,6 +127,7 @@ impl SendWorker {
         ensures ok { OnOk result ((popped ring.new ≡ pushed self.new.told) × (64 ≤ free self.new.told)) }
         ensures err { OnErr result ((popped ring.new ≡ popped ring.old) × (into.new.items ≡ into.old.items)) }
         ensures full { OnErr result (vec_capacity into.old < vec_len into.old + 64) }
+        ensures capacity { vec_capacity into.old ≤ vec_capacity into.new }
     {
         empty(&mut self.told, ring, into)
     }

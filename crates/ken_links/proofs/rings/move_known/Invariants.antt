@@ -9,4 +9,5 @@ invariant-loop g l = record {
   list : l.into.items ++ known l.pop ≡ l.initial.into.items ++ known l.initial.pop;
   left : l.counter + length (known l.pop) ≡ length (known l.initial.pop);
   room : vec_len l.into + length (known l.pop) ≤ vec_capacity l.into;
+  capacity : vec_capacity l.into ≡ vec_capacity l.initial.into;
 }
