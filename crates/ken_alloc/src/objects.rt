@@ -207,12 +207,13 @@ impl Objects {
         self.pages.read(PAGE * u64::from(page), buf);
     }
 
-    /// A law, and no work: the bytes stand for the value, and so did those at `begin`.
+    /// A law, and no work: the bytes stand for the value, and so did those at `begin`, which are as many.
     pub fn stands(&self)
         ensures now { StandsFor self.now.bytes self.now.value }
         ensures before { IfSome self.now.begun (λ before. StandsFor before (value_of before)) }
+        ensures long { IfSome self.now.begun (λ before. length before ≡ length self.now.bytes) }
     {
-        let _ = &self.pages;
+        let _pages = self.pages.pages();
     }
 
     /// A copy of the value that the heap's bytes stand for.
