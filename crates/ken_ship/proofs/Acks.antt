@@ -24,7 +24,7 @@ use Rattle.ken_ship.specs.Laws.{IsPast, IsDueOf, packet_from, packets_from, IsTa
 use Rattle.ken_ship.proofs.Numbered.{mails_are_from, acked_past}
 
 -- one acknowledgement
-one_ack : (g : Game) (v : ℕ) (n : Node) (w : Waiting) (from through : ℕ) → IsDueOf g v n w → from < g.nodes
+pub one_ack : (g : Game) (v : ℕ) (n : Node) (w : Waiting) (from through : ℕ) → IsDueOf g v n w → from < g.nodes
     → IsDueOf g v (acked_node from through n) (record w { lines = slice_set w.lines from (acked_by through (get_or w.lines from no_line)) })
 one_ack g v n w from through due low =
     let sent : ℕ → List Message = λ (u : ℕ). mails_to v u n.turning.turns in
@@ -54,11 +54,11 @@ one_ack g v n w from through due low =
       outs = due.outs;
     }
 
-abbrev event_of : ℕ → ℕ × ℕ → Event
+abbrev pub event_of : ℕ → ℕ × ℕ → Event
 event_of v a = TakeAck v a.0 a.1
 
 -- an acknowledgement to v from a node of the run that was put
-abbrev IsAckTo : ℕ → (Packet → Type 0) → ℕ → ℕ × ℕ → Type 0
+abbrev pub IsAckTo : ℕ → (Packet → Type 0) → ℕ → ℕ × ℕ → Type 0
 IsAckTo nodes put v a = (a.0 < nodes) × put (Answer (record { from = a.0; to = v; through = a.1 }))
 
 record AcksRun (g : Game) (put : Packet → Type 0) (v : ℕ) (n : Node) (acks : List (ℕ × ℕ)) (w : Waiting) : Type 0 where
@@ -97,7 +97,7 @@ first_ack v nodes (Some (Ack from to through)) put given = kept (to == v) refl (
     kept true e false low put_is = tt
     kept false e c low put_is = tt
 
-acks_given : (v nodes : ℕ) (given : List (List ℕ)) (put : Packet → Type 0) → ((x : Packet) → Contains (packets_from nodes given) x → put x) → AllByRecursion (IsAckTo nodes put v) (acks_in v nodes given)
+pub acks_given : (v nodes : ℕ) (given : List (List ℕ)) (put : Packet → Type 0) → ((x : Packet) → Contains (packets_from nodes given) x → put x) → AllByRecursion (IsAckTo nodes put v) (acks_in v nodes given)
 acks_given v nodes [] put was = tt
 acks_given v nodes (bytes ∷ given) put was =
     both (IsAckTo nodes put v) (ack_in v nodes (packet_of bytes)) (acks_in v nodes given)
@@ -119,7 +119,7 @@ first_taken v nodes (Some (Ack from to through)) = kept (to == v) refl (nat_lt f
     kept false e true = rw e refl
     kept false e false = refl
 
-all_taken : (v nodes : ℕ) (given : List (List ℕ)) → map (event_of v) (acks_in v nodes given) ≡ flat_map (taken_from v) (packets_from nodes given)
+pub all_taken : (v nodes : ℕ) (given : List (List ℕ)) → map (event_of v) (acks_in v nodes given) ≡ flat_map (taken_from v) (packets_from nodes given)
 all_taken v nodes [] = refl
 all_taken v nodes (bytes ∷ given) =
     map-append (event_of v) (ack_in v nodes (packet_of bytes)) (acks_in v nodes given)

@@ -38,7 +38,7 @@ drop_nothing zero = refl
 drop_nothing (suc k) = refl
 
 -- what a number lets go
-past_is : (v u a through : ℕ) (ms : List Message) → AreFrom v u a ms → past through ms ≡ drop (through - a) ms
+pub past_is : (v u a through : ℕ) (ms : List Message) → AreFrom v u a ms → past through ms ≡ drop (through - a) ms
 unfolding past
 past_is v u a through [] from = sym (drop_nothing (through - a))
 past_is v u a through (m ∷ ms) from = kept (nat_le m.number through) refl (past_is v u (a + 1) through ms from.1.1)

@@ -23,14 +23,14 @@ pub mod PatchNext
 pub mod AheadLaws
 mod Rises
 mod Meanwhile
-mod SealMeanwhile
-mod BaseStands
+pub mod SealMeanwhile
+pub mod BaseStands
 pub mod NextBase
 pub mod Lasts
 pub mod Turned
 pub mod Sizing
-mod ApartPages
-mod ApartLaws
+pub mod ApartPages
+pub mod ApartLaws
 mod ApartRecovers
 mod TurnMeanwhile
 mod SealRecovers
