@@ -1,0 +1,132 @@
+-- New workers are a whole node.
+use Rattle.std.proofs.Common.{◌≡◌, ℕ, ◌*◌, ◌<◌, ◌≤◌, List, [], ◌++◌, replicate, slice_index, Option, Some, None, refl, sym, ap, subst, ◌∙◌, ⊎_elim, arith}
+use Rattle.std.proofs.lemmas.Bool.{cases_lt}
+use Rattle.std.proofs.lemmas.List.{get_or-replicate, get_or_past, length-replicate}
+use Rattle.ken_disk.specs.Story.{Story}
+use Rattle.ken_model.specs.declared.values.Value.{Value}
+use Rattle.ken_model.specs.Layout.{first_heap}
+use Rattle.ken_model.specs.Network.{empty_heap}
+use Rattle.ken_model.specs.Reading.{read_value}
+use Rattle.ken_model.proofs.First.{first_is_empty}
+use Rattle.ken_model.proofs.ReadBack.{read_some}
+use Rattle.ken_record.specs.declared.base.Base.{Base}
+use Rattle.ken_record.specs.declared.record.Record.{Record}
+use Rattle.ken_cover.specs.Sides.{first_image_pages}
+use Rattle.ken_core.specs.Nodes.{Node, first_node, heap_pages}
+use Rattle.ken_core.specs.Steps.{recovered_node}
+use Rattle.ken_links.specs.Rings.{pushed, popped}
+use Rattle.ken_order.specs.Consumed.{place}
+use Rattle.ken_store.specs.declared.numbers.Numbers.{Numbers}
+use Rattle.ken_store.specs.declared.owner.Owner.{Owner}
+use Rattle.ken_store.specs.Numbers.{no_numbers}
+use Rattle.ken_store.specs.Recovered.{state_of}
+use Rattle.ken_store.specs.Turning.{live_layers, state_in, turn_pages}
+use Rattle.ken_ship.specs.Laws.{IsDueOf, IsStateOf}
+use Rattle.ken_ship.specs.Parts.{Part}
+use Rattle.ken_ship.proofs.Emissions.{nothing_is_due_first}
+use Rattle.ken_ship.proofs.Numbered.{drop_nothing}
+use Rattle.ken_node.specs.declared.items.Told.{Told}
+use Rattle.ken_node.specs.Created.{nothing_told}
+use Rattle.ken_node.specs.NewLaws.{NewAreWhole}
+use Rattle.ken_node.specs.Whole.{AreNumbersOf, HasReached, IsSettledAt, WereTold}
+
+-- zeros
+zero-at : (n u : ℕ) → slice_index (replicate n 0) u ≡ 0
+zero-at n u =
+    let long = length-replicate {A = ℕ} n 0 in
+    ⊎_elim (λ (low : u < n). get_or-replicate n u 0 0 low) (λ (high : n ≤ u). get_or_past (replicate n 0) u 0 (omega (arith, long, high))) (cases_lt u n)
+
+none-counted : (v : ℕ) → AreNumbersOf v [] no_numbers
+none-counted v = record {
+  turns = refl;
+  stamp = refl;
+  senders = length-replicate {A = ℕ} 9 0;
+  consumed = λ u is. zero-at 9 (place u);
+  receivers = length-replicate {A = ℕ} 8 0;
+  sent = λ u. zero-at 8 u;
+  outputs = refl;
+}
+
+none-told : {A : Type 0} (P : A → Type 0) (pushed popped : List A) (known first : A) → pushed ≡ [] → popped ≡ [] → known ≡ first → P first → WereTold P pushed popped known
+none-told {A} P pushed popped known first no_push no_pop is holds = record { queue = []; ring = no_push ∙ sym (ap (λ (xs : List A). xs ++ []) no_pop); each = (subst P (sym is) holds, tt) }
+
+module _ {D : Type 0} (told : D → Option Story) (size : D → ℕ) where
+  pub new_are_whole : NewAreWhole told size
+  new_are_whole g v t p s limits new =
+      let n : Node = first_node g in
+      let owner = new.new.owner in
+      let pages : ℕ = heap_pages g in
+      let some : (0 < pages) × (pages ≤ 4096) × (g.size ≡ 256 * pages) = heap-sized in
+      let owner_pages : t.side.owner.pages ≡ pages = ap (λ (o : Owner). o.pages) owner in
+      let covers = new.stands.covers in
+      let heap : (turn_pages t.side).heap ≡ first_heap pages = sym (covers.goal refl) in
+      let live : (turn_pages t.side).live ≡ [] = no-live in
+      let turning : n.turning.pages ≡ turn_pages t.side = ap (λ (h : List ℕ). record { heap = h; live = [] }) (sym heap) ∙ ap (λ ls. record { heap = (turn_pages t.side).heap; live = ls }) (sym live) in
+      let state : state_in t.side ≡ state_of v no_numbers None [] = no-state in
+      let settled : IsSettledAt n 0 = record { made = omega arith; clean = λ q c e gone. absurd cc } in
+      record {
+        workers = record {
+          of_run = record { node = new.node; nodes = new.nodes; cap = new.cap; size = let is = some.2 in omega (arith, owner_pages, is); inputs = new.inputs; sender = new.sender; receivers = new.receivers };
+          joined = record { pages = new.pages.ring; sealed = new.sealed.ring; settled = new.settled.ring; progress = new.progress.ring };
+          working = new.working g.handler;
+          turns = record {
+            kept = new.turns;
+            counted = subst (AreNumbersOf v []) (sym new.new.numbers) (none-counted v);
+            reads =
+                ap read_value heap
+                ∙ read_some (first_heap pages) (empty_heap (256 * pages)) (first_is_empty pages some.0 some.1)
+                ∙ ap (λ (k : ℕ). Some (empty_heap k)) (sym some.2)
+                ∙ ap (λ (x : Value). Some x) (sym new.value);
+          };
+          log = record {
+            state = subst (IsStateOf g v (recovered_node n)) (sym state)
+                (record { width = length-replicate {A = ℕ} 8 0; sent = λ u low. zero-at 8 u; messages = λ u low. sym (drop_nothing (slice_index (replicate g.nodes 0) u)); outputs = refl; outs = refl });
+            sent = record { acked = λ u low. let zero_is = zero-at g.nodes u in omega (arith, zero_is); emitted = omega arith };
+            width = length-replicate {A = ℕ} g.nodes 0;
+          };
+          sends = record {
+            queue = [];
+            ring = new.sealed.none_pushed ∙ sym (ap (λ xs. xs ++ []) new.sealed.none_popped);
+            due = subst (λ (x : Part). IsDueOf g v n x.due) (sym new.part) (nothing_is_due_first g v limits.few_nodes);
+            sent = record { acked = λ u low. let zero_is = zero-at g.nodes u in omega (arith, zero_is); emitted = omega arith };
+          };
+          settled = none-told (IsSettledAt n) (pushed p.settled) (popped t.settled) t.told.settled 0 new.settled.none_pushed new.settled.none_popped (ap (λ (x : Told). x.settled) new.told_is) settled;
+          progress = none-told (HasReached g n) (pushed s.told) (popped t.progress) t.told.progress nothing_told.progress new.progress.none_pushed new.progress.none_popped (ap (λ (x : Told). x.progress) new.told_is)
+              (record { acked = λ u low. let zero_is = zero-at 8 u in omega (arith, zero_is); emitted = omega arith });
+        };
+        pages = record {
+          queue = [];
+          ring = new.pages.none_pushed ∙ sym (ap (λ xs. xs ++ []) new.pages.none_popped);
+          image = first_image_pages (first_heap pages);
+          apart = record {
+            turns = new.stands.takes.turns;
+            patches = new.stands.patches;
+            count = new.stands.takes.count;
+            waits = tt;
+            known = new.stands.takes.known;
+            covers = covers;
+            behind = new.stands.behind;
+            before = new.stands.before;
+          };
+          turning = turning;
+          patching = refl;
+        };
+      }
+    where
+      heap-sized : (0 < heap_pages g) × (heap_pages g ≤ 4096) × (g.size ≡ 256 * heap_pages g)
+      heap-sized =
+          let is = limits.pages in
+          let many : heap_pages g ≡ is.0 = let e = is.3 in omega (arith, e) in
+          (let some = is.1 in omega (arith, some, many), let most = is.2 in omega (arith, most, many), let e = is.3 in omega (arith, e, many))
+
+      no-live : (turn_pages t.side).live ≡ []
+      no-live =
+          ap (λ (x : Option Base). live_layers t.side.log.header x t.side.base_turns.items t.side.records.items) new.new.base
+          ∙ ap (λ (rs : List Record). live_layers t.side.log.header None t.side.base_turns.items rs) new.new.records
+
+      no-state : state_in t.side ≡ state_of v no_numbers None []
+      no-state =
+          ap (λ (o : Owner). state_of o.node t.side.numbers t.side.log.base t.side.records.items) new.new.owner
+          ∙ ap (λ (k : Numbers). state_of v k t.side.log.base t.side.records.items) new.new.numbers
+          ∙ ap (λ (x : Option Base). state_of v no_numbers x t.side.records.items) new.new.base
+          ∙ ap (λ (rs : List Record). state_of v no_numbers None rs) new.new.records

@@ -1,0 +1,12 @@
+use Rattle.std.proofs.Common.{◌∙◌, sym, subst}
+use Rattle.ken_node.specs.Created.{IsCreation}
+use Rattle.ken_node.specs.Stages.{IsUncreated}
+use Rattle.ken_node.proofs.node.Node.create.Goals as goal
+
+pub invariant_of-self : goal.invariant_of-self
+invariant_of-self g c = record { here = λ is. c.created-stage.ensures.here (sym c.replace-2.ensures.after ∙ is) }
+
+pub returns-clause-creation : goal.returns-clause-creation
+returns-clause-creation g c = λ game v disks u.
+    subst (IsCreation g.D.Disk.told g.D.Disk.size g.D.Disk.faults g.D.Disk.fate game v c.created-stage.result.1 disks) (sym c.replace-2.ensures.after)
+    (c.created-stage.ensures.creation game v disks (subst (IsUncreated game v disks) (sym c.replace.ensures.value) u))

@@ -1,0 +1,105 @@
+// A node's handler.
+ghost use Rattle.std.specs.Prelude.{◌≡◌, ◌≤◌, vec_capacity, vec_len};
+ghost use Rattle.ken_links.specs.Rings.{nones, popped, SamePopEnd};
+ghost use Rattle.ken_node.specs.News.{AreInputs, TakesNews, latest};
+
+use crate::items::{Frozen, Told};
+use ken_links::{PopEnd, PushEnd, SLOTS};
+use ken_model::Message;
+use ken_order::Order;
+use ken_record::Effects;
+use ken_ship::{Progress, Sealed, SendWorker};
+use ken_store::TurnSide;
+use std::alloc::Global;
+
+/// A node's handler: it takes messages, has the application make a turn of each, and seals it.
+#[derive(Drop)]
+pub struct TurnWorker<D> {
+    pub(crate) alloc: Global,
+    pub(crate) node: u8,
+    pub(crate) nodes: u8,
+    // The most turns.
+    pub(crate) cap: u64,
+    // The node's inputs, oldest first.
+    pub(crate) inputs: Vec<Message>,
+    pub(crate) side: TurnSide<D>,
+    // By which mail is judged.
+    pub(crate) order: Order,
+    // All sealed turns, oldest first.
+    pub(crate) turns: Vec<Effects>,
+    pub(crate) told: Told,
+    pub(crate) pages: PushEnd<Frozen>,
+    pub(crate) sealed: PushEnd<Sealed>,
+    pub(crate) settled: PopEnd<u64>,
+    pub(crate) progress: PopEnd<Progress>,
+    // Room for what the externaliser tells at a meeting, and else empty.
+    pub(crate) news: Vec<Progress>,
+    ghost few: { nodes ≤ 8 },
+    ghost most: { cap ≤ 100000 },
+    ghost room: { (64 ≤ vec_capacity news) × (vec_len news ≡ 0) },
+    ghost given: { AreInputs node inputs.items },
+}
+
+// Pops what a ring gives until it gives none, or 64 were given; the last of it is known then.
+fn take_news<A: Copy>(ring: &mut PopEnd<A>, known: &mut A)
+    ensures ring { SamePopEnd ring.old ring.new }
+    ensures news { TakesNews (popped ring.old) (popped ring.new) (nones ring.old) (nones ring.new) known.old known.new }
+{
+    for _given in 0..SLOTS {
+        match ring.pop() {
+            Some(news) => *known = news,
+            None => return,
+        }
+    }
+}
+
+// The last of what was told is known then, where there is one.
+fn take_last<A: Copy>(told: &[A], known: &mut A)
+    ensures { known.new ≡ latest known.old told.now }
+{
+    if let Some(last) = told.last() {
+        *known = *last;
+    }
+}
+
+impl<D> TurnWorker<D> {
+    ghost use Rattle.std.specs.Prelude.{◌≡◌};
+    ghost use Rattle.ken_links.specs.Rings.{IsRing};
+    ghost use Rattle.ken_ship.specs.Parts.{part_of};
+    ghost use Rattle.ken_ship.specs.Parts.{IsSameWorker as IsSameSender};
+    ghost use Rattle.ken_node.specs.Meeting.{IsEmptied, WasTold};
+    ghost use Rattle.ken_node.specs.Workers.{HearsNews};
+
+    /// All sealed turns of the node, oldest first.
+    pub fn turns(&self) -> &[Effects]
+        ensures { result.now ≡ self.now.turns.items }
+    {
+        self.turns.as_slice()
+    }
+
+    // Takes all that its externaliser told: then all slots of that ring are known to be free. Takes no memory.
+    pub(crate) fn hear_progress(&mut self, sends: &mut SendWorker)
+        requires { IsRing sends.old.told self.old.progress }
+        ensures rest { self.new ≡ record self.old { told = self.new.told; progress = self.new.progress; news = self.new.news; room = self.new.room } }
+        ensures settled { self.new.told.settled ≡ self.old.told.settled }
+        ensures worker { IsSameSender sends.old sends.new }
+        ensures part { part_of sends.new ≡ part_of sends.old }
+        ensures sealed { sends.new.sealed ≡ sends.old.sealed }
+        ensures ends { SamePopEnd self.old.progress self.new.progress × IsRing sends.new.told self.new.progress }
+        ensures told { WasTold (popped self.old.progress) (popped self.new.progress) self.old.told.progress self.new.told.progress }
+        ensures emptied { IsEmptied sends.new.told self.new.progress }
+    {
+        let told = sends.tell(&mut self.progress, &mut self.news);
+        prove!(told.is_ok());
+        take_last(self.news.as_slice(), &mut self.told.progress);
+        self.news.clear();
+    }
+
+    // Takes what it was told from its rings.
+    pub(crate) fn hear_news(&mut self)
+        ensures { HearsNews self.old self.new }
+    {
+        take_news(&mut self.settled, &mut self.told.settled);
+        take_news(&mut self.progress, &mut self.told.progress);
+    }
+}
