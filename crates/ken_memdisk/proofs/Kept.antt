@@ -7,12 +7,7 @@ use Rattle.ken_disk.specs.Steps.{written, made_safe, restarted}
 use Rattle.ken_disk.proofs.Overwrites.{length-overwrite}
 use Rattle.ken_disk.proofs.Images.{image-overwrite, image-seen_at_rest, rests-made_safe, rests-restarted, furthest-least}
 use Rattle.ken_memdisk.specs.Picks.{image_of, picked}
-use Rattle.std.specs.Prelude.{Vec}
-use Rattle.std.specs.declared.alloc.Global.{Global}
-use Rattle.std.proofs.lemmas.List.Sums.{fold_push}
-use Rattle.ken_memdisk.specs.declared.steps.Step.{Step}
-use Rattle.ken_memdisk.specs.declared.steps.Step.TheVariants.{Wrote, Restarted}
-use Rattle.ken_memdisk.specs.Platters.{Differ, IsKept, story_of}
+use Rattle.ken_memdisk.specs.Platters.{Differ, IsKept}
 use Rattle.ken_memdisk.proofs.Images.{image-picked}
 use Rattle.ken_memdisk.proofs.Ranges.{IsIn-reverse, furthest-reverse, furthest-zero}
 
@@ -69,18 +64,18 @@ module _ (seen synced : List ℕ) (ranges : List (ℕ × ℕ)) (s : DiskState) (
   pub bytes-picked : (pick : ℕ) (image : List ℕ) → image ≡ image_of seen synced (reverse ranges) pick → IsBytes image → IsBytes (picked pick s)
   bytes-picked pick image is bytes = subst IsBytes (is ∙ kept-picked pick) bytes
 
--- after a write, after a sync and after a restart, by what each left
-pub kept_by_write : (seen synced new kept_synced : List ℕ) (ranges more : List (ℕ × ℕ)) (steps more_steps : List Step) (at : ℕ) (bytes : List ℕ) (v : Vec ℕ Global) → IsKept seen synced ranges (story_of steps).now
-    → at ≤ length (story_of steps).now.seen → at + length bytes ≤ 2 ^ 40
-    → new ≡ overwrite at bytes seen → kept_synced ≡ synced → more ≡ ranges ++ (at, length bytes) ∷ [] → more_steps ≡ steps ++ Wrote at v ∷ [] → v.items ≡ bytes
-    → IsKept new kept_synced more (story_of more_steps).now
-kept_by_write seen synced new kept_synced ranges more steps more_steps at bytes v kept inside short new_is synced_is more_is steps_is v_is =
-    rw (new_is, synced_is, more_is, steps_is, fold_push, v_is) (kept-written seen synced ranges (story_of steps).now kept at bytes inside short)
+-- after a write and after a restart, by what each left
+pub kept_by_write : (seen synced new kept_synced : List ℕ) (ranges more : List (ℕ × ℕ)) (s after : DiskState) (at : ℕ) (bytes : List ℕ) → IsKept seen synced ranges s
+    → at ≤ length s.seen → at + length bytes ≤ 2 ^ 40
+    → new ≡ overwrite at bytes seen → kept_synced ≡ synced → more ≡ ranges ++ (at, length bytes) ∷ [] → after ≡ written at bytes s
+    → IsKept new kept_synced more after
+kept_by_write seen synced new kept_synced ranges more s after at bytes kept inside short new_is synced_is more_is after_is =
+    rw (new_is, synced_is, more_is, after_is) (kept-written seen synced ranges s kept at bytes inside short)
 
-pub kept_by_restart : (seen synced image copy : List ℕ) (ranges none : List (ℕ × ℕ)) (steps more_steps : List Step) (pick : ℕ) → IsKept seen synced ranges (story_of steps).now
-    → image ≡ image_of seen synced (reverse ranges) pick → copy ≡ image → none ≡ [] → more_steps ≡ steps ++ Restarted pick ∷ []
-    → IsKept image copy none (story_of more_steps).now
-kept_by_restart seen synced image copy ranges none steps more_steps pick kept image_is copy_is none_is steps_is =
-    let is : image ≡ picked pick (story_of steps).now = image_is ∙ kept-picked seen synced ranges (story_of steps).now kept pick in
-    let bound : length (picked pick (story_of steps).now) ≤ 2 ^ 40 = omega (arith, (image-picked pick (story_of steps).now kept.sound).no_longer, kept.longest, kept.bound) in
-    rw (copy_is, none_is, steps_is, fold_push, is) (kept-restarted (picked pick (story_of steps).now) (story_of steps).now bound)
+pub kept_by_restart : (seen synced image copy : List ℕ) (ranges none : List (ℕ × ℕ)) (s after : DiskState) (pick : ℕ) → IsKept seen synced ranges s
+    → image ≡ image_of seen synced (reverse ranges) pick → copy ≡ image → none ≡ [] → after ≡ restarted (picked pick s) s
+    → IsKept image copy none after
+kept_by_restart seen synced image copy ranges none s after pick kept image_is copy_is none_is after_is =
+    let is : image ≡ picked pick s = image_is ∙ kept-picked seen synced ranges s kept pick in
+    let bound : length (picked pick s) ≤ 2 ^ 40 = omega (arith, (image-picked pick s kept.sound).no_longer, kept.longest, kept.bound) in
+    rw (copy_is, none_is, after_is, is) (kept-restarted (picked pick s) s bound)

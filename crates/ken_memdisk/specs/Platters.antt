@@ -1,12 +1,11 @@
 -- How the bytes of a disk in memory are kept.
 use Rattle.std.specs.Prelude.{◌≡◌, ℕ, ◌^◌, ◌<◌, ◌≤◌, List, length, get_or, reverse}
-use Rattle.std.specs.List.{fold}
 use Rattle.ken_disk.specs.Bytes.{IsIn, furthest}
-use Rattle.ken_disk.specs.Story.{DiskState, Story, IsImage, blank}
+use Rattle.ken_disk.specs.Story.{DiskState, Story, IsImage}
 use Rattle.ken_disk.specs.Steps.{written, made_safe, restarted, goes_to}
 use Rattle.ken_memdisk.specs.Picks.{picked}
-use Rattle.ken_memdisk.specs.declared.steps.Step.{Step}
-use Rattle.ken_memdisk.specs.declared.steps.Step.TheVariants.{Wrote, Synced, Restarted}
+use Rattle.ken_memdisk.specs.declared.story.Step.{Step}
+use Rattle.ken_memdisk.specs.declared.story.Step.TheVariants.{Wrote, Synced, Restarted}
 
 -- the crash of a restart
 abbrev pub restart_at : ℕ → Story → Story
@@ -14,13 +13,9 @@ restart_at pick h = goes_to (restarted (picked pick h.now) h.now) h
 
 -- what a step makes of a disk
 abbrev pub after_step : Story → Step → Story
-after_step h (Wrote at bytes) = goes_to (written at bytes.items h.now) h
+after_step h (Wrote at bytes) = goes_to (written at bytes.now h.now) h
 after_step h Synced = goes_to (made_safe h.now) h
 after_step h (Restarted pick) = restart_at pick h
-
--- the story that the steps tell
-abbrev pub story_of : List Step → Story
-story_of steps = fold after_step blank steps
 
 -- the synced bytes differ from those that a read gives only in these ranges, and past their end
 pub record Differ (ranges : List (ℕ × ℕ)) (seen synced : List ℕ) : Type 0 where

@@ -9,7 +9,7 @@ mod cuts;
 mod mem_disk;
 mod picks;
 mod platter;
-mod steps;
+mod story;
 
 pub use cut::Cut;
 pub use mem_disk::MemDisk;

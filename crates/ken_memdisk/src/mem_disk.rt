@@ -6,8 +6,8 @@ use std::alloc::{AllocError, Global};
 use std::marker::Model;
 
 /// A disk in memory. It fails at its cuts, and from a cut on until the next restart. A restart leaves the written bytes for
-/// pick 0, the synced bytes for pick 1, and for each other pick a torn image, the same one each time. The disk keeps all
-/// that was done to it, and so tells its story. Its `hint` is the pick of the cut that was met last, or 0.
+/// pick 0, the synced bytes for pick 1, and for each other pick a torn image, the same one each time. It always tells its
+/// story, which takes no memory. Its `hint` is the pick of the cut that was met last, or 0.
 #[derive(Debug, Drop)]
 pub struct MemDisk {
     platter: Platter,

@@ -1,4 +1,4 @@
-// The bytes of a disk in memory, with all that was done to them.
+// The bytes of a disk in memory.
 ghost use Rattle.std.specs.Prelude.{◌≡◌, ◌+◌, ◌<◌, ◌≤◌, vec_capacity, length, take, drop, true, false, OnOk, OnErr};
 ghost use Rattle.ken_disk.specs.Bytes.{IsBytes};
 ghost use Rattle.ken_disk.specs.Story.{IsImage, blank};
@@ -6,7 +6,7 @@ ghost use Rattle.ken_disk.specs.Steps.{written, made_safe, goes_to};
 ghost use Rattle.ken_memdisk.specs.Picks.{picked};
 ghost use Rattle.ken_memdisk.specs.Platters.{restart_at};
 
-use crate::steps::Step;
+use crate::story::{Step, Story};
 use crate::{bytes, picks};
 use ken_disk::MAX_LEN;
 use std::alloc::{AllocError, Global};
@@ -20,20 +20,19 @@ pub(crate) struct Platter {
     synced: Vec<u8>,
     // The start and length of each range that was written since the last sync or restart, oldest first.
     ranges: Vec<(u64, u64)>,
-    // All that was done, oldest first.
-    steps: Vec<Step>,
+    story: Story,
 }
 
 impl Model for Platter {
-    ghost use Rattle.std.specs.Prelude.{◌&&◌, nat_le, nat_lt, vec_len, vec_capacity};
+    ghost use Rattle.std.specs.Prelude.{nat_le, vec_len, vec_capacity};
     ghost use Rattle.ken_memdisk.specs.Disks.{Held};
-    ghost use Rattle.ken_memdisk.specs.Platters.{story_of, IsKept};
+    ghost use Rattle.ken_memdisk.specs.Platters.{IsKept};
 
     ghost Value = { Held };
 
-    ghost view = { λ p. record { story = story_of p.steps.items; ready = nat_le (vec_len p.seen) (vec_capacity p.synced) && nat_lt (vec_len p.steps) (vec_capacity p.steps) } };
+    ghost view = { λ p. record { story = p.story.told; ready = nat_le (vec_len p.seen) (vec_capacity p.synced) } };
 
-    ghost invariant = { λ p. IsKept p.seen.items p.synced.items p.ranges.items (story_of p.steps.items).now };
+    ghost invariant = { λ p. IsKept p.seen.items p.synced.items p.ranges.items p.story.told.now };
 }
 
 // Takes memory for `len` bytes in all.
@@ -55,7 +54,7 @@ impl Platter {
             seen: Vec::new(alloc),
             synced: Vec::new(alloc),
             ranges: Vec::new(alloc),
-            steps: Vec::new(alloc),
+            story: Story::new(),
         }
     }
 
@@ -82,15 +81,12 @@ impl Platter {
         ensures err { OnErr result (self.new.story ≡ self.old.story) }
     {
         let end = at as usize + bytes.len();
-        let kept = bytes.to_vec(self.alloc)?;
         self.ranges.reserve(1)?;
-        // One for this write, and one for the next sync.
-        self.steps.reserve(2)?;
         reserve_to(&mut self.seen, end)?;
         reserve_to(&mut self.synced, self.seen.len().max(end))?;
         bytes::lay_over(&mut self.seen, at as usize, bytes);
         self.ranges.push((at, bytes.len() as u64)).unwrap();
-        self.steps.push(Step::Wrote(at, kept)).unwrap();
+        self.story = self.story.then(&Step::Wrote(at, bytes));
         Ok(())
     }
 
@@ -100,7 +96,6 @@ impl Platter {
         ensures ready { OnOk result (self.new.ready ≡ true) }
         ensures err { OnErr result (self.old.ready ≡ false) }
     {
-        self.steps.reserve(1)?;
         reserve_to(&mut self.synced, self.seen.len())
     }
 
@@ -110,7 +105,7 @@ impl Platter {
     {
         bytes::catch_up(&self.seen, &mut self.synced, &self.ranges);
         self.ranges.clear();
-        self.steps.push(Step::Synced).unwrap();
+        self.story = self.story.then(&Step::Synced);
     }
 
     pub(crate) fn restart(&mut self, pick: u64) -> Result<(), AllocError>
@@ -119,13 +114,12 @@ impl Platter {
         ensures bytes { OnOk result (IsBytes (picked pick self.old.story.now)) }
         ensures err { OnErr result (self.new.story ≡ self.old.story) }
     {
-        self.steps.reserve(1)?;
         let image = picks::image(self.alloc, pick, &self.seen, &self.synced, &self.ranges)?;
         let copy = bytes::copied(self.alloc, &image)?;
         self.seen = image;
         self.synced = copy;
         self.ranges = Vec::new(self.alloc);
-        self.steps.push(Step::Restarted(pick)).unwrap();
+        self.story = self.story.then(&Step::Restarted(pick));
         Ok(())
     }
 }

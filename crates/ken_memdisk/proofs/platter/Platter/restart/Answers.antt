@@ -7,9 +7,9 @@ use Rattle.ken_memdisk.proofs.Images.{image-picked}
 use Rattle.ken_memdisk.proofs.Kept.{bytes-picked, kept_by_restart}
 use Rattle.ken_memdisk.proofs.platter.Platter.restart.Goals as goal
 
-pub invariant_of-self-2 : goal.invariant_of-self-2
-invariant_of-self-2 c =
-    kept_by_restart _ _ _ _ _ _ c.self.inside.steps.items c.push.new.self.items c.args.pick c.self.invariant (rw (c.deref.ensures.value, c.deref-2.ensures.value, c.deref-3.ensures.value) at c.in_ok-image.ensures) (search rules) (search rules) (search rules)
+pub invariant_of-self : goal.invariant_of-self
+invariant_of-self c =
+    kept_by_restart _ _ _ _ _ _ _ _ c.args.pick c.self.invariant (rw (c.deref.ensures.value, c.deref-2.ensures.value, c.deref-3.ensures.value) at c.in_ok-image.ensures) (search rules) (search rules) (search rules)
 
 pub returns-clause-image : goal.returns-clause-image
 returns-clause-image c =

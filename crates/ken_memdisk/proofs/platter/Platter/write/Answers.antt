@@ -6,4 +6,4 @@ use Rattle.ken_memdisk.proofs.platter.Platter.write.Goals as goal
 pub invariant_of-self-2 : goal.invariant_of-self-2
 invariant_of-self-2 c =
     let inside = ap (λ (h : Held). length h.story.now.seen) c.self.view_is in
-    kept_by_write _ _ _ _ _ _ c.self.inside.steps.items c.push-2.new.self.items c.args.at c.args.bytes.now c.in_ok-kept.kept c.self.invariant (omega (arith, c.requires.place)) c.requires.end (search rules) (search rules) (search rules) (search rules) (search rules)
+    kept_by_write _ _ _ _ _ _ _ _ c.args.at c.args.bytes.now c.self.invariant (omega (arith, c.requires.place)) c.requires.end (search rules) (search rules) (search rules) (search rules)
