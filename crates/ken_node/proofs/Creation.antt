@@ -20,7 +20,7 @@ use Rattle.ken_store.specs.declared.store.Store.{Store}
 use Rattle.ken_store.specs.declared.turning.TurnSide.{TurnSide}
 use Rattle.ken_store.specs.Answers.{TellsAll, disks_in}
 use Rattle.ken_store.specs.Apart.{disks_apart}
-use Rattle.ken_store.specs.Creations.{Creates, FailsBy, IsNew}
+use Rattle.ken_store.specs.Creations.{Creates, FailsBy, IsNew, TellsStill}
 use Rattle.ken_store.specs.Numbers.{no_numbers}
 use Rattle.ken_store.specs.Standing.{Standing}
 use Rattle.ken_store.specs.Turning.{Turning}
@@ -33,7 +33,7 @@ use Rattle.ken_node.specs.declared.parts.Parts.{Parts}
 use Rattle.ken_node.specs.declared.patcher.PatchWorker.{PatchWorker}
 use Rattle.ken_node.specs.declared.stage.Stage.TheVariants.{Uncreated, Created}
 use Rattle.ken_node.specs.declared.worker.TurnWorker.{TurnWorker}
-use Rattle.ken_node.specs.Created.{AreNew, AreOver, IsCreation, IsNewNode, owner_of}
+use Rattle.ken_node.specs.Created.{AreNew, AreOver, IsCreation, IsNewNode, first_order, owner_of}
 use Rattle.ken_node.specs.Faults.{node_answer, store_answer}
 use Rattle.ken_node.specs.First.{AreFirst, IsNewRing}
 use Rattle.ken_node.specs.Stages.{IsUncreated}
@@ -71,7 +71,7 @@ ring_at push push2 pop pop2 e f is = subst (λ x. IsNewRing x pop2) (sym e) (sub
 
 module _ {D : Type 0} (told : D → Option Story) (size : D → ℕ) where
   -- a handler over a new store, for any handler function
-  works : (h : Handler) (x : Parts) (store : Store D) (t : TurnWorker D) (p : PatchWorker D) (s : SendWorker) → x.turns.items ≡ [] → AreOver x store t p s → Turning told size store.turns → store.turns.objects.begun ≡ None
+  works : (h : Handler) (x : Parts) (store : Store D) (t : TurnWorker D) (p : PatchWorker D) (s : SendWorker) → x.turns.items ≡ [] → AreOver x store (first_order x.nodes) t p s → Turning told size store.turns → store.turns.objects.begun ≡ None
       → store.turns.objects.value ≡ empty_heap (256 * x.size) → IsNew (owner_in x) store.turns → Working told size h t
   works h x store t p s none over turning idle value new =
       let is : IsNew (owner_in x) t.side = subst (IsNew (owner_in x)) (sym over.side) new in
@@ -92,7 +92,7 @@ module _ {D : Type 0} (told : D → Option Story) (size : D → ℕ) where
       }
 
   -- the workers that are made of these parts
-  new_workers : (g : Game) (v : ℕ) (x : Parts) (store : Store D) (t : TurnWorker D) (p : PatchWorker D) (s : SendWorker) → IsWithinLimits g → AreFirst g v x → AreOver x store t p s → Standing told size store (first_image_pages (first_heap x.size)) → store.turns.objects.begun ≡ None
+  new_workers : (g : Game) (v : ℕ) (x : Parts) (store : Store D) (t : TurnWorker D) (p : PatchWorker D) (s : SendWorker) → IsWithinLimits g → AreFirst g v x → AreOver x store (first_order x.nodes) t p s → Standing told size store (first_image_pages (first_heap x.size)) → store.turns.objects.begun ≡ None
       → store.turns.objects.value ≡ empty_heap (256 * x.size) → IsNew (owner_in x) store.turns → AreNew told size g v t p s
   new_workers g v x store t p s limits is over standing idle value new =
       let patches : p.side ≡ store.patches = ap (λ (w : PatchWorker D). w.side) over.patches in
@@ -120,19 +120,21 @@ module _ {D : Type 0} (told : D → Option Story) (size : D → ℕ) where
       }
 
   module _ (count : D → ℕ) (fate : D → Option Fate) where
-    pub created_ok : (g : Game) (v : ℕ) (x : Parts) (old : Disks D) (store : Store D) (t : TurnWorker D) (p : PatchWorker D) (s : SendWorker) → IsWithinLimits g → AreFirst g v x → AreOver x store t p s
+    pub created_ok : (g : Game) (v : ℕ) (x : Parts) (old : Disks D) (store : Store D) (t : TurnWorker D) (p : PatchWorker D) (s : SendWorker) → IsWithinLimits g → AreFirst g v x → AreOver x store (first_order x.nodes) t p s
         → Standing told size store (first_image_pages (first_heap x.size)) → store.turns.objects.begun ≡ None → store.turns.objects.value ≡ empty_heap (256 * x.size) → IsNew (owner_in x) store.turns
         → TellsAll told old (λ l i s. Tells (told (disks_in store).log) (λ l2. Tells (told (disks_in store).image) (λ i2. Creates {T = Store D} (owner_in x) (Ok store) l i s l2 i2)))
+        → TellsStill (told old.log) (told (disks_in store).log) × TellsStill (told old.image) (told (disks_in store).image)
         → (disks_in store).second ≡ old.second → FailsBy count fate {T = Store D} (Ok store) old (disks_in store)
         → IsCreation {T = Unit {0}} told size count fate g v (Ok tt) old (Created t p s)
-    created_ok g v x old store t p s limits is over standing idle value new creates second faults = record {
+    created_ok g v x old store t p s limits is over standing idle value new creates tells second faults = record {
       ok = record { turns = t; patches = p; sends = s; stage_is = refl; new = new_workers g v x store t p s limits is over standing idle value new };
       disks = disks_in store;
       has = ap (λ (y : TurnSide D). disks_apart y store.patches) (sym over.side) ∙ ap (λ (y : PatchSide D). disks_apart t.side y) (sym (ap (λ (w : PatchWorker D). w.side) over.patches));
       err = tt;
       creates = λ l el i ei s es l2 el2 i2 ei2.
           let made = creates l el i ei s es l2 el2 i2 ei2 in
-          subst (λ (o : Owner). Creates {T = Unit {0}} o (Ok tt) l i s l2 i2) (owner_is g v x is) (record { before = made.before; order = made.order; any_moment = made.any_moment; ok = made.ok });
+          subst (λ (o : Owner). Creates {T = Unit {0}} o (Ok tt) l i s l2 i2) (owner_is g v x is) (record { before = made.before; order = made.order; logs = made.logs; any_moment = made.any_moment; ok = made.ok });
+      tells = tells;
       second = second;
       faults = faults;
     }
@@ -145,9 +147,10 @@ module _ {D : Type 0} (told : D → Option Story) (size : D → ℕ) where
 
     pub created_err : (g : Game) (v : ℕ) (x : Parts) (old disks : Disks D) (fault : StoreFault) → IsWithinLimits g → v < g.nodes → AreFirst g v x
         → TellsAll told old (λ l i s. Tells (told disks.log) (λ l2. Tells (told disks.image) (λ i2. Creates {T = Store D} (owner_in x) (Err fault) l i s l2 i2)))
+        → TellsStill (told old.log) (told disks.log) × TellsStill (told old.image) (told disks.image)
         → disks.second ≡ old.second → FailsBy count fate {T = Store D} (Err fault) old disks
         → IsCreation {T = Unit {0}} told size count fate g v (node_answer (Err fault)) old (Uncreated disks x)
-    created_err g v x old disks fault limits known is creates second faults =
+    created_err g v x old disks fault limits known is creates tells second faults =
         let answer : Result (Unit {0}) StoreFault = Err fault in
         let back : answer ≡ store_answer (node_answer answer) = sym (store_answer-node_answer answer) in
         record {
@@ -158,7 +161,8 @@ module _ {D : Type 0} (told : D → Option Story) (size : D → ℕ) where
           creates = λ l el i ei s es l2 el2 i2 ei2.
               let made = creates l el i ei s es l2 el2 i2 ei2 in
               subst (λ (r : Result (Unit {0}) StoreFault). Creates (owner_of g v) r l i s l2 i2) back
-              (subst (λ (o : Owner). Creates o answer l i s l2 i2) (owner_is g v x is) (record { before = made.before; order = made.order; any_moment = made.any_moment; ok = tt }));
+              (subst (λ (o : Owner). Creates o answer l i s l2 i2) (owner_is g v x is) (record { before = made.before; order = made.order; logs = made.logs; any_moment = made.any_moment; ok = tt }));
+          tells = tells;
           second = second;
           faults = subst (λ (r : Result (Unit {0}) StoreFault). FailsBy count fate r old disks) back (fails_as fault old disks faults);
         }

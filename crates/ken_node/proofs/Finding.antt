@@ -10,7 +10,7 @@ use Rattle.ken_node.specs.Hearing.{Listened, chosen}
 use Rattle.ken_node.specs.Making.{IsMessage}
 use Rattle.ken_node.specs.News.{AreInputs}
 
-some_of : {A : Type 0} (o : Option A) → IsSome o → (x : A) × (o ≡ Some x)
+pub some_of : {A : Type 0} (o : Option A) → IsSome o → (x : A) × (o ≡ Some x)
 some_of (Some x) is = (x, refl)
 some_of None is = absurd cc
 

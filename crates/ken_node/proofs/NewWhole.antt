@@ -4,7 +4,9 @@ use Rattle.std.proofs.lemmas.Bool.{cases_lt}
 use Rattle.std.proofs.lemmas.List.{get_or-replicate, get_or_past, length-replicate}
 use Rattle.ken_disk.specs.Story.{Story}
 use Rattle.ken_model.specs.declared.values.Value.{Value}
+use Rattle.ken_model.specs.Game.{Game}
 use Rattle.ken_model.specs.Layout.{first_heap}
+use Rattle.ken_model.specs.Limits.{IsWithinLimits}
 use Rattle.ken_model.specs.Network.{empty_heap}
 use Rattle.ken_model.specs.Reading.{read_value}
 use Rattle.ken_model.proofs.First.{first_is_empty}
@@ -21,7 +23,7 @@ use Rattle.ken_store.specs.declared.owner.Owner.{Owner}
 use Rattle.ken_store.specs.Numbers.{no_numbers}
 use Rattle.ken_store.specs.Recovered.{state_of}
 use Rattle.ken_store.specs.Turning.{live_layers, state_in, turn_pages}
-use Rattle.ken_ship.specs.Laws.{IsDueOf, IsStateOf}
+use Rattle.ken_ship.specs.Laws.{HasSent, IsDueOf, IsStateOf}
 use Rattle.ken_ship.specs.Parts.{Part}
 use Rattle.ken_ship.proofs.Emissions.{nothing_is_due_first}
 use Rattle.ken_ship.proofs.Numbered.{drop_nothing}
@@ -31,12 +33,12 @@ use Rattle.ken_node.specs.NewLaws.{NewAreWhole}
 use Rattle.ken_node.specs.Whole.{AreNumbersOf, HasReached, IsSettledAt, WereTold}
 
 -- zeros
-zero-at : (n u : ℕ) → slice_index (replicate n 0) u ≡ 0
+pub zero-at : (n u : ℕ) → slice_index (replicate n 0) u ≡ 0
 zero-at n u =
     let long = length-replicate {A = ℕ} n 0 in
     ⊎_elim (λ (low : u < n). get_or-replicate n u 0 0 low) (λ (high : n ≤ u). get_or_past (replicate n 0) u 0 (omega (arith, long, high))) (cases_lt u n)
 
-none-counted : (v : ℕ) → AreNumbersOf v [] no_numbers
+pub none-counted : (v : ℕ) → AreNumbersOf v [] no_numbers
 none-counted v = record {
   turns = refl;
   stamp = refl;
@@ -50,13 +52,40 @@ none-counted v = record {
 none-told : {A : Type 0} (P : A → Type 0) (pushed popped : List A) (known first : A) → pushed ≡ [] → popped ≡ [] → known ≡ first → P first → WereTold P pushed popped known
 none-told {A} P pushed popped known first no_push no_pop is holds = record { queue = []; ring = no_push ∙ sym (ap (λ (xs : List A). xs ++ []) no_pop); each = (subst P (sym is) holds, tt) }
 
+-- a heap of a run has pages, and not too many
+pub heap-sized : (g : Game) → IsWithinLimits g → (0 < heap_pages g) × (heap_pages g ≤ 4096) × (g.size ≡ 256 * heap_pages g)
+heap-sized g limits =
+    let is = limits.pages in
+    let many : heap_pages g ≡ is.0 = let e = is.3 in omega (arith, e) in
+    (let some = is.1 in omega (arith, some, many), let most = is.2 in omega (arith, most, many), let e = is.3 in omega (arith, e, many))
+
+-- the first heap is the empty one
+pub first-reads : (g : Game) → IsWithinLimits g → read_value (first_heap (heap_pages g)) ≡ Some (empty_heap g.size)
+first-reads g limits =
+    let some = heap-sized g limits in
+    read_some (first_heap (heap_pages g)) (empty_heap (256 * heap_pages g)) (first_is_empty (heap_pages g) some.0 some.1)
+    ∙ ap (λ (k : ℕ). Some (empty_heap k)) (sym some.2)
+
+-- a log with no record tells a node at its start
+pub first-state : (g : Game) (v : ℕ) → IsStateOf g v (recovered_node (first_node g)) (state_of v no_numbers None [])
+first-state g v = record {
+  width = length-replicate {A = ℕ} 8 0;
+  sent = λ u low. zero-at 8 u;
+  messages = λ u low. sym (drop_nothing (slice_index (replicate g.nodes 0) u));
+  outputs = refl;
+  outs = refl;
+}
+
+pub first-sent : (g : Game) (v : ℕ) → HasSent g v (recovered_node (first_node g))
+first-sent g v = record { acked = λ u low. let zero_is = zero-at g.nodes u in omega (arith, zero_is); emitted = omega arith }
+
 module _ {D : Type 0} (told : D → Option Story) (size : D → ℕ) where
   pub new_are_whole : NewAreWhole told size
   new_are_whole g v t p s limits new =
       let n : Node = first_node g in
       let owner = new.new.owner in
       let pages : ℕ = heap_pages g in
-      let some : (0 < pages) × (pages ≤ 4096) × (g.size ≡ 256 * pages) = heap-sized in
+      let some : (0 < pages) × (pages ≤ 4096) × (g.size ≡ 256 * pages) = heap-sized g limits in
       let owner_pages : t.side.owner.pages ≡ pages = ap (λ (o : Owner). o.pages) owner in
       let covers = new.stands.covers in
       let heap : (turn_pages t.side).heap ≡ first_heap pages = sym (covers.goal refl) in
@@ -72,16 +101,11 @@ module _ {D : Type 0} (told : D → Option Story) (size : D → ℕ) where
           turns = record {
             kept = new.turns;
             counted = subst (AreNumbersOf v []) (sym new.new.numbers) (none-counted v);
-            reads =
-                ap read_value heap
-                ∙ read_some (first_heap pages) (empty_heap (256 * pages)) (first_is_empty pages some.0 some.1)
-                ∙ ap (λ (k : ℕ). Some (empty_heap k)) (sym some.2)
-                ∙ ap (λ (x : Value). Some x) (sym new.value);
+            reads = ap read_value heap ∙ first-reads g limits ∙ ap (λ (x : Value). Some x) (sym new.value);
           };
           log = record {
-            state = subst (IsStateOf g v (recovered_node n)) (sym state)
-                (record { width = length-replicate {A = ℕ} 8 0; sent = λ u low. zero-at 8 u; messages = λ u low. sym (drop_nothing (slice_index (replicate g.nodes 0) u)); outputs = refl; outs = refl });
-            sent = record { acked = λ u low. let zero_is = zero-at g.nodes u in omega (arith, zero_is); emitted = omega arith };
+            state = subst (IsStateOf g v (recovered_node n)) (sym state) (first-state g v);
+            sent = first-sent g v;
             width = length-replicate {A = ℕ} g.nodes 0;
           };
           sends = record {
@@ -113,12 +137,6 @@ module _ {D : Type 0} (told : D → Option Story) (size : D → ℕ) where
         };
       }
     where
-      heap-sized : (0 < heap_pages g) × (heap_pages g ≤ 4096) × (g.size ≡ 256 * heap_pages g)
-      heap-sized =
-          let is = limits.pages in
-          let many : heap_pages g ≡ is.0 = let e = is.3 in omega (arith, e) in
-          (let some = is.1 in omega (arith, some, many), let most = is.2 in omega (arith, most, many), let e = is.3 in omega (arith, e, many))
-
       no-live : (turn_pages t.side).live ≡ []
       no-live =
           ap (λ (x : Option Base). live_layers t.side.log.header x t.side.base_turns.items t.side.records.items) new.new.base

@@ -84,32 +84,42 @@ between-numbered from to bytes m e = by (alone (body_at bytes)) e
     by None e = absurd cc
     by (Some x) e = one x (are_nodes from to && nat_lt 0 x.0.0 && nat_lt 0 x.0.1) refl e
 
-pub mail-numbered : (bytes : List ℕ) (m : Message) → packet_of bytes ≡ Some (SpelledMail m) → 0 < m.number
-unfolding packet_of
-mail-numbered bytes m e = by (head_at bytes) e
-  where
-    mail : (x : (ℕ × (ℕ × ℕ)) × List ℕ) (o : Option Message) → mail_between x.0.1.0 x.0.1.1 x.1 ≡ o → (o >>= λ y. Some (SpelledMail y)) ≡ Some (SpelledMail m) → 0 < m.number
-    mail x None is e = absurd cc
-    mail x (Some y) is e = let it : y ≡ m = cc in between-numbered x.0.1.0 x.0.1.1 x.1 m (is ∙ ap (λ (z : Message). Some z) it)
+-- what was read between two ends
+pub record IsRead (m : Message) : Type 0 where
+  pub from : ℕ
+  pub to : ℕ
+  pub rest : List ℕ
+  pub between : mail_between from to rest ≡ Some m
 
-    receipt : (x : (ℕ × (ℕ × ℕ)) × List ℕ) (o : Option ℕ) → (o >>= λ through. Some (Ack x.0.1.0 x.0.1.1 through)) ≡ Some (SpelledMail m) → 0 < m.number
+pub mail-read : (bytes : List ℕ) (m : Message) → packet_of bytes ≡ Some (SpelledMail m) → IsRead m
+unfolding packet_of
+mail-read bytes m e = by (head_at bytes) e
+  where
+    mail : (x : (ℕ × (ℕ × ℕ)) × List ℕ) (o : Option Message) → mail_between x.0.1.0 x.0.1.1 x.1 ≡ o → (o >>= λ y. Some (SpelledMail y)) ≡ Some (SpelledMail m) → IsRead m
+    mail x None is e = absurd cc
+    mail x (Some y) is e = let it : y ≡ m = cc in record { from = x.0.1.0; to = x.0.1.1; rest = x.1; between = is ∙ ap (λ (z : Message). Some z) it }
+
+    receipt : (x : (ℕ × (ℕ × ℕ)) × List ℕ) (o : Option ℕ) → (o >>= λ through. Some (Ack x.0.1.0 x.0.1.1 through)) ≡ Some (SpelledMail m) → IsRead m
     receipt x None e = absurd cc
     receipt x (Some through) e = absurd cc
 
-    second : (x : (ℕ × (ℕ × ℕ)) × List ℕ) (b : Bool) → (if b then (through_between x.0.1.0 x.0.1.1 x.1 >>= λ through. Some (Ack x.0.1.0 x.0.1.1 through)) else None) ≡ Some (SpelledMail m) → 0 < m.number
+    second : (x : (ℕ × (ℕ × ℕ)) × List ℕ) (b : Bool) → (if b then (through_between x.0.1.0 x.0.1.1 x.1 >>= λ through. Some (Ack x.0.1.0 x.0.1.1 through)) else None) ≡ Some (SpelledMail m) → IsRead m
     second x true e = receipt x (through_between x.0.1.0 x.0.1.1 x.1) e
     second x false e = absurd cc
 
     first : (x : (ℕ × (ℕ × ℕ)) × List ℕ) (b : Bool)
-        → (if b then (mail_between x.0.1.0 x.0.1.1 x.1 >>= λ y. Some (SpelledMail y)) else if x.0.0 == 2 then (through_between x.0.1.0 x.0.1.1 x.1 >>= λ through. Some (Ack x.0.1.0 x.0.1.1 through)) else None) ≡ Some (SpelledMail m) → 0 < m.number
+        → (if b then (mail_between x.0.1.0 x.0.1.1 x.1 >>= λ y. Some (SpelledMail y)) else if x.0.0 == 2 then (through_between x.0.1.0 x.0.1.1 x.1 >>= λ through. Some (Ack x.0.1.0 x.0.1.1 through)) else None) ≡ Some (SpelledMail m) → IsRead m
     first x true e = mail x (mail_between x.0.1.0 x.0.1.1 x.1) refl e
     first x false e = second x (x.0.0 == 2) e
 
     by : (o : Option ((ℕ × (ℕ × ℕ)) × List ℕ))
         → (o >>= λ x. if x.0.0 == 1 then (mail_between x.0.1.0 x.0.1.1 x.1 >>= λ y. Some (SpelledMail y)) else if x.0.0 == 2 then (through_between x.0.1.0 x.0.1.1 x.1 >>= λ through. Some (Ack x.0.1.0 x.0.1.1 through)) else None)
-        ≡ Some (SpelledMail m) → 0 < m.number
+        ≡ Some (SpelledMail m) → IsRead m
     by None e = absurd cc
     by (Some x) e = first x (x.0.0 == 1) e
+
+pub mail-numbered : (bytes : List ℕ) (m : Message) → packet_of bytes ≡ Some (SpelledMail m) → 0 < m.number
+mail-numbered bytes m e = let read = mail-read bytes m e in between-numbered read.from read.to read.rest m read.between
 
 -- a sender of the run, of which something was consumed
 abbrev pub WasConsumed : Consumed → ℕ → Type 0

@@ -63,7 +63,7 @@ module _ {D : Type 0} (told : D → Option Story) (size : D → ℕ) (g : Game) 
         progress = told-by (HasReached g n) (HasReached g n2) (pushed s.told) (popped t.progress) t.told.progress (λ x is. record { acked = is.acked; emitted = is.emitted }) w.progress;
       }
 
-  joined-patcher : (t : TurnWorker D) (p p2 : PatchWorker D) (s : SendWorker) → AreJoined t p s → IsSamePatcher p p2 → AreJoined t p2 s
+  pub joined-patcher : (t : TurnWorker D) (p p2 : PatchWorker D) (s : SendWorker) → AreJoined t p s → IsSamePatcher p p2 → AreJoined t p2 s
   joined-patcher t p p2 s joined same = record {
     pages = ring-popped t.pages p.pages p2.pages joined.pages same.pages;
     sealed = joined.sealed;
@@ -127,7 +127,7 @@ module _ {D : Type 0} (told : D → Option Story) (size : D → ℕ) (g : Game) 
       let n2 : Node = record n { patching = image } in
       subst (λ (xs : List ℕ). WereTold (IsSettledAt n2) xs (popped t.settled) t.told.settled) (sym (ap pushed same)) (told-by (IsSettledAt n) (IsSettledAt n2) (pushed p.settled) (popped t.settled) t.told.settled by were)
 
-  covers-node : (n : Node) (t : TurnWorker D) (p : PatchWorker D) → 256 * t.side.owner.pages ≡ g.size → HavePages told size n t p → Covers (heap_pages g) true n.turning.pages n.patching
+  pub covers-node : (n : Node) (t : TurnWorker D) (p : PatchWorker D) → 256 * t.side.owner.pages ≡ g.size → HavePages told size n t p → Covers (heap_pages g) true n.turning.pages n.patching
   covers-node n t p sized pages =
       let many : heap_pages g ≡ t.side.owner.pages = omega (arith, sized) in
       subst (λ (k : ℕ). Covers k true n.turning.pages n.patching) (sym many)

@@ -15,6 +15,7 @@ use Rattle.ken_model.specs.Game.{Game}
 use Rattle.ken_model.specs.Network.{Turn, are_words, handled, outputs_from, turn_at}
 use Rattle.ken_model.specs.Reading.{read_value}
 use Rattle.ken_model.proofs.ReadBack.{read_some}
+use Rattle.ken_record.specs.declared.base.Base.{Base}
 use Rattle.ken_record.specs.declared.effects.Effects.{Effects}
 use Rattle.ken_record.specs.declared.page.Page.{Page}
 use Rattle.ken_record.specs.declared.record.Record.{Record}
@@ -32,7 +33,9 @@ use Rattle.ken_store.specs.declared.numbers.Numbers.{Numbers}
 use Rattle.ken_store.specs.declared.owner.Owner.{Owner}
 use Rattle.ken_store.specs.declared.turning.TurnSide.{TurnSide}
 use Rattle.ken_store.specs.Apart.{Apart, hand_all}
-use Rattle.ken_store.specs.Kept.{messages_in, messages_to, outs_in}
+use Rattle.ken_store.specs.Numbers.{after_record}
+use Rattle.ken_store.specs.Recovered.{state_of}
+use Rattle.ken_store.specs.Kept.{messages_in, messages_to}
 use Rattle.ken_store.specs.Turning.{IsChangedPage, IsSealed, KeepsLog, HasPages, MaySeal as MaySealOn, Turning, record_of, sealed_bytes, state_in, turn_pages}
 use Rattle.ken_store.proofs.AheadLaws.{seal_keeps_settled}
 use Rattle.ken_store.proofs.ApartLaws.{seal_keeps_apart, turn_keeps_apart}
@@ -40,7 +43,7 @@ use Rattle.ken_store.proofs.ApartPages.{hand_all-last}
 use Rattle.ken_store.proofs.Sealing.{Comes, comes, pages_are}
 use Rattle.ken_ship.specs.declared.worker.SendWorker.{SendWorker}
 use Rattle.ken_ship.specs.Handing.{with_turns}
-use Rattle.ken_ship.specs.Laws.{IsDueOf, IsStateOf, IsTurnOf}
+use Rattle.ken_ship.specs.Laws.{HasSent, IsDueOf, IsStateOf, IsTurnOf}
 use Rattle.ken_ship.specs.Parts.{part_of}
 use Rattle.ken_ship.proofs.Emissions.{handed_over_is_due}
 use Rattle.ken_node.specs.declared.patcher.PatchWorker.{PatchWorker}
@@ -50,6 +53,7 @@ use Rattle.ken_node.specs.Making.{IsMade, frozen_pages_of}
 use Rattle.ken_node.specs.Meeting.{AreJoined}
 use Rattle.ken_node.specs.Patches.{waits_of}
 use Rattle.ken_node.specs.Sealing.{coming_pages, coming_turn}
+use Rattle.ken_node.specs.TurnLaws.{turn_made}
 use Rattle.ken_node.specs.Whole.{AreNumbersOf, HasReached, IsSettledAt, IsWhole, WereTold}
 use Rattle.ken_node.specs.Workers.{Working}
 use Rattle.ken_node.proofs.NumbersAfter.{numbers-after, outs-push}
@@ -89,13 +93,10 @@ pub record IsNextOf (g : Game) (put : Packet → Type 0) (v : ℕ) (n : Node) (m
   pub number : m.number ≡ consumed_from m.from n.turning.turns + 1
   pub came : Came g put v m
 
--- the turn that a handler's worker made, and how its node has it
-abbrev pub turn_made : Message → Effects → Effect → Turn
-turn_made m e effect = record { message = m; draws = e.draws; stamp = e.stamp; effect = effect }
-
 module _ {D : Type 0} (told : D → Option Story) (size : D → ℕ) (g : Game) (v : ℕ) (n : Node) (t : TurnWorker D) (p : PatchWorker D) (s : SendWorker) (whole : IsWhole told size g v n t p s) (m : Message) (e : Effects) (begun : TurnSide D) (made : IsMade g.handler m e t.side begun)
     (may : MaySealOn begun e) where
-  abbrev turn : Turn
+  -- the turn that its worker made, as its node has it
+  abbrev pub turn : Turn
   turn = turn_made m e made.effect
 
   owner-node : t.side.owner.node ≡ v
@@ -131,24 +132,29 @@ module _ {D : Type 0} (told : D → Option Story) (size : D → ℕ) (g : Game) 
   heap-is : n.turning.pages.heap ≡ t.side.objects.bytes
   heap-is = ap (λ (x : TurnPages). x.heap) whole.pages.turning ∙ ap (sealed_bytes t.side.objects.bytes) whole.workers.working.idle
 
-  begun-heap : (turn_pages begun).heap ≡ n.turning.pages.heap
+  pub begun-heap : (turn_pages begun).heap ≡ n.turning.pages.heap
   begun-heap = ap (λ (x : TurnPages). x.heap) (begun-pages t.side begun made.same whole.workers.working.idle made.begun ∙ sym whole.pages.turning)
 
-  -- the handler makes this turn of the message
+  -- what the handler makes of the message
+  pub handler-made : g.handler.after v g.nodes t.side.objects.value m e.draws ≡ Some made.effect
+  handler-made =
+      ap (λ (k : ℕ). g.handler.after k g.nodes t.side.objects.value m e.draws) (sym owner-node)
+      ∙ ap (λ (k : ℕ). g.handler.after t.side.owner.node k t.side.objects.value m e.draws) (sym owner-nodes)
+      ∙ made.made
+
+  -- and the turn
   turn-made : turn_at g v (place_at n t.side.objects.value) turn.draws m ≡ Some turn
   unfolding turn_at
   turn-made =
       let value : Value = t.side.objects.value in
       let words : are_words e.draws ≡ true = words-are e.draws made.words in
-      let after : g.handler.after v g.nodes value m e.draws ≡ Some made.effect =
-      ap (λ (k : ℕ). g.handler.after k g.nodes value m e.draws) (sym owner-node) ∙ ap (λ (k : ℕ). g.handler.after t.side.owner.node k value m e.draws) (sym owner-nodes) ∙ made.made in
-      let does : handled g v value m e.draws ≡ Some made.effect = ap (λ (b : Bool). if b then g.handler.after v g.nodes value m e.draws else None) words ∙ after in
+      let does : handled g v value m e.draws ≡ Some made.effect = ap (λ (b : Bool). if b then g.handler.after v g.nodes value m e.draws else None) words ∙ handler-made in
       let stamp : max (place_at n value).stamp m.stamp + 1 ≡ e.stamp = ap (λ (k : ℕ). max k m.stamp + 1) (sym whole.workers.turns.counted.stamp) ∙ sym stamp-is in
       ap (option_map (λ (x : Effect). record { message = m; draws = e.draws; stamp = max (place_at n value).stamp m.stamp + 1; effect = x })) does
       ∙ ap (λ (k : ℕ). Some (record { message = m; draws = e.draws; stamp = k; effect = made.effect })) stamp
 
   -- the pages that the turn changed, which laid over the heap make it the one that the turn leaves
-  comes-of : Comes begun.owner begun.numbers (begun.numbers.turns + 1) e begun.objects.begun begun.objects.bytes
+  pub comes-of : Comes begun.owner begun.numbers (begun.numbers.turns + 1) e begun.objects.begun begun.objects.bytes
   comes-of =
       let same : t.side.owner.pages ≡ begun.owner.pages = ap (λ (o : Owner). o.pages) (sym made.same.owner) in
       let most : begun.owner.pages ≤ 4096 = let few = whole.workers.working.side.owner.most in omega (arith, same, few) in
@@ -165,6 +171,14 @@ module _ {D : Type 0} (told : D → Option Story) (size : D → ℕ) (g : Game) 
       subst (λ (heap : List ℕ). AreChanged heap (coming_pages begun)) begun-heap
       (record { rising = are.rising; each = all_by (IsChangedPage (turn_pages begun).heap) (IsChanged (turn_pages begun).heap) (λ x is. record { within = is.within; bytes = is.bytes; differs = is.differs }) (coming_pages begun) are.each })
 
+  -- and stands for its value
+  pub stands-after : read_value (overlay n.turning.pages.heap (coming_pages begun)) ≡ Some made.effect.value
+  stands-after =
+      ap (λ (heap : List ℕ). read_value (overlay heap (coming_pages begun))) (sym begun-heap)
+      ∙ ap read_value comes-of.laid
+      ∙ read_some begun.objects.bytes begun.objects.value made.stands
+      ∙ ap (λ (x : Value). Some x) made.value
+
   -- the node may seal the turn
   pub may-seal : (put : Packet → Type 0) → length n.turning.turns < g.turns → IsNextOf g put v n m → MaySeal g put v n m.from e.draws (coming_pages begun) turn
   may-seal put few next = record {
@@ -179,79 +193,92 @@ module _ {D : Type 0} (told : D → Option Story) (size : D → ℕ) (g : Game) 
     drawn = refl;
     made = turn-made;
     changed = pages-changed;
-    stands = ap (λ (heap : List ℕ). read_value (overlay heap (coming_pages begun))) (sym begun-heap) ∙ ap read_value comes-of.laid ∙ read_some begun.objects.bytes begun.objects.value made.stands ∙ ap (λ (x : Value). Some x) made.value;
+    stands = stands-after;
   }
+
+  -- ---- what its record tells
+
+  abbrev pub coming : Record
+  coming = record_of (coming_turn begun) e (coming_pages begun)
+
+  abbrev pub after : Node
+  after = sealed_node v turn (coming_pages begun) n
+
+  pub turns-are : after.turning.turns ≡ n.turning.turns ++ e ∷ []
+  turns-are = ap (λ (x : Effects). n.turning.turns ++ x ∷ []) (sym effects-are)
+
+  pub own-after : after.turning.turns ≡ sealed v (whole.workers.sends.due.own ++ turn ∷ [])
+  own-after = ap (λ es. es ++ effects_of v es turn ∷ []) whole.workers.sends.due.turns ∙ sym (sealed-push v whole.workers.sends.due.own turn)
+
+  pub number-is : coming_turn begun ≡ length n.turning.turns + 1
+  number-is = ap (λ (x : Numbers). x.turns + 1) made.same.numbers ∙ ap (λ (k : ℕ). k + 1) whole.workers.turns.counted.turns
+
+  pub counted-after : AreNumbersOf v after.turning.turns (after_record begun.numbers coming)
+  counted-after =
+      let nodes : begun.owner.nodes ≤ 8 = subst (λ (o : Owner). o.nodes ≤ 8) (sym made.same.owner) whole.workers.working.side.owner.nodes in
+      let before : AreNumbersOf v n.turning.turns begun.numbers = subst (AreNumbersOf v n.turning.turns) (sym made.same.numbers) whole.workers.turns.counted in
+      subst (λ es. AreNumbersOf v es (after_record begun.numbers coming)) (sym turns-are) (numbers-after v begun.owner begun.numbers n.turning.turns e (coming_turn begun) (coming_pages begun) nodes may.follows refl before)
+
+  mails-push : (u : ℕ) → mails_to v u after.turning.turns ≡ mails_to v u n.turning.turns ++ mails_in v u e
+  mails-push u = ap (mails_to v u) turns-are ∙ mails_to-push v u n.turning.turns e
+
+  outs-more : outs_of after.turning.turns ≡ outs_of n.turning.turns ++ e.outs
+  outs-more = ap outs_of turns-are ∙ outs-push n.turning.turns e
+
+  more-mails : (u : ℕ) → length (mails_to v u n.turning.turns) ≤ length (mails_to v u after.turning.turns)
+  more-mails u = let count = ap length (mails-push u) ∙ length-append (mails_to v u n.turning.turns) (mails_in v u e) in omega (arith, count)
+
+  more-outs : length (outs_of n.turning.turns) ≤ length (outs_of after.turning.turns)
+  more-outs = let count = ap length outs-more ∙ length-append (outs_of n.turning.turns) e.outs in omega (arith, count)
+
+  -- with it the log tells the state with the turn
+  pub state-after : IsStateOf g v (recovered_node after) (state_of v (after_record begun.numbers coming) t.side.log.base (t.side.records.items ++ coming ∷ []))
+  state-after =
+      let w = whole.workers in
+      let old = w.log.state in
+      let counted = counted-after in
+      record {
+        width = counted.receivers;
+        sent = λ u low. counted.sent u;
+        messages = λ u low.
+            let few : u < 8 = let nodes = owner-nodes in let most = w.working.side.owner.nodes in omega (arith, low, nodes, most) in
+            let a : ℕ = slice_index n.turning.retired u in
+            let mails : List Message = mails_to v u n.turning.turns in
+            let before : messages_to v t.side.log.base t.side.records.items u ≡ drop a mails =
+            sym (messages-one v t.side.log.base t.side.records.items u few) ∙ ap (λ (k : ℕ). sent_to u (messages_in k t.side.log.base t.side.records.items)) (sym owner-node) ∙ old.messages u low in
+            messages-one v t.side.log.base (t.side.records.items ++ coming ∷ []) u few
+            ∙ messages-push v t.side.log.base t.side.records.items (coming_turn begun) e (coming_pages begun) u
+            ∙ ap (λ (ms : List Message). ms ++ mails_in v u e) before
+            ∙ sym (drop-append-le a mails (mails_in v u e) (w.log.sent.acked u low))
+            ∙ ap (drop a) (sym (mails-push u));
+        outputs = counted.outputs;
+        outs =
+            state-outs-push t.side.log.base t.side.records.items (coming_turn begun) e (coming_pages begun)
+            ∙ ap (λ (os : List Out). os ++ e.outs) old.outs
+            ∙ sym (drop-append-le n.turning.retired_outs (outs_of n.turning.turns) e.outs w.log.sent.emitted)
+            ∙ ap (drop n.turning.retired_outs) (sym outs-more);
+      }
+
+  pub sent-after : HasSent g v (recovered_node after)
+  sent-after =
+      let old = whole.workers.log.sent in
+      record { acked = λ u low. let before = old.acked u low in let more = more-mails u in omega (arith, before, more); emitted = let before = old.emitted in let more = more-outs in omega (arith, before, more) }
 
   -- ---- and it was sealed
 
   module _ (t2 : TurnWorker D) (is : IsSealed e begun (coming_turn begun) (coming_pages begun) t2.side) (owner : t2.side.owner ≡ begun.owner) (kept : IsKept (coming_turn begun) m e begun t t2) (working : Working told size g.handler t2) (joined : AreJoined t2 p s) where
-    abbrev after : Node
-    after = sealed_node v turn (coming_pages begun) n
-
-    turns-are : after.turning.turns ≡ n.turning.turns ++ e ∷ []
-    turns-are = ap (λ (x : Effects). n.turning.turns ++ x ∷ []) (sym effects-are)
-
-    number-is : coming_turn begun ≡ length n.turning.turns + 1
-    number-is = ap (λ (x : Numbers). x.turns + 1) made.same.numbers ∙ ap (λ (k : ℕ). k + 1) whole.workers.turns.counted.turns
-
     owner-is : t2.side.owner ≡ t.side.owner
     owner-is = owner ∙ made.same.owner
 
-    counted-after : AreNumbersOf v after.turning.turns t2.side.numbers
-    counted-after =
-        let nodes : begun.owner.nodes ≤ 8 = subst (λ (o : Owner). o.nodes ≤ 8) (sym made.same.owner) whole.workers.working.side.owner.nodes in
-        let before : AreNumbersOf v n.turning.turns begun.numbers = subst (AreNumbersOf v n.turning.turns) (sym made.same.numbers) whole.workers.turns.counted in
-        subst (λ es. AreNumbersOf v es t2.side.numbers) (sym turns-are)
-        (subst (AreNumbersOf v (n.turning.turns ++ e ∷ [])) (sym is.numbers) (numbers-after v begun.owner begun.numbers n.turning.turns e (coming_turn begun) (coming_pages begun) nodes may.follows refl before))
-
-    mails-push : (u : ℕ) → mails_to v u after.turning.turns ≡ mails_to v u n.turning.turns ++ mails_in v u e
-    mails-push u = ap (mails_to v u) turns-are ∙ mails_to-push v u n.turning.turns e
-
-    outs-more : outs_of after.turning.turns ≡ outs_of n.turning.turns ++ e.outs
-    outs-more = ap outs_of turns-are ∙ outs-push n.turning.turns e
-
-    more-mails : (u : ℕ) → length (mails_to v u n.turning.turns) ≤ length (mails_to v u after.turning.turns)
-    more-mails u = let count = ap length (mails-push u) ∙ length-append (mails_to v u n.turning.turns) (mails_in v u e) in omega (arith, count)
-
-    more-outs : length (outs_of n.turning.turns) ≤ length (outs_of after.turning.turns)
-    more-outs = let count = ap length outs-more ∙ length-append (outs_of n.turning.turns) e.outs in omega (arith, count)
-
-    -- the log tells the state with the turn
-    state-after : IsStateOf g v (recovered_node after) (state_in t2.side)
-    state-after =
-        let w = whole.workers in
-        let old = w.log.state in
-        let counted = counted-after in
-        let r : Record = record_of (coming_turn begun) e (coming_pages begun) in
+    state-then : state_in t2.side ≡ state_of v (after_record begun.numbers coming) t.side.log.base (t.side.records.items ++ coming ∷ [])
+    state-then =
         let node : t2.side.owner.node ≡ v = ap (λ (o : Owner). o.node) owner-is ∙ owner-node in
         let base : t2.side.log.base ≡ t.side.log.base = is.base ∙ ap (λ x. x.base) made.same.log in
-        let items : t2.side.records.items ≡ t.side.records.items ++ r ∷ [] = is.records ∙ ap (λ (rs : List Record). rs ++ r ∷ []) made.same.records in
-        record {
-          width = counted.receivers;
-          sent = λ u low. counted.sent u;
-          messages = λ u low.
-              let few : u < 8 = let nodes = owner-nodes in let most = w.working.side.owner.nodes in omega (arith, low, nodes, most) in
-              let a : ℕ = slice_index n.turning.retired u in
-              let mails : List Message = mails_to v u n.turning.turns in
-              let before : messages_to v t.side.log.base t.side.records.items u ≡ drop a mails =
-              sym (messages-one v t.side.log.base t.side.records.items u few) ∙ ap (λ (k : ℕ). sent_to u (messages_in k t.side.log.base t.side.records.items)) (sym owner-node) ∙ old.messages u low in
-              ap (λ (k : ℕ). sent_to u (messages_in k t2.side.log.base t2.side.records.items)) node
-              ∙ messages-one v t2.side.log.base t2.side.records.items u few
-              ∙ ap (λ x. messages_to v x t2.side.records.items u) base
-              ∙ ap (λ (rs : List Record). messages_to v t.side.log.base rs u) items
-              ∙ messages-push v t.side.log.base t.side.records.items (coming_turn begun) e (coming_pages begun) u
-              ∙ ap (λ (ms : List Message). ms ++ mails_in v u e) before
-              ∙ sym (drop-append-le a mails (mails_in v u e) (w.log.sent.acked u low))
-              ∙ ap (drop a) (sym (mails-push u));
-          outputs = counted.outputs;
-          outs =
-              ap (λ x. outs_in x t2.side.records.items) base
-              ∙ ap (λ (rs : List Record). outs_in t.side.log.base rs) items
-              ∙ state-outs-push t.side.log.base t.side.records.items (coming_turn begun) e (coming_pages begun)
-              ∙ ap (λ (os : List Out). os ++ e.outs) old.outs
-              ∙ sym (drop-append-le n.turning.retired_outs (outs_of n.turning.turns) e.outs w.log.sent.emitted)
-              ∙ ap (drop n.turning.retired_outs) (sym outs-more);
-        }
+        let items : t2.side.records.items ≡ t.side.records.items ++ coming ∷ [] = is.records ∙ ap (λ (rs : List Record). rs ++ coming ∷ []) made.same.records in
+        ap (λ (k : ℕ). state_of k t2.side.numbers t2.side.log.base t2.side.records.items) node
+        ∙ ap (λ (k : Numbers). state_of v k t2.side.log.base t2.side.records.items) is.numbers
+        ∙ ap (λ (x : Option Base). state_of v (after_record begun.numbers coming) x t2.side.records.items) base
+        ∙ ap (λ (rs : List Record). state_of v (after_record begun.numbers coming) t.side.log.base rs) items
 
     -- the two sides, with the turn on its way to the patcher
     apart-after : Apart told size t2.side p.side (waits_of whole.pages.queue ++ (coming_turn begun, coming_pages begun) ∷ []) whole.pages.image
@@ -269,10 +296,9 @@ module _ {D : Type 0} (told : D → Option Story) (size : D → ℕ) (g : Game) 
     due-after : IsDueOf g v after (with_turns v (whole.workers.sends.queue ++ kept.handed ∷ []) (part_of s).due)
     due-after =
         let d = whole.workers.sends in
-        let own : after.turning.turns ≡ sealed v (d.due.own ++ turn ∷ []) = ap (λ es. es ++ effects_of v es turn ∷ []) d.due.turns ∙ sym (sealed-push v d.due.own turn) in
         let of_turn : IsTurnOf kept.handed e = record { stamp = kept.handed_is.stamp; sends = kept.handed_is.sends; outs = kept.handed_is.outs } in
         subst (IsDueOf g v after) (sym (with_turns-append v d.queue (kept.handed ∷ []) (part_of s).due))
-        (handed_over_is_due g v n after (with_turns v d.queue (part_of s).due) kept.handed e (d.due.own ++ turn ∷ []) d.due d.sent d.due.up turns-are own refl of_turn)
+        (handed_over_is_due g v n after (with_turns v d.queue (part_of s).due) kept.handed e (d.due.own ++ turn ∷ []) d.due d.sent d.due.up turns-are own-after refl of_turn)
 
     pub whole-sealed : IsWhole told size g v after t2 p s
     whole-sealed =
@@ -299,7 +325,7 @@ module _ {D : Type 0} (told : D → Option Story) (size : D → ℕ) (g : Game) 
             working = working;
             turns = record {
               kept = kept.turns ∙ ap (λ es. es ++ e ∷ []) w.turns.kept ∙ sym turns-are;
-              counted = counted-after;
+              counted = subst (AreNumbersOf v after.turning.turns) (sym is.numbers) counted-after;
               reads =
                   ap (λ (x : TurnPages). read_value x.heap) is.live
                   ∙ ap read_value comes-of.laid
@@ -307,8 +333,8 @@ module _ {D : Type 0} (told : D → Option Story) (size : D → ℕ) (g : Game) 
                   ∙ ap (λ (x : Heap). Some x.value) (sym is.objects);
             };
             log = record {
-              state = state-after;
-              sent = record { acked = λ u low. let old = w.log.sent.acked u low in let more = more-mails u in omega (arith, old, more); emitted = let old = w.log.sent.emitted in let more = more-outs in omega (arith, old, more) };
+              state = subst (IsStateOf g v (recovered_node after)) (sym state-then) state-after;
+              sent = sent-after;
               width = w.log.width;
             };
             sends = record {

@@ -54,7 +54,7 @@ module _ {D : Type 0} (told : D → Option Story) (size : D → ℕ) (g : Game) 
   -- ---- only the side and the list of turns may be others
 
   module _ (t t2 : TurnWorker D) (rest : t2 ≡ record t { side = t2.side; turns = t2.turns }) where
-    of-run-side : (s : SendWorker) → t2.side.owner ≡ t.side.owner → AreOfRun g v t s → AreOfRun g v t2 s
+    pub of-run-side : (s : SendWorker) → t2.side.owner ≡ t.side.owner → AreOfRun g v t s → AreOfRun g v t2 s
     of-run-side s owner is = record {
       node = ap (λ (x : TurnWorker D). x.node) rest ∙ is.node;
       nodes = ap (λ (x : TurnWorker D). x.nodes) rest ∙ is.nodes;
@@ -65,7 +65,7 @@ module _ {D : Type 0} (told : D → Option Story) (size : D → ℕ) (g : Game) 
       receivers = is.receivers;
     }
 
-    joined-side : (p : PatchWorker D) (s : SendWorker) → AreJoined t p s → AreJoined t2 p s
+    pub joined-side : (p : PatchWorker D) (s : SendWorker) → AreJoined t p s → AreJoined t2 p s
     joined-side p s j = subst (λ (x : TurnWorker D). AreJoined x p s) (sym rest) (record { pages = j.pages; sealed = j.sealed; settled = j.settled; progress = j.progress })
 
     -- the node's turns and its sends are the same
@@ -126,7 +126,7 @@ module _ {D : Type 0} (told : D → Option Story) (size : D → ℕ) (g : Game) 
   -- ---- a turnover
 
   -- numbers that are raised
-  raised-long : (ns xs : List ℕ) → length (raised ns xs) ≡ length ns
+  pub raised-long : (ns xs : List ℕ) → length (raised ns xs) ≡ length ns
   raised-long [] xs = refl
   raised-long (n ∷ ns) [] = refl
   raised-long (n ∷ ns) (x ∷ xs) = ap suc (raised-long ns xs)
@@ -159,7 +159,7 @@ module _ {D : Type 0} (told : D → Option Story) (size : D → ℕ) (g : Game) 
       }
 
   module _ (n : Node) (t t2 : TurnWorker D) (p : PatchWorker D) (s : SendWorker) (whole : IsWhole told size g v n t p s) where
-    abbrev turned : Node
+    abbrev pub turned : Node
     turned = turned_node (heap_pages g) (told_of g t) n
 
     retired-at : (u : ℕ) → u < g.nodes → slice_index turned.turning.retired u ≡ max (slice_index n.turning.retired u) (slice_index t.told.progress.acked u)
@@ -169,7 +169,7 @@ module _ {D : Type 0} (told : D → Option Story) (size : D → ℕ) (g : Game) 
         raised-at n.turning.retired (told_of g t).acked u (omega (arith, width, low)) ∙ ap (max (slice_index n.turning.retired u)) at
 
     -- the state without what is retired
-    state-turned : IsStateOf g v (recovered_node turned) (without_told t.told.progress.acked t.told.progress.emitted (state_in t.side))
+    pub state-turned : IsStateOf g v (recovered_node turned) (without_told t.told.progress.acked t.told.progress.emitted (state_in t.side))
     state-turned =
         let w = whole.workers in
         let old = w.log.state in
@@ -188,7 +188,7 @@ module _ {D : Type 0} (told : D → Option Story) (size : D → ℕ) (g : Game) 
           outs = outs-left t.told.progress.emitted n.turning.retired_outs (place_of g own).outs (state_in t.side).outs (outs_of n.turning.turns) (ap outs_of is ∙ (IsPlace-sealed g v own).outs) old.outs;
         }
 
-    sent-turned : HasSent g v (recovered_node turned)
+    pub sent-turned : HasSent g v (recovered_node turned)
     sent-turned =
         let w = whole.workers in
         record {

@@ -47,15 +47,15 @@ use Rattle.ken_node.specs.Hearing.{EndsWith, Listened, ack_put, again_puts, chos
 use Rattle.ken_node.specs.Meeting.{AreFronts, AreJoined}
 use Rattle.ken_node.specs.Patches.{waits_of}
 use Rattle.ken_node.specs.Sealing.{Renews, RenewsBy, coming_pages, is_full}
-use Rattle.ken_node.specs.TurnLaws.{DoubtsSeal, Drew, HandlerLeadsTo, TookBy, TurnKeepsWhole, acks_out, told_of}
+use Rattle.ken_node.specs.TurnLaws.{DoubtsSeal, Drew, HandlerLeadsTo, TookBy, TurnKeepsWhole, acks_out, told_of, turn_made}
 use Rattle.ken_node.specs.Whole.{HasReached, IsSettledAt, IsWhole, WereTold}
-use Rattle.ken_node.specs.Workers.{HearsNews, Working}
+use Rattle.ken_node.specs.Workers.{HearsNews, IsSameWorker, Working}
 use Rattle.ken_node.proofs.MeetingWhole.{whole-handler}
 use Rattle.ken_node.proofs.NextMails.{AreAgain, WasConsumed, all-again, front-again, mail-given, next-mail}
 use Rattle.ken_node.proofs.NumbersAfter.{consumed-push}
 use Rattle.ken_node.proofs.Rings.{ring-popped, ring-pushed}
 use Rattle.ken_node.proofs.Runs.{MayAck, acks-each, acks-run, after-nothing, run-append}
-use Rattle.ken_node.proofs.SealsWhole.{IsNextOf, may-seal, turn_made, whole-sealed}
+use Rattle.ken_node.proofs.SealsWhole.{IsNextOf, may-seal, whole-sealed}
 use Rattle.ken_node.proofs.SendsWhole.{some-front}
 use Rattle.ken_node.proofs.Told.{told-heard}
 use Rattle.ken_node.proofs.TurnoversWhole.{may-turn, whole-still, whole-turned}
@@ -318,7 +318,7 @@ module _ {D : Type 0} (told : D → Option Story) (size count : D → ℕ) (fate
     -- ---- up to the turn
 
     -- packets were given, the events so far lead to a node that the workers stand for, and a message that was chosen may be taken there
-    record IsReady (put : List Put → Type 0) (mid : TurnWorker D) (message : Option Message) : Type 1 where
+    pub record IsReady (put : List Put → Type 0) (mid : TurnWorker D) (message : Option Message) : Type 1 where
       packets : List (List ℕ)
       given : gave packets
       senders : List ℕ
@@ -327,7 +327,7 @@ module _ {D : Type 0} (told : D → Option Story) (size count : D → ℕ) (fate
       few : length idled.after.turning.turns < g.turns
       takes : (m : Message) → message ≡ Some m → IsChosen idled.after packets m
 
-    ready-by : (put : List Put → Type 0) (nones nones2 : ℕ) (mid : TurnWorker D) (message : Option Message) → Came told size count fate g.handler drew old mid gave put nones nones2 message → IsReady put mid message
+    pub ready-by : (put : List Put → Type 0) (nones nones2 : ℕ) (mid : TurnWorker D) (message : Option Message) → Came told size count fate g.handler drew old mid gave put nones nones2 message → IsReady put mid message
     ready-by put nones nones2 mid message came =
         let listened = listened-by put nones nones2 came.took.found came.took.listened in
         let again = all-again v old.order listened.passed in
@@ -455,7 +455,7 @@ module _ {D : Type 0} (told : D → Option Story) (size count : D → ℕ) (fate
 
     -- ---- a seal in doubt
 
-    doubt-leads : (put : List Put → Type 0) (mid t2 : TurnWorker D) (m : Message) → IsReady put mid (Some m) → IsSealInDoubt told size count fate g.handler drew m mid t2 → DoubtsSeal told size count fate drew g v n gave put old t2 p s
+    pub doubt-leads : (put : List Put → Type 0) (mid t2 : TurnWorker D) (m : Message) → IsReady put mid (Some m) → IsSealInDoubt told size count fate g.handler drew m mid t2 → DoubtsSeal told size count fate drew g v n gave put old t2 p s
     unfolding idle-leads leads-by
     doubt-leads put mid t2 m r doubt = record {
       mid = mid;
@@ -463,6 +463,7 @@ module _ {D : Type 0} (told : D → Option Story) (size count : D → ℕ) (fate
       message = m;
       doubt = doubt;
       turn = turn_made m doubt.effects doubt.made.effect;
+      turn_is = refl;
       may = may-seal told size g v r.idled.after mid p s r.idled.whole m doubt.effects doubt.begun doubt.made doubt.seals.may (Contains (packets_from g.nodes r.packets)) r.few (r.takes m refl).next;
     }
 
@@ -496,7 +497,7 @@ module _ {D : Type 0} (told : D → Option Story) (size count : D → ℕ) (fate
     whole = is.whole;
   }
 
-  doubt-from : (gave : List (List ℕ) → Type 0) (put : List Put → Type 0) (n : Node) (t old t2 : TurnWorker D) → old.order ≡ t.order → is_full old.side ≡ is_full t.side → DoubtsSeal told size count fate drew g v n gave put old t2 p s → DoubtsSeal told size count fate drew g v n gave put t t2 p s
+  pub doubt-from : (gave : List (List ℕ) → Type 0) (put : List Put → Type 0) (n : Node) (t old t2 : TurnWorker D) → old.order ≡ t.order → is_full old.side ≡ is_full t.side → DoubtsSeal told size count fate drew g v n gave put old t2 p s → DoubtsSeal told size count fate drew g v n gave put t t2 p s
   unfolding leads-from
   doubt-from gave put n t old t2 order full is = record {
     mid = is.mid;
@@ -504,6 +505,7 @@ module _ {D : Type 0} (told : D → Option Story) (size count : D → ℕ) (fate
     message = is.message;
     doubt = is.doubt;
     turn = is.turn;
+    turn_is = is.turn_is;
     may = is.may;
   }
 
@@ -553,15 +555,42 @@ module _ {D : Type 0} (told : D → Option Story) (size count : D → ℕ) (fate
   takes-news (Err Outlet) gave put nones nones2 old new is = absurd is
   takes-news (Err (Damaged disk place)) gave put nones nones2 old new is = absurd is
 
+-- ---- an idle call
+
+module _ {D : Type 0} where
+  -- the packets that it was given are those that it listened to, and no input waits
+  pub record IdleListens (v : ℕ) (mid : TurnWorker D) (gave : List (List ℕ) → Type 0) (put : List Put → Type 0) (nones nones2 : ℕ) (given : List (List ℕ)) : Type 0 where
+    pub listened : Listened v mid.order gave put nones nones2 None
+    pub given_is : given ≡ listened.passed ++ listened.last
+    pub no_input : slice_get mid.inputs.items (consumed_from mid.order outside) ≡ None
+
+  listens-by : (v : ℕ) (mid : TurnWorker D) (gave : List (List ℕ) → Type 0) (put : List Put → Type 0) (nones nones2 : ℕ) (given : List (List ℕ)) (found : Option Message) → chosen mid.inputs.items mid.order found ≡ None
+      → (listened : Listened v mid.order gave put nones nones2 found) → given ≡ listened.passed ++ listened.last → IdleListens v mid gave put nones nones2 given
+  listens-by v mid gave put nones nones2 given None is listened all = record { listened = listened; given_is = all; no_input = is }
+  listens-by v mid gave put nones nones2 given (Some m) is listened all = absurd cc
+
 -- ---- a call of the handler
 
 module _ {D O N : Type 0} (told : D → Option Story) (size count : D → ℕ) (fate : D → Option Fate) (clocks words : O → Option (List ℕ)) (given_between : N → N → List (List ℕ) → Type 0) (put_between : N → N → List Put → Type 0) where
+  -- with what the handler heard the workers stand for the node as before
+  pub heard-whole : (g : Game) (v : ℕ) (n : Node) (t mid t2 : TurnWorker D) (p : PatchWorker D) (s : SendWorker) (oracle oracle2 : O) (net net2 : N) (result : Result Took NodeFault) (nones nones2 : ℕ) → IsWhole told size g v n t p s → HearsNews t mid
+      → TakesTurn told size count fate g.handler (Drew clocks words g.handler oracle oracle2) result mid t2 (given_between net net2) (put_between net net2) nones nones2 → AreFronts t2 p s → IsWhole told size g v n mid p s
+  heard-whole g v n t mid t2 p s oracle oracle2 net net2 result nones nones2 whole news takes fronts =
+      let drew : List ℕ → Type 0 = Drew clocks words g.handler oracle oracle2 in
+      let kept = takes-news told size count fate g.handler drew result (given_between net net2) (put_between net net2) nones nones2 mid t2 takes in
+      let heard_fronts : AreFronts mid p s = record {
+        pages = (whole.pages.queue, ap (λ (x : TurnWorker D). pushed x.pages) news.rest ∙ whole.pages.ring);
+        sealed = (whole.workers.sends.queue, ap (λ (x : TurnWorker D). pushed x.sealed) news.rest ∙ whole.workers.sends.ring);
+        settled = (fronts.settled.0, fronts.settled.1 ∙ ap (λ x. popped x ++ fronts.settled.0) kept.settled);
+        progress = (fronts.progress.0, fronts.progress.1 ∙ ap (λ x. popped x ++ fronts.progress.0) kept.progress);
+      } in
+      whole-heard told size count fate drew g v p s n t mid whole news heard_fronts
+
   pub turn_keeps_whole : TurnKeepsWhole told size count fate clocks words given_between put_between
   turn_keeps_whole g v n t mid t2 p s oracle oracle2 net net2 result nones nones2 whole same news takes fronts =
       let drew : List ℕ → Type 0 = Drew clocks words g.handler oracle oracle2 in
       let gave : List (List ℕ) → Type 0 = given_between net net2 in
       let put : List Put → Type 0 = put_between net net2 in
-      let kept = takes-news told size count fate g.handler drew result gave put nones nones2 mid t2 takes in
       let j = whole.workers.joined in
       let joined : AreJoined t2 p s = record {
         pages = ring-pushed t.pages t2.pages p.pages j.pages same.pages;
@@ -569,6 +598,20 @@ module _ {D O N : Type 0} (told : D → Option Story) (size count : D → ℕ) (
         settled = ring-popped p.settled t.settled t2.settled j.settled same.settled;
         progress = ring-popped s.told t.progress t2.progress j.progress same.progress;
       } in
+      let heard = heard-whole g v n t mid t2 p s oracle oracle2 net net2 result nones nones2 whole news takes fronts in
+      let order : mid.order ≡ t.order = ap (λ (x : TurnWorker D). x.order) news.rest in
+      let full : is_full mid.side ≡ is_full t.side = ap (λ (x : TurnWorker D). is_full x.side) news.rest in
+      took-from told size count fate drew g v p s result gave put n t mid t2 order full (took-by told size count fate drew g v p s gave n mid heard result put nones nones2 t2 joined takes)
+
+  pub idle_listens : (g : Game) (v : ℕ) (n : Node) (t mid t2 : TurnWorker D) (p : PatchWorker D) (s : SendWorker) (oracle oracle2 : O) (net net2 : N) (nones nones2 : ℕ) (whole : IsWhole told size g v n t p s) (same : IsSameWorker t t2) (news : HearsNews t mid)
+      (takes : TakesTurn told size count fate g.handler (Drew clocks words g.handler oracle oracle2) (Ok Idle) mid t2 (given_between net net2) (put_between net net2) nones nones2) (fronts : AreFronts t2 p s)
+      → IdleListens v mid (given_between net net2) (put_between net net2) nones nones2 (turn_keeps_whole g v n t mid t2 p s oracle oracle2 net net2 (Ok Idle) nones nones2 whole same news takes fronts).given
+  unfolding turn_keeps_whole took-from leads-from took-by idle-leads leads-by ready-by whole-heard heard-whole
+  idle_listens g v n t mid t2 p s oracle oracle2 net net2 nones nones2 whole same news takes fronts =
+      let drew : List ℕ → Type 0 = Drew clocks words g.handler oracle oracle2 in
+      let gave : List (List ℕ) → Type 0 = given_between net net2 in
+      let put : List Put → Type 0 = put_between net net2 in
+      let kept = takes-news told size count fate g.handler drew (Ok Idle) gave put nones nones2 mid t2 takes in
       let heard_fronts : AreFronts mid p s = record {
         pages = (whole.pages.queue, ap (λ (x : TurnWorker D). pushed x.pages) news.rest ∙ whole.pages.ring);
         sealed = (whole.workers.sends.queue, ap (λ (x : TurnWorker D). pushed x.sealed) news.rest ∙ whole.workers.sends.ring);
@@ -576,6 +619,6 @@ module _ {D O N : Type 0} (told : D → Option Story) (size count : D → ℕ) (
         progress = (fronts.progress.0, fronts.progress.1 ∙ ap (λ x. popped x ++ fronts.progress.0) kept.progress);
       } in
       let heard_whole = whole-heard told size count fate drew g v p s n t mid whole news heard_fronts in
-      let order : mid.order ≡ t.order = ap (λ (x : TurnWorker D). x.order) news.rest in
-      let full : is_full mid.side ≡ is_full t.side = ap (λ (x : TurnWorker D). is_full x.side) news.rest in
-      took-from told size count fate drew g v p s result gave put n t mid t2 order full (took-by told size count fate drew g v p s gave n mid heard_whole result put nones nones2 t2 joined takes)
+      let took = takes.came.took in
+      listens-by v mid gave put nones nones2 (turn_keeps_whole g v n t mid t2 p s oracle oracle2 net net2 (Ok Idle) nones nones2 whole same news takes fronts).given took.found took.chosen_is
+      (listened-by told size count fate drew g v p s gave n mid heard_whole put nones nones2 took.found took.listened) refl

@@ -8,11 +8,12 @@ use Rattle.ken_model.specs.Layout.{first_heap}
 use Rattle.ken_model.specs.Network.{empty_heap, inputs_for}
 use Rattle.ken_cover.specs.Sides.{first_image_pages}
 use Rattle.ken_core.specs.Nodes.{heap_pages}
+use Rattle.ken_order.specs.Consumed.{Consumed}
 use Rattle.ken_store.specs.declared.disks.Disks.{Disks}
 use Rattle.ken_store.specs.declared.owner.Owner.{Owner}
 use Rattle.ken_store.specs.declared.store.Store.{Store}
 use Rattle.ken_store.specs.Answers.{TellsAll}
-use Rattle.ken_store.specs.Creations.{Creates, FailsBy, IsNew}
+use Rattle.ken_store.specs.Creations.{Creates, FailsBy, IsNew, TellsStill}
 use Rattle.ken_store.specs.Standing.{Standing}
 use Rattle.ken_ship.specs.declared.faults.NodeFault.{NodeFault}
 use Rattle.ken_ship.specs.declared.items.Progress.{Progress}
@@ -37,19 +38,23 @@ owner_of g v = record { node = v; nodes = g.nodes; pages = heap_pages g }
 abbrev pub nothing_told : Told
 nothing_told = let none : Progress = record { acked = replicate 8 0; emitted = 0 } in record { settled = 0; progress = none }
 
--- the workers that are made of these parts, over a store
-pub record AreOver {D : Type 0} (x : Parts) (store : Store D) (t : TurnWorker D) (p : PatchWorker D) (s : SendWorker) : Type 0 where
+-- the workers that are made of these parts, over a store, which judge mail by this order
+pub record AreOver {D : Type 0} (x : Parts) (store : Store D) (o : Consumed) (t : TurnWorker D) (p : PatchWorker D) (s : SendWorker) : Type 0 where
   pub node : t.node ≡ x.node
   pub nodes : t.nodes ≡ x.nodes
   pub cap : t.cap ≡ x.cap
   pub inputs : t.inputs.items ≡ x.inputs.items
   pub side : t.side ≡ store.turns
-  pub order : t.order ≡ record { nodes = x.nodes; stamp = 0; consumed = replicate 9 0 }
+  pub order : t.order ≡ o
   pub turns : t.turns.items ≡ x.turns.items
   pub told : t.told ≡ nothing_told
   pub rings : (t.pages ≡ x.pages.0) × (t.sealed ≡ x.sealed) × (t.settled ≡ x.settled.1) × (t.progress ≡ x.progress)
   pub patches : p ≡ record { side = store.patches; pages = x.pages.1; settled = x.settled.0 }
   pub sends : s ≡ x.sends
+
+-- by which a node of so many judges mail that consumed none yet
+abbrev pub first_order : ℕ → Consumed
+first_order nodes = record { nodes = nodes; stamp = 0; consumed = replicate 9 0 }
 
 -- the workers of node v of a run that made no turn, over a store that stands: nothing was handed over, and no one was told of anything
 pub record AreNew {D : Type 0} (told : D → Option Story) (size : D → ℕ) (g : Game) (v : ℕ) (t : TurnWorker D) (p : PatchWorker D) (s : SendWorker) : Type 0 where
@@ -86,5 +91,6 @@ pub record IsCreation {D T : Type 0} (told : D → Option Story) (size count : D
   pub has : HasDisks disks stage
   pub err : OnErr result (IsUncreated g v disks stage)
   pub creates : TellsAll told old (λ l i s. Tells (told disks.log) (λ l2. Tells (told disks.image) (λ i2. Creates (owner_of g v) (store_answer result) l i s l2 i2)))
+  pub tells : TellsStill (told old.log) (told disks.log) × TellsStill (told old.image) (told disks.image)
   pub second : disks.second ≡ old.second
   pub faults : FailsBy count fate (store_answer result) old disks

@@ -11,8 +11,16 @@ pub mod Meeting
 pub mod First
 pub mod Stages
 pub mod Created
+pub mod Down
+pub mod Watching
+pub mod Restarts
+pub mod Restarting
 pub mod Whole
 pub mod WholeLaws
 pub mod TurnLaws
 pub mod KindLaws
 pub mod NewLaws
+pub mod Up
+pub mod NodeCalls
+pub mod NodeTurns
+pub mod DownLaws

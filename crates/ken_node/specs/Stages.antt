@@ -66,3 +66,9 @@ module _ {D : Type 0} where
   emissions_in (Uncreated disks parts) = (part_of parts.sends).emissions
   emissions_in (Created t p s) = (part_of s).emissions
   emissions_in Moved = []
+
+  -- how often the output that is due was refused, one time after the other
+  abbrev pub refusals_in : Stage D → ℕ
+  refusals_in (Uncreated disks parts) = (part_of parts.sends).refusals
+  refusals_in (Created t p s) = (part_of s).refusals
+  refusals_in Moved = 0

@@ -1,13 +1,15 @@
 -- What a call of a node's handler is as events of the node.
-use Rattle.std.specs.Prelude.{ℕ, ◌⊎◌, List, [], ◌++◌, map, slice_index, Option, Result, Ok, Err}
+use Rattle.std.specs.Prelude.{◌≡◌, ℕ, ◌⊎◌, List, [], ◌++◌, map, slice_index, Option, Result, Ok, Err}
 use Rattle.std.specs.List.{Contains, range_with_len}
 use Rattle.ken_disk.specs.Fates.{Fate}
 use Rattle.ken_disk.specs.Story.{Story}
 use Rattle.ken_model.specs.declared.messages.Message.{Message}
 use Rattle.ken_app.specs.Oracles.{Answers}
+use Rattle.ken_model.specs.Effects.{Effect}
 use Rattle.ken_model.specs.Game.{Game}
 use Rattle.ken_model.specs.Handler.{Handler}
 use Rattle.ken_model.specs.Network.{Turn as Made}
+use Rattle.ken_record.specs.declared.effects.Effects.{Effects}
 use Rattle.ken_net.specs.Puts.{Put}
 use Rattle.ken_core.specs.declared.events.Event.{Event}
 use Rattle.ken_core.specs.declared.events.Told.{Told}
@@ -42,6 +44,10 @@ told_of g t = record { settled = t.told.settled; acked = map (λ (u : ℕ). slic
 abbrev pub Drew : {O : Type 0} → (O → Option (List ℕ)) → (O → Option (List ℕ)) → Handler → O → O → List ℕ → Type 0
 Drew clocks words h oracle oracle2 draws = Answers (clocks oracle) (clocks oracle2) (h.clocks draws) × Answers (words oracle) (words oracle2) (h.words draws)
 
+-- the turn that a handler made of a message
+abbrev pub turn_made : Message → Effects → Effect → Made
+turn_made m e effect = record { message = m; draws = e.draws; stamp = e.stamp; effect = effect }
+
 module _ {D : Type 0} (told : D → Option Story) (size : D → ℕ) where
   -- a call of the handler, which was given packets, and acknowledged what it had consumed of senders: of some before its turn, and of
   -- some after. Its events lead to a node that the workers stand for
@@ -70,6 +76,7 @@ module _ {D : Type 0} (told : D → Option Story) (size : D → ℕ) where
       pub message : Message
       pub doubt : IsSealInDoubt told size count fate g.handler drew message mid t2
       pub turn : Made
+      pub turn_is : turn ≡ turn_made message doubt.effects doubt.made.effect
       pub may : MaySeal g (Contains (packets_from g.nodes before.given)) v before.after message.from doubt.effects.draws (coming_pages doubt.begun) turn
 
     -- by the answer

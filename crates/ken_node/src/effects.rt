@@ -7,9 +7,10 @@ ghost use Rattle.ken_core.specs.Turns.{sent_of};
 ghost use Rattle.ken_record.specs.Grammar.{AtMost, IsWord};
 ghost use Rattle.ken_ship.specs.Fits.{AreSent};
 ghost use Rattle.ken_node.specs.Making.{IsHanded};
+ghost use Rattle.ken_node.specs.Restarts.{effects_in};
 
 use ken_model::{Items, MAX_NODES, Octets, Out, Send};
-use ken_record::{Effects, Sent};
+use ken_record::{Effects, Record, Sent};
 use ken_ship::Sealed;
 use std::alloc::{AllocError, Global};
 
@@ -110,5 +111,19 @@ pub(crate) fn handed(alloc: Global, turn: u64, effects: &Effects) -> Result<Seal
         stamp: effects.stamp,
         sends: sends_copy(alloc, effects.sends.as_slice())?,
         outs: outs_copy(alloc, effects.outs.as_slice())?,
+    })
+}
+
+// A copy of what a record keeps of its turn.
+pub(crate) fn effects_of(alloc: Global, last: &Record) -> Result<Effects, AllocError>
+    ensures { IfOk result (λ e. e ≡ effects_in last.now) }
+{
+    Ok(Effects {
+        from: last.from,
+        number: last.number,
+        stamp: last.stamp,
+        draws: Items::new(Vec::from_slice(alloc, last.draws.as_slice())?),
+        sends: sends_copy(alloc, last.sends.as_slice())?,
+        outs: outs_copy(alloc, last.outs.as_slice())?,
     })
 }

@@ -1,4 +1,5 @@
 // What the calls of a node's workers are as events of the node. Each law is the contract of a function that does nothing.
+ghost use Rattle.ken_node.specs.DownLaws.{CreationGoesDown, MeetingStaysDown, NewOtherIsNone, OtherStays, PatchGoesDown, SealGoesDown, TurnGoesDown, TurnoverGoesDown, WholeGoesDown};
 ghost use Rattle.ken_node.specs.KindLaws.{KindsKeepShort};
 ghost use Rattle.ken_node.specs.NewLaws.{NewAreWhole};
 ghost use Rattle.ken_node.specs.TurnLaws.{TurnKeepsWhole};
@@ -53,4 +54,45 @@ pub fn kinds_keep_short()
 /// New workers over a created store stand for a node at its start.
 pub fn new_workers_are_whole<D: Disk>()
     ensures { NewAreWhole D.told D.size }
+{}
+
+/// A node that is up may be restarted, whatever a crash leaves of its disks.
+pub fn a_whole_node_goes_down<D: Disk>()
+    ensures { WholeGoesDown D.told D.size }
+{}
+
+/// So may one whose write of the image failed: the page counts as written.
+pub fn a_failed_patch_goes_down<D: Disk>()
+    ensures { PatchGoesDown D.told D.size }
+{}
+
+/// So may one whose creation failed.
+pub fn a_failed_creation_goes_down<D: Disk>()
+    ensures { CreationGoesDown D.told D.size D.faults D.fate }
+{}
+
+/// So may one whose seal is in doubt, whether its record landed or not.
+pub fn a_seal_in_doubt_goes_down<D: Disk, O: Oracle, N: Net>()
+    ensures { SealGoesDown D.told D.size D.faults D.fate O.telling.clocks O.telling.words N.given_between N.put_between }
+{}
+
+/// So may one whose turnover is in doubt, where the other disk had no log or a whole one.
+pub fn a_turnover_in_doubt_goes_down<D: Disk, O: Oracle, N: Net>()
+    ensures { TurnoverGoesDown D.told D.size D.faults D.fate O.telling.clocks O.telling.words N.given_between N.put_between }
+{}
+
+/// So a call of the handler whose disk failed leaves a node that may be restarted, with a turnover or a seal in doubt.
+pub fn a_failed_turn_goes_down<D: Disk, O: Oracle, N: Net>()
+    ensures { TurnGoesDown D.told D.size D.faults D.fate O.telling.clocks O.telling.words N.given_between N.put_between }
+{}
+
+/// The disk of the other log goes on having no log or a whole one. A new node has none there.
+pub fn the_other_disk_stays_whole<D: Disk, O: Oracle, N: Net>()
+    ensures stays { OtherStays D.told D.size D.faults D.fate O.telling.clocks O.telling.words N.given_between N.put_between }
+    ensures new { NewOtherIsNone D.told D.size D.faults D.fate }
+{}
+
+/// A node that may be restarted may be after a meeting too.
+pub fn a_meeting_stays_down<D: Disk>()
+    ensures { MeetingStaysDown D.told D.size }
 {}

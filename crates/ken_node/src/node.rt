@@ -5,6 +5,7 @@ ghost use Rattle.ken_node.specs.declared.stage.Stage.TheVariants.{Moved};
 use crate::parts::Parts;
 use crate::patcher::PatchWorker;
 use crate::stage::Stage;
+use crate::watched::Watched;
 use crate::worker::TurnWorker;
 use ken_disk::Disk;
 use ken_model::{Emission, Facts, Value};
@@ -17,7 +18,7 @@ use std::mem;
 /// A node: its three workers, or the disks of one that isn't created yet.
 #[derive(Drop)]
 pub struct Node<D> {
-    stage: Stage<D>,
+    pub(crate) stage: Stage<D>,
     ghost here: { stage ≡ Moved → ⊥ },
 }
 
@@ -128,6 +129,38 @@ impl<D: Disk> Node<D> {
         match &self.stage {
             Stage::Created(turns, _, _) => turns.side.value(alloc),
             Stage::Uncreated(..) | Stage::Moved => unreachable!(),
+        }
+    }
+}
+
+impl<D: Disk> Node<Watched<D>> {
+    ghost use Rattle.std.specs.Prelude.{◌≡◌, ℕ, List, IfOk, OnErr};
+    ghost use Rattle.ken_model.specs.Game.{Game};
+    ghost use Rattle.ken_core.specs.Calls.{Doubt};
+    ghost use Rattle.ken_core.specs.Nodes.{Node as Stood};
+    ghost use Rattle.ken_core.specs.Packets.{Packet};
+    ghost use Rattle.ken_store.specs.declared.disks.Disks.{Disks as Has};
+    ghost use Rattle.ken_node.specs.Down.{IsDown, MayRestart};
+    ghost use Rattle.ken_node.specs.Faults.{IsFaultOfWorker};
+    ghost use Rattle.ken_node.specs.Restarts.{IsUpAgain, RestartsBy};
+    ghost use Rattle.ken_node.specs.Stages.{HasDisks, emissions_in};
+
+    /// Restarts the node: its workers meet, all its disks are restarted, and the node goes on with what they hold then. It
+    /// answers how many turns it made. The pick for the disks is what the lowest of them proposes that has failed since it was last
+    /// restarted: the log, the image, the second log; or else 0. Where no log is on them the node is created. What it emitted is
+    /// kept. The errors are `Disk` and `Memory`: the node may be restarted again then, and no other call may follow.
+    pub fn restart(&mut self) -> Result<u64, NodeFault>
+        requires { MayRestart ⟦<Watched<D> as Disk>⟧.told self.old.stage }
+        ensures up { (g : Game) (v : ℕ) (given : List Packet) (n : Stood) (doubt : Doubt) → IsDown ⟦<Watched<D> as Disk>⟧.told g v given n doubt self.old.stage → IfOk result (λ turns. IsUpAgain ⟦<Watched<D> as Disk>⟧.told ⟦<Watched<D> as Disk>⟧.size g v given n doubt turns self.new.stage) }
+        ensures down { (g : Game) (v : ℕ) (given : List Packet) (n : Stood) (doubt : Doubt) → IsDown ⟦<Watched<D> as Disk>⟧.told g v given n doubt self.old.stage → OnErr result (IsDown ⟦<Watched<D> as Disk>⟧.told g v given n doubt self.new.stage) }
+        ensures sound { IsFaultOfWorker result }
+        ensures emissions { emissions_in self.new.stage ≡ emissions_in self.old.stage }
+        ensures disks { (old new : Has (Watched D)) → HasDisks old self.old.stage → HasDisks new self.new.stage → RestartsBy ⟦<Watched<D> as Disk>⟧.told ⟦<Watched<D> as Disk>⟧.faults ⟦<Watched<D> as Disk>⟧.fate result old new }
+    {
+        let (stage, result) = mem::replace(&mut self.stage, Stage::Moved).restarted();
+        match mem::replace(&mut self.stage, stage) {
+            Stage::Moved => result,
+            Stage::Uncreated(..) | Stage::Created(..) => unreachable!(),
         }
     }
 }

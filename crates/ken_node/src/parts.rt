@@ -1,22 +1,28 @@
 // What a node's workers are made of.
-ghost use Rattle.std.specs.Prelude.{◌≡◌, ◌<◌, ◌≤◌, vec_capacity, vec_len, IfOk};
+ghost use Rattle.std.specs.Prelude.{◌≡◌, ◌<◌, ◌≤◌, length, vec_capacity, vec_len, IfOk, OnOk, OnErr};
+ghost use Rattle.std.specs.List.{All};
 ghost use Rattle.ken_model.specs.Game.{game_of};
 ghost use Rattle.ken_model.specs.Limits.{IsWithinLimits};
 ghost use Rattle.ken_node.specs.Created.{AreOver};
 ghost use Rattle.ken_node.specs.First.{AreFirst};
 ghost use Rattle.ken_node.specs.News.{AreInputs};
+ghost use Rattle.ken_node.specs.Restarts.{kept_turns};
+ghost use Rattle.ken_node.specs.Restarting.{ArePartsOf, AreUnchanged, HaveResumed, IsSameParts, with_turn};
+ghost use Rattle.ken_ship.specs.Fits.{IsMailFrom};
+ghost use Rattle.ken_store.specs.Apart.{disks_apart};
 
+use crate::effects::effects_of;
 use crate::inputs::inputs_for;
 use crate::items::{Frozen, Told};
 use crate::patcher::PatchWorker;
 use crate::worker::TurnWorker;
 use ken_disk::Disk;
 use ken_links::{PopEnd, PushEnd, SLOTS, ring};
-use ken_model::{Facts, MAX_NODES, Message, PAGE};
+use ken_model::{Facts, MAX_NODES, Message, PAGE, State};
 use ken_order::Order;
-use ken_record::Effects;
+use ken_record::{Effects, Record};
 use ken_ship::{Progress, Sealed, SendWorker};
-use ken_store::Store;
+use ken_store::{Disks, Store};
 use std::alloc::{AllocError, Global};
 
 /// All of a node's workers but its store.
@@ -65,16 +71,17 @@ impl Parts {
         })
     }
 
-    // The workers, over a store.
+    // The workers, over a store. They judge mail by this order.
     pub(crate) fn over<D: Disk>(
         self,
         store: Store<D>,
+        order: Order,
     ) -> (TurnWorker<D>, PatchWorker<D>, SendWorker)
-        requires nodes { (1 ≤ self.nodes) × (self.nodes ≤ 8) }
+        requires nodes { self.nodes ≤ 8 }
         requires cap { self.cap ≤ 100000 }
         requires room { (64 ≤ vec_capacity self.news) × (vec_len self.news ≡ 0) }
         requires given { AreInputs self.node self.inputs.items }
-        ensures { AreOver self store result.0 result.1 result.2 }
+        ensures { AreOver self store order result.0 result.1 result.2 }
     {
         let (turning, patching) = store.split();
         let (pages, frozen) = self.pages;
@@ -86,7 +93,7 @@ impl Parts {
             cap: self.cap,
             inputs: self.inputs,
             side: turning,
-            order: Order::new(self.nodes),
+            order,
             turns: self.turns,
             told: Told {
                 settled: 0,
@@ -107,5 +114,74 @@ impl Parts {
             settled: told,
         };
         (turns, patches, self.sends)
+    }
+
+    // The disks of workers, and what else they are made of.
+    pub(crate) fn of<D: Disk>(
+        turns: TurnWorker<D>,
+        patches: PatchWorker<D>,
+        sends: SendWorker,
+    ) -> (Disks<D>, Parts)
+        ensures disks { result.0 ≡ disks_apart turns.side patches.side }
+        ensures parts { ArePartsOf turns patches sends result.1 }
+    {
+        let size = turns.side.pages();
+        let disks = Store::join(turns.side, patches.side).release();
+        let parts = Parts {
+            alloc: turns.alloc,
+            node: turns.node,
+            nodes: turns.nodes,
+            size,
+            cap: turns.cap,
+            inputs: turns.inputs,
+            turns: turns.turns,
+            news: turns.news,
+            pages: (turns.pages, patches.pages),
+            settled: (patches.settled, turns.settled),
+            sealed: turns.sealed,
+            progress: turns.progress,
+            sends,
+        };
+        (disks, parts)
+    }
+
+    // The turn of the last of these records, where fewer turns are kept than a state counts.
+    fn unkept(&self, count: u64, records: &[Record]) -> Result<Option<Effects>, AllocError>
+        ensures { IfOk result (λ turn. kept_turns self.now.turns.items count records.now ≡ with_turn self.now.turns.items turn) }
+    {
+        if self.turns.len() as u64 >= count {
+            return Ok(None);
+        }
+        match records.last() {
+            Some(last) => Ok(Some(effects_of(self.alloc, last)?)),
+            None => Ok(None),
+        }
+    }
+
+    // Goes on from a recovered state and the records of its log: its last turn is kept where it wasn't, and the externaliser
+    // resumes. After an error nothing has changed.
+    pub(crate) fn resume(&mut self, state: &State, records: &[Record]) -> Result<(), AllocError>
+        requires sent { length state.now.sent ≡ 8 }
+        requires mails { All (IsMailFrom self.old.sends.backlog.node) state.now.messages }
+        ensures rest { IsSameParts self.old self.new }
+        ensures ok { OnOk result (HaveResumed state.now records.now self.old self.new) }
+        ensures err { OnErr result (AreUnchanged self.old self.new) }
+    {
+        self.turns.reserve(1)?;
+        let last = self.unkept(state.turns, records)?;
+        self.sends.resume(state)?;
+        self.keep(last);
+        Ok(())
+    }
+
+    // Keeps a turn, where there is one. There is room.
+    fn keep(&mut self, turn: Option<Effects>)
+        requires { vec_len self.old.turns < vec_capacity self.old.turns }
+        ensures turns { self.new.turns.items ≡ with_turn self.old.turns.items turn }
+        ensures rest { self.new ≡ record self.old { turns = self.new.turns } }
+    {
+        if let Some(effects) = turn {
+            self.turns.push_reserved(effects);
+        }
     }
 }

@@ -10,6 +10,7 @@ use crate::parts::Parts;
 use crate::patcher::PatchWorker;
 use crate::worker::TurnWorker;
 use ken_disk::Disk;
+use ken_order::Order;
 use ken_ship::{NodeFault, SendWorker};
 use ken_store::{Disks, create};
 
@@ -33,7 +34,8 @@ impl<D: Disk> Stage<D> {
             Stage::Uncreated(disks, parts) => {
                 match create(parts.alloc, disks, parts.node, parts.nodes, parts.size) {
                     Ok(store) => {
-                        let (turns, patches, sends) = parts.over(store);
+                        let order = Order::new(parts.nodes);
+                        let (turns, patches, sends) = parts.over(store, order);
                         (Stage::Created(turns, patches, sends), Ok(()))
                     }
                     Err((fault, disks)) => (Stage::Uncreated(disks, parts), answered(Err(fault))),

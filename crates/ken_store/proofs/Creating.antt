@@ -1,6 +1,6 @@
 -- A store is created.
 use Rattle.std.proofs.Common.{◌≡◌, ℕ, zero, suc, ◌+◌, ◌-◌, ◌*◌, ◌≤◌, inl, inr, ⊎_elim, List, [], ◌++◌, length, take, drop, replicate, Bool, true, false, ◌==◌, refl, sym, ap, subst, ◌∙◌, arith, eq-eqb, Option, Some, None, Result, Ok, Err}
-use Rattle.std.specs.Prelude.{if◌then◌else◌, OnOk}
+use Rattle.std.specs.Prelude.{if◌then◌else◌, OnOk, IsSome}
 use Rattle.std.specs.List.{flat_map, range_with_len}
 use Rattle.std.proofs.Math.Seq.{drop-append-add}
 use Rattle.std.proofs.lemmas.Bool.{ne_eqb}
@@ -14,10 +14,12 @@ use Rattle.ken_model.specs.Layout.{first_bytes, first_heap}
 use Rattle.ken_model.specs.Network.{empty_heap}
 use Rattle.ken_model.proofs.First.{first_is_empty}
 use Rattle.ken_log.specs.declared.faults.SealFault.{SealFault}
+use Rattle.ken_log.specs.declared.faults.SealFault.TheVariants.{Disk, Memory}
+use Rattle.ken_log.specs.Calls.{MadeAfterRead, log_writes}
 use Rattle.ken_log.specs.Formats.{MountsAsAny, Replaces}
 use Rattle.ken_log.specs.Mounts.{mount_of}
 use Rattle.ken_log.specs.Mounts as mounts
-use Rattle.ken_log.specs.Seals.{MountsAs}
+use Rattle.ken_log.specs.Seals.{MountsAs, MountsAsEither, as_disk}
 use Rattle.ken_image.specs.Pages.{first_page, first_image}
 use Rattle.ken_image.specs.Whole.{Keeps}
 use Rattle.ken_store.specs.declared.owner.Owner.{Owner}
@@ -27,8 +29,9 @@ use Rattle.ken_store.specs.declared.heads.Front.TheVariants.{Absent, Begins}
 use Rattle.ken_store.specs.declared.disks.Which.TheVariants.{First}
 use Rattle.ken_store.specs.Logs.{front_of, logs_of, is_owned}
 use Rattle.ken_store.specs.Numbers.{no_numbers}
+use Rattle.ken_store.specs.Reads.{of_seal}
 use Rattle.ken_store.specs.Recovered.{Fresh, state_of, recovered, with_logs, with_log}
-use Rattle.ken_store.specs.Creations.{first_header, created, HoldsFirst, FreshOrCreated, Creates}
+use Rattle.ken_store.specs.Creations.{first_header, created, HoldsFirst, FreshOrCreated, Creates, MayFormat, TellsStill}
 use Rattle.ken_store.proofs.Mounted.{front_none, front_whole}
 use Rattle.ken_store.proofs.Recovering.{whole_answer}
 
@@ -84,6 +87,11 @@ first_image-heap (suc n) some =
 
 -- ---- the stories of a creation
 
+-- where something follows, it is told still
+pub follows_still : (R : Story → Story → Type 0) (old new : Option Story) → Follows R old new → TellsStill old new
+follows_still R None new follows some = absurd (let no : ⊥ = cc some in no)
+follows_still R (Some h) new follows some = subst (λ (o : Option Story). IsSome o) (sym follows.1) refl
+
 -- what is known of what was told before and after
 pub follows_at : {X : Type 0} (R : X → X → Type 0) (x y : X) (old new : Option X) → Follows R old new → old ≡ Some x → new ≡ Some y → R x y
 follows_at R x y old new follows was is =
@@ -102,6 +110,7 @@ module _ (o : Owner) (log second : Story) (log_rests : IsAtRest log.now) (second
   creates_not T fault image image2 = record {
     before = before;
     order = inl refl;
+    logs = stays (MountsAsEither mounts.Unformatted (mounts.Whole (first_header o) None [])) log (λ b is. inl (none_on log log_rests log_none b is));
     any_moment = λ l i s may now other. inl (before l i s ((stays (IsImage log.now) log (λ l is. is)).each l may) other);
     ok = tt;
   }
@@ -113,6 +122,9 @@ module _ (o : Owner) (log second : Story) (log_rests : IsAtRest log.now) (second
         ⊎_elim (λ was. inl (fresh o l i s (was ∙ log_none) none))
         (λ rest. ⊎_elim (λ no_log. inl (fresh o l i s no_log none)) (λ whole. inr (made o l i s some most whole none (holds i now))) rest) any
 
+    logs_on : (l : List ℕ) → MountsAsAny (mount_of log.now.seen) (mounts.Whole (first_header o) None []) l → MountsAsEither mounts.Unformatted (mounts.Whole (first_header o) None []) l
+    logs_on l any = ⊎_elim (λ was. inl (was ∙ log_none)) (λ rest. rest) any
+
     made_on : (l i s : List ℕ) → mount_of l ≡ mounts.Whole (first_header o) None [] → IsImage image2.now i → IsImage second.now s → recovered o l i s ≡ created o
     made_on l i s whole now other = made o l i s some most whole (none_on second second_rests second_none s other) (holds i now)
 
@@ -120,6 +132,7 @@ module _ (o : Owner) (log second : Story) (log_rests : IsAtRest log.now) (second
     creates_err U fault = record {
       before = before;
       order = inr holds;
+      logs = record { on = replaces.any_moment.on; each = λ l may. logs_on l (replaces.any_moment.each l may) };
       any_moment = λ l i s may now other. found_on l i s (replaces.any_moment.each l may) now other;
       ok = tt;
     }
@@ -128,6 +141,7 @@ module _ (o : Owner) (log second : Story) (log_rests : IsAtRest log.now) (second
     creates_ok x y ok = record {
       before = before;
       order = inr holds;
+      logs = record { on = replaces.any_moment.on; each = λ l may. logs_on l (replaces.any_moment.each l may) };
       any_moment = λ l i s may now other. found_on l i s (replaces.any_moment.each l may) now other;
       ok = λ l i s is now other. made_on l i s (after l is) now other;
     }
@@ -143,3 +157,23 @@ holds_first pages first s some is rests keeps holds image may =
       long = omega (arith, keeps.long, ap length rests.safe, ap length same);
       holds = ap (take (256 * pages)) same ∙ holds ∙ ap (first_image pages) is ∙ first_image-heap pages some;
     }
+
+-- ---- the calls that the log's disk saw
+
+pub unformatted_still : (T : Type 0) (o : Owner) (fault : StoreFault) (told : Option Story) → Follows (MayFormat {T = T} o (Err fault)) told told
+unformatted_still T o fault None = refl
+unformatted_still T o fault (Some h) = (h, refl, inl refl)
+
+-- two facts of what was told before and after, and a third that follows of both
+pub follows_both : (P Q R : Story → Story → Type 0) (old new : Option Story) → Follows P old new → Follows Q old new → ((h s : Story) → old ≡ Some h → P h s → Q h s → R h s) → Follows R old new
+follows_both P Q R None new one two both = one
+follows_both P Q R (Some h) new one two both = (one.0, one.1, both h one.0 refl one.2 (subst (Q h) (some_is two.0 one.0 (sym two.1 ∙ one.1)) two.2))
+
+-- the log's answer is the store's
+module _ {A B : Type 0} (o : Owner) (h s : Story) where
+  pub formats_ok : (x : A) (y : B) → MadeAfterRead {T = A} (Ok x) (log_writes (first_header o) None h.now.seen) h s → MayFormat {T = B} o (Ok y) h s
+  formats_ok x y made = (record { calls = made; in_doubt = λ no. absurd (let none : ⊥ = cc no in none) })
+
+  pub formats_err : (f : SealFault) → MadeAfterRead (as_disk {T = A} (Err f)) (log_writes (first_header o) None h.now.seen) h s → Replaces {T = A} (mount_of h.now.seen) (mounts.Whole (first_header o) None []) (Err f) h s → MayFormat {T = B} o (Err (of_seal f)) h s
+  formats_err Disk made replaces = inr (record { calls = made; in_doubt = λ _. ⊎_elim inl (λ x. inr x.1) (replaces.in_doubt refl) })
+  formats_err Memory made replaces = inr (record { calls = made; in_doubt = λ no. absurd (let none : ⊥ = cc no in none) })

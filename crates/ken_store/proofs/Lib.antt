@@ -7,9 +7,9 @@ pub mod Recovering
 pub mod Fronts
 pub mod Mounted
 pub mod Creating
-mod Lives
+pub mod Lives
 mod Again
-mod Standing
+pub mod Standing
 mod Found
 mod Currents
 mod Ready
@@ -34,5 +34,6 @@ pub mod ApartLaws
 mod ApartRecovers
 mod TurnMeanwhile
 mod SealRecovers
-mod OtherLog
+pub mod OtherLog
 mod Undone
+mod Worked

@@ -114,4 +114,4 @@ module _ {D : Type 0} (told : D → Option Story) (size : D → ℕ) (store : St
     }
 
   pub ready : (state : State) → state ≡ state_in store.turns → IsReadyStore told size store.turns.owner store state
-  ready state tells = record { takes = takes; owner = refl; idle = idle; tells = tells; again = λ h is i shut holds. stands h is i shut holds }
+  ready state tells = record { takes = takes; owner = refl; idle = idle; tells = tells; again = λ h is i shut holds. stands h is i shut holds; counted = turns }

@@ -1,13 +1,17 @@
 -- A store is created: the image first, and then the log, whose gate is the moment of creation.
-use Rattle.std.specs.Prelude.{◌≡◌, ℕ, ◌*◌, ◌≤◌, ◌⊎◌, List, [], length, take, Option, None, Result, Ok, Err, OnOk}
+use Rattle.std.specs.Prelude.{◌≡◌, ℕ, ◌+◌, ◌*◌, ◌≤◌, ◌⊎◌, List, [], length, take, Option, None, Result, Ok, Err, OnOk, IsErrOf, IsSome}
 use Rattle.ken_disk.specs.declared.faults.DiskFault.TheVariants as disk
 use Rattle.ken_disk.specs.Causes.{HasCause}
 use Rattle.ken_disk.specs.Fates.{Fate, Suffers}
-use Rattle.ken_disk.specs.Moments.{MayLeave}
+use Rattle.ken_disk.specs.Moments.{MayLeave, Through}
 use Rattle.ken_disk.specs.Story.{Story, Follows, IsImage, Leaves}
 use Rattle.ken_model.specs.Layout.{first_heap}
 use Rattle.ken_model.specs.Network.{empty_heap}
 use Rattle.ken_record.specs.declared.header.Header.{Header}
+use Rattle.ken_log.specs.Calls.{MadeAfterRead, log_writes}
+use Rattle.ken_log.specs.Mounts.{mount_of}
+use Rattle.ken_log.specs.Mounts as mounts
+use Rattle.ken_log.specs.Seals.{MountsAsEither, as_disk}
 use Rattle.ken_store.specs.declared.owner.Owner.{Owner}
 use Rattle.ken_store.specs.declared.disks.Disks.{Disks}
 use Rattle.ken_store.specs.declared.faults.StoreFault.{StoreFault}
@@ -18,6 +22,7 @@ use Rattle.ken_store.specs.declared.turning.TurnSide.{TurnSide}
 use Rattle.ken_store.specs.Numbers.{no_numbers}
 use Rattle.ken_store.specs.Recovered.{Recovery, Fresh, Whole, state_of, recovered}
 use Rattle.ken_store.specs.Answers.{disks_in}
+use Rattle.ken_store.specs.Turning.{log_answer}
 
 -- the header of a node's first log
 abbrev pub first_header : Owner → Header
@@ -51,10 +56,27 @@ pub record Creates {T : Type 0} (o : Owner) (result : Result T StoreFault) (log 
   pub before : (l i s : List ℕ) → IsImage log.now l → IsImage second.now s → recovered o l i s ≡ Fresh
   -- the log is touched only when the image is made, and safe
   pub order : (log2 ≡ log) ⊎ Leaves (HoldsFirst o.pages) image2.now
+  -- at any moment a crash leaves no log, or the first one of the node with no record
+  pub logs : Through (MountsAsEither mounts.Unformatted (mounts.Whole (first_header o) None [])) log log2
   -- from then on a crash at any moment leaves disks on which nothing is found, or the new store
   pub any_moment : (l i s : List ℕ) → MayLeave log log2 l → IsImage image2.now i → IsImage second.now s → FreshOrCreated o (recovered o l i s)
   -- and after Ok the new store
   pub ok : OnOk result ((l i s : List ℕ) → IsImage log2.now l → IsImage image2.now i → IsImage second.now s → recovered o l i s ≡ created o)
+
+-- a format of a node's first log, by the answer: which of its calls were made; and where it is in doubt what a crash leaves, all of
+-- its syncs but the last have answered Ok
+pub record Formats {T : Type 0} (o : Owner) (result : Result T StoreFault) (old new : Story) : Type 0 where
+  pub calls : MadeAfterRead (as_disk (log_answer result)) (log_writes (first_header o) None old.now.seen) old new
+  pub in_doubt : IsErrOf result store.Disk → Through (MountsAsEither (mount_of old.now.seen) mounts.Unformatted) old new ⊎ (new.now.syncs + 1 ≡ old.now.syncs + 3)
+
+-- the log's disk saw a format; after an error perhaps no call
+abbrev pub MayFormat : {T : Type 0} → Owner → Result T StoreFault → Story → Story → Type 0
+MayFormat o (Ok x) old new = Formats o (Ok x) old new
+MayFormat {T} o (Err fault) old new = (new ≡ old) ⊎ Formats {T = T} o (Err fault) old new
+
+-- what told what it holds tells it still
+abbrev pub TellsStill : Option Story → Option Story → Type 0
+TellsStill old new = IsSome old → IsSome new
 
 -- where the disks are after a creation
 abbrev pub made_disks : {D : Type 0} → Result (Store D) (StoreFault × Disks D) → Disks D

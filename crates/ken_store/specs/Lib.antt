@@ -14,3 +14,4 @@ pub mod Standing
 pub mod Lending
 pub mod Turnovers
 pub mod Apart
+pub mod Work

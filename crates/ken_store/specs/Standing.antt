@@ -1,5 +1,5 @@
 -- A store as a whole: what its two sides stand for together.
-use Rattle.std.specs.Prelude.{◌≡◌, ℕ, ◌+◌, ◌⊎◌, List, [], ◌∷◌, ◌++◌, Option, None, Result, Ok, Err, true, false}
+use Rattle.std.specs.Prelude.{◌≡◌, ℕ, ◌+◌, ◌⊎◌, List, [], ◌∷◌, ◌++◌, length, replicate, Option, None, Result, Ok, Err, true, false}
 use Rattle.ken_disk.specs.Moments.{MayLeave}
 use Rattle.ken_disk.specs.Story.{Story, Tells, IsImage}
 use Rattle.ken_model.specs.declared.states.State.{State}
@@ -22,6 +22,7 @@ use Rattle.ken_store.specs.declared.store.Recovered.TheVariants as found
 use Rattle.ken_store.specs.Answers.{TellsAll, AreAtRest, AreUnformatted}
 use Rattle.ken_store.specs.Patching.{HoldsImage, TakesPatches, Patching}
 use Rattle.ken_store.specs.PatchLaws.{IsAheadOf, LastChangedBefore}
+use Rattle.ken_store.specs.Kept.{base_pages}
 use Rattle.ken_store.specs.Numbers.{after_record}
 use Rattle.ken_store.specs.Recovered.{Recovery, Whole, state_of, recovered}
 use Rattle.ken_store.specs.Turning.{AreChangedPages, IsSealed, Turning, coming_record, turn_pages, state_in}
@@ -58,6 +59,8 @@ pub record IsReadyStore {D : Type 0} (told : D → Option Story) (size : D → �
   pub idle : store.turns.objects.begun ≡ None
   pub tells : state ≡ state_in store.turns
   pub again : StandsAgain told size store
+  -- each page of its base counts as changed by the base's last turn
+  pub counted : store.turns.base_turns.items ≡ replicate (length (base_pages store.turns.log.base)) store.turns.log.header.turns
 
 abbrev pub IsReady : {D : Type 0} → (D → Option Story) → (D → ℕ) → Owner → Result (Recovered D) StoreFault → Type 0
 IsReady told size o (Ok (found.Whole store state records)) = IsReadyStore told size o store state

@@ -23,6 +23,7 @@ mod recovery;
 mod resume;
 mod state;
 mod store;
+mod syncs;
 mod telling;
 mod together;
 mod turning;
@@ -52,4 +53,5 @@ pub use patch_laws::{
 pub use patching::PatchSide;
 pub use recovery::recover;
 pub use store::{Recovered, Store};
+pub use syncs::{a_creation_takes_three_syncs, a_seal_takes_two_syncs, a_turnover_keeps_the_syncs};
 pub use turning::TurnSide;

@@ -1,6 +1,6 @@
 // Creations on disks in memory, cut at their calls, and what is found then.
 use crate::disks::{crashed, create_on};
-use crate::found::{Found, numbers};
+use crate::found::{Found, but_for_memory, numbers};
 use ken_memdisk::{Cut, MemDisk};
 use ken_store::*;
 use std::alloc::Global;
@@ -14,7 +14,7 @@ fn found_on(alloc: Global, disks: Disks<MemDisk>, pick: u64) -> Result<Found, Fa
         Ok(Recovered::Whole(store, state, _records)) => {
             Ok(numbers(&state, &store.value(alloc)?))
         }
-        Err((fault, _disks)) => Ok(Found::Fault(fault)),
+        Err((fault, _disks)) => Ok(Found::Fault(but_for_memory(fault)?)),
     }
 }
 

@@ -3,12 +3,44 @@ ghost use Rattle.std.specs.Prelude.{◌≤◌, IfOk};
 ghost use Rattle.ken_disk.specs.Story.{IsAtRest};
 ghost use Rattle.ken_store.specs.Answers.{AreAtRest, AreUnformatted};
 ghost use Rattle.ken_store_vectors.specs.Disks.{told};
+ghost use Rattle.ken_store_vectors.specs.Stores.{IsIdle};
 
+use crate::found::but_for_memory;
 use ken_disk::Disk;
-use ken_memdisk::MemDisk;
+use ken_memdisk::{Cut, MemDisk};
 use ken_store::*;
 use std::alloc::Global;
 use std::test::Fail;
+
+// One of the disks of a node.
+#[derive(Clone, Copy, Debug, PartialEq, Eq)]
+pub(crate) enum Place {
+    Log,
+    Image,
+    Second,
+}
+
+// A disk that is cut at this call, if at all.
+fn disk_cut(alloc: Global, is_cut: bool, cut: Cut) -> Result<MemDisk, Fail>
+    ensures { IfOk result (λ d. IsAtRest d.held.story.now) }
+{
+    if is_cut {
+        Ok(MemDisk::new(alloc, &[cut])?)
+    } else {
+        Ok(MemDisk::new(alloc, &[])?)
+    }
+}
+
+// Disks without a byte, of which one is cut at this call.
+pub(crate) fn cut_at(alloc: Global, place: Place, cut: Cut) -> Result<Disks<MemDisk>, Fail>
+    ensures { IfOk result (λ d. AreAtRest told d) }
+{
+    Ok(Disks {
+        log: disk_cut(alloc, place == Place::Log, cut)?,
+        image: disk_cut(alloc, place == Place::Image, cut)?,
+        second: disk_cut(alloc, place == Place::Second, cut)?,
+    })
+}
 
 fn restarted(mut disk: MemDisk, pick: u64) -> Result<MemDisk, Fail>
     ensures { IfOk result (λ d. IsAtRest d.held.story.now) }
@@ -41,6 +73,23 @@ fn fresh_on(alloc: Global, disks: Disks<MemDisk>) -> Result<Disks<MemDisk>, Fail
     }
 }
 
+// Creates the store of one node. Want of memory ends the test.
+pub(crate) fn created_on(
+    alloc: Global,
+    disks: Disks<MemDisk>,
+    pages: u32,
+) -> Result<Result<Store<MemDisk>, (StoreFault, Disks<MemDisk>)>, Fail>
+    requires rests { AreAtRest told disks }
+    requires some { 1 ≤ pages }
+    requires most { pages ≤ 4096 }
+    ensures { IfOk result (λ answer. IfOk answer IsIdle) }
+{
+    match create(alloc, fresh_on(alloc, disks)?, 0, 1, pages) {
+        Ok(store) => Ok(Ok(store)),
+        Err((fault, disks)) => Ok(Err((but_for_memory(fault)?, disks))),
+    }
+}
+
 // Creates the store of one node, and gives the disks back.
 pub(crate) fn create_on(
     alloc: Global,
@@ -51,7 +100,7 @@ pub(crate) fn create_on(
     requires some { 1 ≤ pages }
     requires most { pages ≤ 4096 }
 {
-    match create(alloc, fresh_on(alloc, disks)?, 0, 1, pages) {
+    match created_on(alloc, disks, pages)? {
         Ok(store) => Ok((Ok(()), store.release())),
         Err((fault, disks)) => Ok((Err(fault), disks)),
     }

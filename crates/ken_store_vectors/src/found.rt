@@ -36,6 +36,14 @@ pub(crate) fn damaged(disk: u8, place: u64) -> Found {
     Found::Fault(StoreFault::Damaged { disk, place })
 }
 
+// A fault of a disk or of its bytes. Want of memory ends the test.
+pub(crate) fn but_for_memory(fault: StoreFault) -> Result<StoreFault, Fail> {
+    match fault {
+        StoreFault::Memory => Err(Fail::from(fault)),
+        _ => Ok(fault),
+    }
+}
+
 // A disk that holds these bytes.
 fn disk_of(alloc: Global, bytes: &[u8]) -> Result<MemDisk, Fail>
     requires { length bytes.now ≤ 4096 }
@@ -76,6 +84,6 @@ pub(crate) fn left_by(alloc: Global, log: &[u8], image: &[u8], second: &[u8]) ->
         Ok(Recovered::Whole(store, state, _records)) => {
             Ok(numbers(&state, &store.value(alloc)?))
         }
-        Err((fault, _disks)) => Ok(Found::Fault(fault)),
+        Err((fault, _disks)) => Ok(Found::Fault(but_for_memory(fault)?)),
     }
 }

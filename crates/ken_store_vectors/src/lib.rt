@@ -2,10 +2,22 @@
 #![tactic(auto)]
 
 #[cfg(test)]
+mod acts;
+#[cfg(test)]
+mod bases;
+#[cfg(test)]
+mod changes;
+#[cfg(test)]
 mod creations;
+#[cfg(test)]
+mod cuts;
 #[cfg(test)]
 mod disks;
 #[cfg(test)]
 mod found;
+#[cfg(test)]
+mod heaps;
+#[cfg(test)]
+mod plays;
 #[cfg(test)]
 mod recoveries;

@@ -1,10 +1,11 @@
+use Rattle.std.specs.Prelude.{IsSome}
 use Rattle.std.specs.List.{AllByRecursion}
 use Rattle.ken_record.specs.Grammar.{IsRecord}
 use Rattle.ken_record.specs.Versions.{One}
 use Rattle.ken_store.specs.declared.disks.Which.TheVariants.{First}
 use Rattle.ken_store.specs.declared.turning.TurnSide.{TurnSide}
 use Rattle.ken_store.specs.Numbers.{no_numbers}
-use Rattle.ken_disk.specs.Story.{IsImage}
+use Rattle.ken_disk.specs.Story.{Follows, IsImage}
 use Rattle.ken_disk.proofs.Images.{image-seen_at_rest}
 use Rattle.ken_disk.proofs.Told.{tells_after}
 use Rattle.ken_model.specs.Layout.{first_heap}
@@ -23,8 +24,11 @@ use Rattle.ken_log.specs.Mounts as mounts
 use Rattle.ken_store.specs.declared.owner.Owner.{Owner}
 use Rattle.ken_store.specs.declared.faults.StoreFault.TheVariants.{Memory}
 use Rattle.ken_store.specs.declared.store.Store.{Store}
-use Rattle.ken_store.specs.Creations.{Creates, first_header}
-use Rattle.ken_store.proofs.Creating.{first_image-heap, owned, creates_not, creates_err, creates_ok, follows_at, holds_first}
+use Rattle.ken_log.specs.Calls.{MadeAfterRead, log_writes}
+use Rattle.ken_log.specs.Seals.{as_disk}
+use Rattle.ken_store.specs.declared.faults.StoreFault.{StoreFault}
+use Rattle.ken_store.specs.Creations.{Creates, MayFormat, first_header}
+use Rattle.ken_store.proofs.Creating.{first_image-heap, owned, creates_not, creates_err, creates_ok, follows_at, follows_both, formats_err, formats_ok, holds_first, follows_still, unformatted_still}
 use Rattle.ken_store.proofs.creation.create.Goals as goal
 
 pub returns-in-Err-clause-creates : goal.returns-in-Err-clause-creates
@@ -109,3 +113,37 @@ returns-in-Ok-format-2-clause-ready g c =
     (λ h told.
     let made = c.in-Ok-format.ensures.holds h told in
     (made.0, made.1 ∙ ap (first_image c.args.pages) c.in-Ok.ensures.page ∙ first_image-heap c.args.pages c.requires.some))
+
+pub returns-in-Err-clause-tells : goal.returns-in-Err-clause-tells
+returns-in-Err-clause-tells g c = (λ some. some, λ some. some)
+
+pub returns-in-Err-format-clause-tells : goal.returns-in-Err-format-clause-tells
+returns-in-Err-format-clause-tells g c = (λ some. some, follows_still _ _ _ c.in-Err-format.ensures.calls)
+
+pub returns-in-Ok-format-2-clause-tells : goal.returns-in-Ok-format-2-clause-tells
+returns-in-Ok-format-2-clause-tells g c = (follows_still _ _ _ c.in-Ok-format-2.ensures.story, follows_still _ _ _ c.in-Ok-format.ensures.calls)
+
+pub returns-in-Err-format-2-clause-tells : goal.returns-in-Err-format-2-clause-tells
+returns-in-Err-format-2-clause-tells g c = (follows_still _ _ _ c.in-Err-format-2.ensures.story, λ some. subst (λ (d : g.row.D.Denot). IsSome (g.D.Disk.told d)) (sym c.release-image.ensures) (follows_still _ _ _ c.in-Ok-format.ensures.calls some))
+
+pub returns-in-Err-clause-calls : goal.returns-in-Err-clause-calls
+returns-in-Err-clause-calls g c = unformatted_still (Store g.row.D.Denot) _ _ _
+
+pub returns-in-Err-format-clause-calls : goal.returns-in-Err-format-clause-calls
+returns-in-Err-format-clause-calls g c = unformatted_still (Store g.row.D.Denot) _ _ _
+
+pub returns-in-Ok-format-2-clause-calls : goal.returns-in-Ok-format-2-clause-calls
+returns-in-Ok-format-2-clause-calls g c =
+    let o : Owner = record { node = c.args.node; nodes = c.args.nodes; pages = c.args.pages } in
+    follows_both (λ (h n : Story). IsAtRest h.now → Replaces (mount_of h.now.seen) (mounts.Whole (first_header o) None []) (Ok c.in-Ok-format-2.log) h n)
+    (λ (h n : Story). MadeAfterRead (as_disk (Ok c.in-Ok-format-2.log)) (log_writes (first_header o) None h.now.seen) h n) (MayFormat {T = Store g.row.D.Denot} o (Ok _)) _ _ c.in-Ok-format-2.ensures.story c.in-Ok-format-2.ensures.calls
+    (λ h n is replaces made. formats_ok o h n c.in-Ok-format-2.log _ made)
+
+pub returns-in-Err-format-2-clause-calls : goal.returns-in-Err-format-2-clause-calls
+returns-in-Err-format-2-clause-calls g c =
+    let o : Owner = record { node = c.args.node; nodes = c.args.nodes; pages = c.args.pages } in
+    let fault = c.in-Err-format-2.fault in
+    subst (λ (f : StoreFault). Follows (MayFormat {T = Store g.row.D.Denot} o (Err f)) (g.D.Disk.told c.args.disks.log) (g.D.Disk.told c.in-Err-format-2.log)) (sym c.from-in-Err-format-2.ensures)
+    (follows_both (λ (h n : Story). IsAtRest h.now → Replaces (mount_of h.now.seen) (mounts.Whole (first_header o) None []) (Err fault) h n)
+    (λ (h n : Story). MadeAfterRead (as_disk (Err fault)) (log_writes (first_header o) None h.now.seen) h n) (MayFormat {T = Store g.row.D.Denot} o (Err _)) _ _ c.in-Err-format-2.ensures.story c.in-Err-format-2.ensures.calls
+    (λ h n is replaces made. formats_err o h n fault made (replaces (c.requires.rests.log h is))))

@@ -2,10 +2,11 @@ use Rattle.std.proofs.Common.{◌≡◌, ℕ, Ok, Err, Result, sym, subst}
 use Rattle.ken_store.specs.declared.disks.Disks.{Disks}
 use Rattle.ken_store.specs.declared.faults.StoreFault.{StoreFault}
 use Rattle.ken_store.specs.Answers.{AreUnformatted}
+use Rattle.ken_order.specs.Consumed.{Consumed}
 use Rattle.ken_ship.specs.declared.faults.NodeFault.{NodeFault}
 use Rattle.ken_node.specs.declared.parts.Parts.{Parts}
 use Rattle.ken_node.specs.declared.stage.Stage.TheVariants.{Created, Uncreated}
-use Rattle.ken_node.specs.Created.{IsCreation}
+use Rattle.ken_node.specs.Created.{AreOver, IsCreation, first_order}
 use Rattle.ken_node.specs.Faults.{node_answer}
 use Rattle.ken_node.specs.First.{AreFirst}
 use Rattle.ken_node.specs.News.{AreInputs}
@@ -33,9 +34,11 @@ returns-in-Ok-clause-creation g c = λ game v disks u.
     let parts : u.parts ≡ x = cc in
     let same : c.in-Uncreated.disks ≡ disks = cc in
     let e = c.in-Ok.ensures in
+    let over : AreOver x c.in-Ok.store (first_order x.nodes) c.over-turns.result.0 c.over-turns.result.1 c.over-turns.result.2 =
+    subst (λ (o : Consumed). AreOver x c.in-Ok.store o c.over-turns.result.0 c.over-turns.result.1 c.over-turns.result.2) c.new-order.ensures c.over-turns.ensures in
     subst (λ (d : Disks g.row.D.Denot). IsCreation {T = Unit {0}} g.D.Disk.told g.D.Disk.size g.D.Disk.faults g.D.Disk.fate game v (Ok tt) d stage) same
     (created_ok g.D.Disk.told g.D.Disk.size g.D.Disk.faults g.D.Disk.fate game v x c.in-Uncreated.disks c.in-Ok.store c.over-turns.result.0 c.over-turns.result.1 c.over-turns.result.2
-    u.limits (subst (AreFirst game v) parts u.first) c.over-turns.ensures e.ready e.idle e.value e.new e.creates e.second e.faults)
+    u.limits (subst (AreFirst game v) parts u.first) over e.ready e.idle e.value e.new e.creates e.tells e.second e.faults)
 
 pub returns-in-Err-clause-creation : goal.returns-in-Err-clause-creation
 returns-in-Err-clause-creation g c = λ game v disks u.
@@ -46,4 +49,4 @@ returns-in-Err-clause-creation g c = λ game v disks u.
     let answer : Result (Unit {0}) StoreFault = Err c.in-Err.fault in
     subst (λ (r : Result (Unit {0}) NodeFault). IsCreation g.D.Disk.told g.D.Disk.size g.D.Disk.faults g.D.Disk.fate game v r disks (Uncreated c.in-Err.disks x)) (sym c.answered.ensures)
     (subst (λ (d : Disks g.row.D.Denot). IsCreation g.D.Disk.told g.D.Disk.size g.D.Disk.faults g.D.Disk.fate game v (node_answer answer) d (Uncreated c.in-Err.disks x)) same
-    (created_err g.D.Disk.told g.D.Disk.size g.D.Disk.faults g.D.Disk.fate game v x c.in-Uncreated.disks c.in-Err.disks c.in-Err.fault u.limits u.known (subst (AreFirst game v) parts u.first) e.creates e.second e.faults))
+    (created_err g.D.Disk.told g.D.Disk.size g.D.Disk.faults g.D.Disk.fate game v x c.in-Uncreated.disks c.in-Err.disks c.in-Err.fault u.limits u.known (subst (AreFirst game v) parts u.first) e.creates e.tells e.second e.faults))

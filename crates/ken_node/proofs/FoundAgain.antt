@@ -1,0 +1,184 @@
+-- What a crash leaves of a node's disks is found again.
+use Rattle.std.proofs.Common.{◌≡◌, ℕ, ◌*◌, ◌<◌, ◌≤◌, ◌⊎◌, inl, inr, List, [], ◌∷◌, ◌++◌, length, map, replicate, take, Bool, true, false, ◌==◌, refl, sym, ap, subst, ◌∙◌, arith, Option, Some, None, Ok}
+use Rattle.std.specs.Prelude.{nat_lt}
+use Rattle.std.specs.List.{flat_map, zip}
+use Rattle.std.proofs.lemmas.Bool.{ne_eqb, lt-ltb, le-ltb}
+use Rattle.std.proofs.lemmas.List.{length-take}
+use Rattle.std.proofs.lemmas.List.Concat.{flat_map-cons}
+use Rattle.ken_model.specs.declared.states.State.{State}
+use Rattle.ken_model.specs.declared.values.Value.{Value}
+use Rattle.ken_model.specs.Game.{Game}
+use Rattle.ken_model.specs.Limits.{IsWithinLimits}
+use Rattle.ken_model.specs.Reading.{read_value}
+use Rattle.ken_record.specs.declared.base.Base.{Base}
+use Rattle.ken_record.specs.declared.header.Header.{Header}
+use Rattle.ken_record.specs.declared.page.Page.{Page}
+use Rattle.ken_record.specs.declared.record.Record.{Record}
+use Rattle.ken_log.specs.Mounts.{Mounted, mount_of}
+use Rattle.ken_log.specs.Mounts as mounts
+use Rattle.ken_cover.specs.Covers.{IsPossible}
+use Rattle.ken_cover.specs.Overlay.{overlay}
+use Rattle.ken_cover.specs.Sides.{pages_of}
+use Rattle.ken_cover.proofs.Bases.{page_in, pages_of-first, pages_of-recounted, pages-changes_at}
+use Rattle.ken_cover.proofs.Keeps.{images_recover}
+use Rattle.ken_core.specs.Calls.{Doubt, no_doubt}
+use Rattle.ken_core.specs.Nodes.{Node, first_node, heap_pages}
+use Rattle.ken_core.specs.Packets.{Packet}
+use Rattle.ken_store.specs.declared.disks.Which.{Which}
+use Rattle.ken_store.specs.declared.disks.Which.TheVariants.{First, Second}
+use Rattle.ken_store.specs.declared.numbers.Numbers.{Numbers}
+use Rattle.ken_store.specs.declared.owner.Owner.{Owner}
+use Rattle.ken_store.specs.Kept.{base_pages, pages_in, record_pages}
+use Rattle.ken_store.specs.Logs.{logs_of, log_on, other_log, is_owned, may_own}
+use Rattle.ken_store.specs.Recovered.{Recovery, Fresh, Whole, IsRefusedAt, checked, heap_of, numbers_of, recovered, state_of, with_image, with_log, with_logs, with_state}
+use Rattle.ken_store.specs.Turning.{changed_in, live_layers, record_layer}
+use Rattle.ken_store.proofs.Creating.{fresh}
+use Rattle.ken_store.proofs.Mounted.{front_none, front_whole}
+use Rattle.ken_node.specs.Created.{owner_of}
+use Rattle.ken_node.specs.Down.{ComesOut, Finds, HasLanded, IsOlder, IsSound, Left, MountedLog, TellsNode, a_log, nothing}
+use Rattle.ken_node.proofs.Creation.{size_is}
+
+-- ---- which log is current
+
+ap-two : {A B C : Type 0} (f : A → B → C) {a a2 : A} {b b2 : B} → a ≡ a2 → b ≡ b2 → f a b ≡ f a2 b2
+ap-two f {a2 = a2} {b = b} one other = ap (λ x. f x b) one ∙ ap (f a2) other
+
+module _ (o : Owner) (head : Header) (base : Option Base) (records : List Record) (owned : is_owned o head ≡ true) where
+  -- of two logs this one is read, and both headers are the owner's
+  record IsCurrent (which : Which) (log image second : List ℕ) : Type 0 where
+    first : Option Header
+    later : Option Header
+    reads : recovered o log image second ≡ with_log o which first later image (mount_of (log_on which log second))
+    own_first : may_own o first ≡ true
+    own_later : may_own o later ≡ true
+
+  beside : (which : Which) (log image second : List ℕ) (m : Mounted) → mount_of (log_on which log second) ≡ mounts.Whole head base records → mount_of (log_on (other_log which) log second) ≡ m → IsOlder o head m → IsCurrent which log image second
+  beside First log image second mounts.Unformatted this that older = record {
+    first = Some head;
+    later = None;
+    reads = ap-two (λ a b. with_logs o log image second (logs_of a b)) (front_whole log head base records this) (front_none second that);
+    own_first = owned;
+    own_later = refl;
+  }
+  beside Second log image second mounts.Unformatted this that older = record {
+    first = None;
+    later = Some head;
+    reads = ap-two (λ a b. with_logs o log image second (logs_of a b)) (front_none log that) (front_whole second head base records this);
+    own_first = refl;
+    own_later = owned;
+  }
+  beside which log image second (mounts.Damaged place) this that older = absurd older
+  beside First log image second (mounts.Whole h b rs) this that older =
+      let less : h.generation < head.generation = older.0 in
+      let different : (head.generation == h.generation) ≡ false = ne_eqb head.generation h.generation (λ e. let none : ⊥ = omega (arith, e, less) in none) in
+      let no_less : nat_lt head.generation h.generation ≡ false = le-ltb _ _ (omega (arith, less)) in
+      record {
+        first = Some head;
+        later = Some h;
+        reads = ap-two (λ a b. with_logs o log image second (logs_of a b)) (front_whole log head base records this) (front_whole second h b rs that) ∙ rw (different, no_less) refl;
+        own_first = owned;
+        own_later = older.1;
+      }
+  beside Second log image second (mounts.Whole h b rs) this that older =
+      let less : h.generation < head.generation = older.0 in
+      let different : (h.generation == head.generation) ≡ false = ne_eqb h.generation head.generation (λ e. let none : ⊥ = omega (arith, e, less) in none) in
+      let is_less : nat_lt h.generation head.generation ≡ true = lt-ltb _ _ less in
+      record {
+        first = Some h;
+        later = Some head;
+        reads = ap-two (λ a b. with_logs o log image second (logs_of a b)) (front_whole log h b rs that) (front_whole second head base records this) ∙ rw (different, is_less) refl;
+        own_first = older.1;
+        own_later = owned;
+      }
+
+  module _ (n : Numbers) (numbers : numbers_of o head base records ≡ Ok n) (image heap : List ℕ) (long : 256 * o.pages ≤ length image) (laid : heap_of o base records image ≡ heap) (value : Value) (reads : read_value heap ≡ Some value) where
+    image-found : with_image o (state_of o.node n base records) base records image ≡ Whole (state_of o.node n base records) value
+    image-found =
+        let enough : nat_lt (length image) (256 * o.pages) ≡ false = le-ltb _ _ long in
+        rw (enough, laid, reads) refl
+
+    log-found : (which : Which) (log second : List ℕ) → mount_of (log_on which log second) ≡ mounts.Whole head base records → IsOlder o head (mount_of (log_on (other_log which) log second)) → recovered o log image second ≡ Whole (state_of o.node n base records) value
+    log-found which log second this older =
+        let are = beside which log image second (mount_of (log_on (other_log which) log second)) this refl older in
+        let passes : checked o which are.first are.later head base records ≡ Ok (state_of o.node n base records) = rw (are.own_first, are.own_later, numbers) refl in
+        are.reads
+        ∙ ap (with_log o which are.first are.later image) this
+        ∙ ap (with_state o base records image) passes
+        ∙ image-found
+
+-- ---- the pages that the log tells
+
+records-pages : (records : List Record) → pages_of (map record_layer records) ≡ flat_map record_pages records
+records-pages [] = refl
+records-pages (r ∷ rs) =
+    pages_of-first (record_layer r) (map record_layer rs)
+    ∙ ap (λ es. es ++ pages_of (map record_layer rs)) (pages-changes_at r.turn r.pages)
+    ∙ ap (λ es. r.pages ++ es) (records-pages rs)
+    ∙ sym (flat_map-cons record_pages r rs)
+
+base-changes : (turn : ℕ) (pages : List Page) → map page_in (map changed_in (zip (replicate (length pages) turn) pages)) ≡ pages
+base-changes turn [] = refl
+base-changes turn (e ∷ es) = ap (λ l. e ∷ l) (base-changes turn es)
+
+live-pages : (head : Header) (base : Option Base) (records : List Record) → pages_of (live_layers head base (replicate (length (base_pages base)) head.turns) records) ≡ pages_in base records
+live-pages head None records = records-pages records
+live-pages head (Some b) records =
+    pages_of-first (record { turn = head.turns; changes = map changed_in (zip (replicate (length b.pages) head.turns) b.pages) }) (map record_layer records)
+    ∙ ap (λ es. es ++ pages_of (map record_layer records)) (base-changes head.turns b.pages)
+    ∙ ap (λ es. b.pages ++ es) (records-pages records)
+
+-- ---- what is found
+
+-- a log was left, over an image that is possible of it
+pub record HasLog (g : Game) (v : ℕ) (given : List Packet) (n : Node) (doubt : Doubt) (log image second : List ℕ) : Type 0 where
+  pub landed : Bool
+  pub node : Node
+  pub mounted : MountedLog
+  pub comes : ComesOut g v given n doubt landed node
+  pub newest : HasLanded doubt landed n node mounted.records
+  pub sound : IsSound g v node
+  pub tells : TellsNode g v node mounted
+  pub finds : Finds (owner_of g v) log second mounted
+  pub possible : IsPossible node.patching (take g.size image)
+
+module _ (g : Game) (v : ℕ) (limits : IsWithinLimits g) where
+  -- what such disks recover to: the state that the log tells, and the value of the node's heap
+  pub log-is-found : (m : Node) (k : MountedLog) (log image second : List ℕ) (sound : IsSound g v m) (tells : TellsNode g v m k) → Finds (owner_of g v) log second k → IsPossible m.patching (take g.size image)
+      → recovered (owner_of g v) log image second ≡ Whole (state_of v tells.numbers k.base k.records) sound.value
+  log-is-found m k log image second sound tells finds possible =
+      let o : Owner = owner_of g v in
+      let size = size_is g limits in
+      let pages : pages_of m.turning.pages.live ≡ pages_in k.base k.records =
+      sym (pages_of-recounted m.turning.pages.live) ∙ ap pages_of tells.live ∙ live-pages k.head k.base k.records in
+      let laid : heap_of o k.base k.records image ≡ m.turning.pages.heap =
+      ap (λ (n : ℕ). overlay (take n image) (pages_in k.base k.records)) size
+      ∙ ap (overlay (take g.size image)) (sym pages)
+      ∙ images_recover (heap_pages g) true m.turning.pages m.patching (take g.size image) sound.covers possible in
+      let taken = sym (length-take g.size image) ∙ possible.size ∙ sound.covers.image_size in
+      log-found o k.head k.base k.records finds.owned tells.numbers tells.numbers_are image m.turning.pages.heap (omega (arith, taken)) laid sound.value sound.reads finds.which log second finds.mounts finds.other
+
+  module _ (given : List Packet) (n : Node) (doubt : Doubt) (log image second : List ℕ) where
+    -- nothing is found where the node was being created, and else a state and a value
+    pub left-is-found : Left g v given n doubt log image second → (recovered (owner_of g v) log image second ≡ Fresh) ⊎ ((state : State) × ((value : Value) × (recovered (owner_of g v) log image second ≡ Whole state value)))
+    left-is-found (nothing first calm no_log no_second) = inl (fresh (owner_of g v) log image second no_log no_second)
+    left-is-found (a_log landed m k comes newest sound tells finds possible) = inr (state_of v tells.numbers k.base k.records, (sound.value, log-is-found m k log image second sound tells finds possible))
+
+    -- so nothing is refused
+    pub left-is-sound : Left g v given n doubt log image second → (disk place : ℕ) → IsRefusedAt (recovered (owner_of g v) log image second) disk place → ⊥
+    left-is-sound (nothing first calm no_log no_second) disk place refused = subst (λ (r : Recovery). IsRefusedAt r disk place) (fresh (owner_of g v) log image second no_log no_second) refused
+    left-is-sound (a_log landed m k comes newest sound tells finds possible) disk place refused = subst (λ (r : Recovery). IsRefusedAt r disk place) (log-is-found m k log image second sound tells finds possible) refused
+
+    -- where nothing is found, the node was being created
+    pub fresh-is-first : Left g v given n doubt log image second → recovered (owner_of g v) log image second ≡ Fresh → (n ≡ first_node g) × (doubt ≡ no_doubt) × (mount_of log ≡ mounts.Unformatted) × (mount_of second ≡ mounts.Unformatted)
+    fresh-is-first (nothing first calm no_log no_second) is = (first, calm, no_log, no_second)
+    fresh-is-first (a_log landed m k comes newest sound tells finds possible) is =
+        let whole = log-is-found m k log image second sound tells finds possible in
+        let none : ⊥ = cc (is, whole) in absurd none
+
+    -- and where a state is found, there was a log
+    pub whole-has-log : (state : State) (value : Value) → Left g v given n doubt log image second → recovered (owner_of g v) log image second ≡ Whole state value → HasLog g v given n doubt log image second
+    whole-has-log state value (nothing first calm no_log no_second) is =
+        let none = fresh (owner_of g v) log image second no_log no_second in
+        let no : ⊥ = cc (is, none) in absurd no
+    whole-has-log state value (a_log landed m k comes newest sound tells finds possible) is =
+        record { landed = landed; node = m; mounted = k; comes = comes; newest = newest; sound = sound; tells = tells; finds = finds; possible = possible }

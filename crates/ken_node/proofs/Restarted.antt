@@ -1,0 +1,100 @@
+-- Disks that were restarted, and a node on them.
+use Rattle.std.proofs.Common.{◌≡◌, ℕ, List, inl, inr, ⊎_elim, refl, sym, subst, ◌∙◌, Option, Some, None, Result, Ok, Err}
+use Rattle.std.specs.Prelude.{IsSome}
+use Rattle.ken_disk.specs.Fates.{Fate}
+use Rattle.ken_disk.specs.Steps.{WentDown}
+use Rattle.ken_disk.specs.Story.{Story, Follows, IsImage, IsAtRest, Tells}
+use Rattle.ken_disk.proofs.Images.{came_up, image_at_rest}
+use Rattle.ken_disk.proofs.Told.{by_none, some_is, tells_after, weakened}
+use Rattle.ken_model.specs.Game.{Game}
+use Rattle.ken_core.specs.Calls.{Doubt}
+use Rattle.ken_core.specs.Nodes.{Node}
+use Rattle.ken_core.specs.Packets.{Packet}
+use Rattle.ken_store.specs.declared.disks.Disks.{Disks}
+use Rattle.ken_store.specs.Answers.{AreAtRest}
+use Rattle.ken_ship.specs.declared.faults.NodeFault.{NodeFault}
+use Rattle.ken_ship.specs.declared.faults.NodeFault.TheVariants.{Disk, Damaged, Outlet, Memory}
+use Rattle.ken_node.specs.declared.parts.Parts.{Parts}
+use Rattle.ken_node.specs.declared.stage.Stage.TheVariants.{Uncreated}
+use Rattle.ken_node.specs.Down.{AreTold, IsDown, LeavesLog, LeavesNode}
+use Rattle.ken_node.specs.Restarting.{LeaveLess, LeavesLess, RecoversBy}
+use Rattle.ken_node.specs.Restarts.{RestartsBy, WereRestarted}
+
+-- ---- what a crash leaves then
+
+-- of a disk that went down
+went-less : (a b : Story) → WentDown a b → (image : List ℕ) → IsImage b.now image → IsImage a.now image
+went-less a b went image is =
+    let up = came_up a b went in
+    subst (IsImage a.now) (sym (image_at_rest b.now up.1 image is)) up.0
+
+pub down-less : (old new : Option Story) → Follows WentDown old new → LeavesLess old new
+down-less old new follows = weakened WentDown (λ (a b : Story). (image : List ℕ) → IsImage b.now image → IsImage a.now image) old new follows (λ a b was went. went-less a b went)
+
+-- of one that saw no call
+pub same-less : (old new : Option Story) → new ≡ old → LeavesLess old new
+same-less old new is = by_none (λ (a b : Story). (image : List ℕ) → IsImage b.now image → IsImage a.now image) old new is (λ a image left. left)
+
+pub down-rests : (old new : Option Story) → Follows WentDown old new → Tells new (λ h. IsAtRest h.now)
+down-rests old new follows = tells_after WentDown (λ (h : Story). IsAtRest h.now) old new follows (λ a b was went. let up = came_up a b went in up.1)
+
+less-told : (old new : Option Story) → LeavesLess old new → IsSome old → IsSome new
+less-told None new less some = absurd (let no : ⊥ = cc some in no)
+less-told (Some h) new less some = subst (λ (o : Option Story). IsSome o) (sym less.1) refl
+
+-- the story before
+was-told : (old new : Option Story) → LeavesLess old new → (h : Story) → new ≡ Some h → (b : Story) × ((old ≡ Some b) × ((image : List ℕ) → IsImage h.now image → IsImage b.now image))
+was-told None new less h is = absurd (let no : ⊥ = cc in no)
+was-told (Some b) new less h is =
+    (b, (refl, subst (λ (x : Story). (image : List ℕ) → IsImage x.now image → IsImage b.now image) (some_is less.0 h (sym less.1 ∙ is)) less.2))
+
+module _ {D : Type 0} (told : D → Option Story) where
+  less-told_all : (old new : Disks D) → LeaveLess told old new → AreTold told old → AreTold told new
+  less-told_all old new less tell =
+      (less-told (told old.log) (told new.log) less.log tell.0, less-told (told old.image) (told new.image) less.image tell.1, less-told (told old.second) (told new.second) less.second tell.2)
+
+  less-node : (g : Game) (v : ℕ) (given : List Packet) (n : Node) (doubt : Doubt) (old new : Disks D) → LeaveLess told old new → LeavesNode told g v given n doubt old → LeavesNode told g v given n doubt new
+  less-node g v given n doubt old new less leaves = λ l el i ei s es log image second at_log at_image at_second.
+      let a = was-told (told old.log) (told new.log) less.log l el in
+      let b = was-told (told old.image) (told new.image) less.image i ei in
+      let c = was-told (told old.second) (told new.second) less.second s es in
+      leaves a.0 a.1.0 b.0 b.1.0 c.0 c.1.0 log image second (a.1.1 log at_log) (b.1.1 image at_image) (c.1.1 second at_second)
+
+  less-log : (old new : Disks D) → LeaveLess told old new → LeavesLog told old → LeavesLog told new
+  less-log old new less leaves = λ l el i ei s es log second at_log at_second.
+      let a = was-told (told old.log) (told new.log) less.log l el in
+      let b = was-told (told old.image) (told new.image) less.image i ei in
+      let c = was-told (told old.second) (told new.second) less.second s es in
+      leaves a.0 a.1.0 b.0 b.1.0 c.0 c.1.0 log second (a.1.1 log at_log) (c.1.1 second at_second)
+
+  -- a node that isn't created is down on its restarted disks still
+  pub down-on : (g : Game) (v : ℕ) (given : List Packet) (n : Node) (doubt : Doubt) (old new : Disks D) (x : Parts) → LeaveLess told old new → IsDown told g v given n doubt (Uncreated old x) → IsDown told g v given n doubt (Uncreated new x)
+  down-on g v given n doubt old new x less d =
+      let same : d.disks ≡ old = d.has in
+      record {
+        limits = d.limits;
+        known = d.known;
+        of_node = d.of_node;
+        turns = d.turns;
+        disks = new;
+        has = refl;
+        tell = less-told_all old new less (subst (AreTold told) same d.tell);
+        leaves = less-node g v given n doubt old new less (subst (LeavesNode told g v given n doubt) same d.leaves);
+        either = ⊎_elim (λ first. inl first) (λ log. inr (less-log old new less (subst (LeavesLog told) same log))) d.either;
+      }
+
+  module _ (count : D → ℕ) (fate : D → Option Fate) where
+    pub restarted-rest : (old new : Disks D) → WereRestarted told count fate old new → AreAtRest told new
+    restarted-rest old new were = record {
+      log = down-rests (told old.log) (told new.log) were.log.story;
+      image = down-rests (told old.image) (told new.image) were.image.story;
+      second = down-rests (told old.second) (told new.second) were.second.story;
+    }
+
+    -- what becomes of the disks in a restart
+    pub restarts-by : {T : Type 0} (r : Result T NodeFault) (old mid new : Disks D) → WereRestarted told count fate old mid → RecoversBy told count fate r mid new → RestartsBy told count fate r old new
+    restarts-by (Ok x) old mid new were by = (mid, (were, by))
+    restarts-by (Err Disk) old mid new were by = (mid, (were, by))
+    restarts-by (Err (Damaged n place)) old mid new were by = (mid, (were, by))
+    restarts-by (Err Memory) old mid new were by = (by.log.count ∙ were.log.faults, by.image.count ∙ were.image.faults, by.second.count ∙ were.second.faults)
+    restarts-by (Err Outlet) old mid new were by = by

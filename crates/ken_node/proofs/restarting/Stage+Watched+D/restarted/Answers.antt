@@ -1,0 +1,27 @@
+use Rattle.std.proofs.Common.{refl, subst}
+use Rattle.ken_node.specs.Down.{IsOfNode}
+use Rattle.ken_node.proofs.Fresh.{has-one}
+use Rattle.ken_node.proofs.restarting.Stage+Watched+D.restarted.Goals as goal
+
+pub up_again-requires : goal.up_again-requires
+up_again-requires g c =
+    let r = c.requires in
+    record { game = r.game; node = r.node; given = r.given; stood_for = r.stood_for; doubt = r.doubt; down = c.in-Ok.ensures.down r.game r.node r.given r.stood_for r.doubt r.down }
+
+pub returns-in-Ok-clause-up : goal.returns-in-Ok-clause-up
+returns-in-Ok-clause-up g c = λ game v given n doubt d. c.up_again.ensures.up game v given n doubt (c.in-Ok.ensures.down game v given n doubt d)
+
+pub returns-in-Ok-clause-down : goal.returns-in-Ok-clause-down
+returns-in-Ok-clause-down g c = λ game v given n doubt d. c.up_again.ensures.down game v given n doubt (c.in-Ok.ensures.down game v given n doubt d)
+
+pub returns-in-Ok-clause-disks : goal.returns-in-Ok-clause-disks
+returns-in-Ok-clause-disks g c = λ old new has now. let same = c.in-Ok.ensures.disks old has in rw same (c.up_again.ensures.disks new now)
+
+pub returns-in-Err-clause-here : goal.returns-in-Err-clause-here
+returns-in-Err-clause-here g c = λ is.
+    let r = c.requires in
+    let d = c.in-Err.ensures.down r.game r.node r.given r.stood_for r.doubt r.down in
+    subst (IsOfNode r.game r.node) is d.of_node
+
+pub returns-in-Err-clause-disks : goal.returns-in-Err-clause-disks
+returns-in-Err-clause-disks g c = λ old new has now. let same = has-one old new c.in-Err.stage (c.in-Err.ensures.disks old has) now in rw same (refl, refl, refl)

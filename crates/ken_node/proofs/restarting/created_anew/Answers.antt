@@ -1,0 +1,4 @@
+use Rattle.ken_node.proofs.restarting.created_anew.Goals as goal
+
+pub returns-clause-creation : goal.returns-clause-creation
+returns-clause-creation g c = λ game v disks u. record { answer = c.created-stage.result.1; is = c.none_made.ensures; creation = c.created-stage.ensures.creation game v disks u }

@@ -1,0 +1,99 @@
+-- What a turn of a node comes to, where its workers meet after it.
+use Rattle.std.specs.Prelude.{◌≡◌, ℕ, ◌+◌, ◌^◌, ◌≤◌, ◌⊎◌, List, [], ◌∷◌, ◌++◌, length, Option, Result, Ok, Err}
+use Rattle.std.specs.List.{AllByRecursion}
+use Rattle.ken_disk.specs.Story.{Story}
+use Rattle.ken_model.specs.Game.{Game}
+use Rattle.ken_model.specs.Network.{inputs_for, outside}
+use Rattle.ken_record.specs.declared.effects.Effects.{Effects}
+use Rattle.ken_record.specs.declared.page.Page.{Page}
+use Rattle.ken_net.specs.Counts.{risen}
+use Rattle.ken_net.specs.Puts.{Put}
+use Rattle.ken_core.specs.declared.events.Event.{Event}
+use Rattle.ken_core.specs.declared.events.Told.{Told}
+use Rattle.ken_core.specs.Calls.{IsIdle, IsNone, IsTurn, seal, turnover}
+use Rattle.ken_core.specs.Nodes.{Node}
+use Rattle.ken_core.specs.Packets.{Packet, Mail, Answer, Outgoing, nothing}
+use Rattle.ken_core.specs.Turns.{consumed_from}
+use Rattle.ken_ship.specs.declared.faults.NodeFault.{NodeFault}
+use Rattle.ken_ship.specs.declared.faults.NodeFault.TheVariants.{Disk, Damaged, Outlet, Memory}
+use Rattle.ken_ship.specs.declared.hearing.TheConstants.{MOST_TAKEN}
+use Rattle.ken_ship.specs.Laws.{packets_from}
+use Rattle.ken_node.specs.declared.stage.Stage.{Stage}
+use Rattle.ken_node.specs.declared.took.Took.{Took}
+use Rattle.ken_node.specs.declared.took.Took.TheVariants.{Turn, Idle, Capped}
+use Rattle.ken_node.specs.declared.worker.TurnWorker.{TurnWorker}
+use Rattle.ken_node.specs.Capped.{IsCapped}
+use Rattle.ken_node.specs.NodeCalls.{GoesDown, Steps}
+use Rattle.ken_node.specs.Sealing.{is_full}
+use Rattle.ken_node.specs.Workers.{HearsNews}
+
+-- a packet that node v, which is n now, can't take as its next mail: a mail to it that isn't the one after those that it has
+-- consumed of its sender, or whose stamp has used up half of its range
+abbrev pub IsNotNext : ℕ → Node → Packet → Type 0
+IsNotNext v n (Mail m) = m.to ≡ v → m.number ≡ consumed_from m.from n.turning.turns + 1 → 2 ^ 63 ≤ m.stamp
+IsNotNext v n (Answer a) = Unit {0}
+
+module _ {D : Type 0} (told : D → Option Story) (size : D → ℕ) (g : Game) (v : ℕ) (n : Node) (gave : List (List ℕ) → Type 0) (put : List Put → Type 0) where
+  -- a call of the handler: its events lead to a node that is up
+  pub record HandlerSteps (says : List Event → Type 0) (stage : Stage D) : Type 0 where
+    pub given : List (List ℕ)
+    pub was_given : gave given
+    pub puts : List Put
+    pub were_put : put puts
+    pub out : Outgoing
+    pub steps : Steps told size g v n given puts says out stage
+
+  -- a turn was made, with these draws
+  pub record TurnSteps (drew : List ℕ → Type 0) (handler : TurnWorker D) (stage : Stage D) : Type 0 where
+    pub call : HandlerSteps (IsTurn v (is_full handler.side)) stage
+    pub turn : Effects
+    pub last : call.steps.after.turning.turns ≡ n.turning.turns ++ turn ∷ []
+    pub drawn : drew turn.draws
+
+  -- nothing waits: none of the packets is a next mail, they were taken until the count of those that weren't given rose or 4,096
+  -- were, and all inputs are consumed
+  pub record IdleSteps (nones nones2 : ℕ) (handler : TurnWorker D) (stage : Stage D) : Type 0 where
+    pub call : HandlerSteps (IsIdle v (is_full handler.side)) stage
+    pub most : length call.given ≤ MOST_TAKEN
+    pub until : (length call.given ≡ MOST_TAKEN) ⊎ (risen nones ≤ nones2)
+    pub none_next : AllByRecursion (IsNotNext v call.steps.after) (packets_from g.nodes call.given)
+    pub no_input : length (inputs_for g v) ≤ consumed_from outside call.steps.after.turning.turns
+
+  -- the node makes no more turns, as the handler finds with all that it was told
+  pub record CappedSteps (handler : TurnWorker D) (stage : Stage D) : Type 0 where
+    pub none_given : gave []
+    pub none_put : put []
+    pub steps : Steps told size g v n [] [] IsNone nothing stage
+    pub heard : TurnWorker D
+    pub hears : HearsNews handler heard
+    pub capped : IsCapped heard
+
+  -- a turnover failed, which is in doubt
+  pub record TurnoverFails (stage : Stage D) : Type 0 where
+    pub none_given : gave []
+    pub none_put : put []
+    pub with_news : Told
+    pub down : GoesDown told g v n [] [] IsNone nothing (turnover with_news) stage
+
+  -- the seal of a turn with these draws failed, which is in doubt
+  pub record SealFails (drew : List ℕ → Type 0) (handler : TurnWorker D) (stage : Stage D) : Type 0 where
+    pub given : List (List ℕ)
+    pub was_given : gave given
+    pub puts : List Put
+    pub were_put : put puts
+    pub out : Outgoing
+    pub from : ℕ
+    pub draws : List ℕ
+    pub pages : List Page
+    pub drawn : drew draws
+    pub down : GoesDown told g v n given puts (IsIdle v (is_full handler.side)) out (seal from draws pages) stage
+
+  -- by the answer
+  abbrev pub TurnStepsBy : Result Took NodeFault → (List ℕ → Type 0) → ℕ → ℕ → TurnWorker D → Stage D → Type 0
+  TurnStepsBy (Ok Turn) drew nones nones2 handler stage = TurnSteps drew handler stage
+  TurnStepsBy (Ok Idle) drew nones nones2 handler stage = IdleSteps nones nones2 handler stage
+  TurnStepsBy (Ok Capped) drew nones nones2 handler stage = CappedSteps handler stage
+  TurnStepsBy (Err Disk) drew nones nones2 handler stage = TurnoverFails stage ⊎ SealFails drew handler stage
+  TurnStepsBy (Err Memory) drew nones nones2 handler stage = Unit {0}
+  TurnStepsBy (Err Outlet) drew nones nones2 handler stage = ⊥
+  TurnStepsBy (Err (Damaged disk place)) drew nones nones2 handler stage = ⊥

@@ -1,0 +1,105 @@
+-- The restart of a node.
+use Rattle.std.specs.Prelude.{◌≡◌, ℕ, ◌-◌, ◌⊎◌, nat_lt, if◌then◌else◌, List, [], ◌++◌, length, map, drop, Option, Result, Ok, Err}
+use Rattle.ken_disk.specs.Fates.{Fate, Raised}
+use Rattle.ken_disk.specs.Steps.{WentDown}
+use Rattle.ken_disk.specs.Story.{Story, Follows}
+use Rattle.ken_model.specs.Game.{Game}
+use Rattle.ken_model.specs.declared.states.State.{State}
+use Rattle.ken_model.specs.Network.{inputs_for}
+use Rattle.ken_record.specs.declared.effects.Effects.{Effects}
+use Rattle.ken_record.specs.declared.record.Record.{Record}
+use Rattle.ken_core.specs.declared.events.Event.{Event}
+use Rattle.ken_core.specs.Calls.{Call, Doubt, IsRestart}
+use Rattle.ken_core.specs.Nodes.{Node, first_node}
+use Rattle.ken_core.specs.Packets.{Packet, nothing}
+use Rattle.ken_outbox.specs.Waiting.{resumed}
+use Rattle.ken_store.specs.declared.disks.Disks.{Disks}
+use Rattle.ken_store.specs.declared.store.Store.{Store}
+use Rattle.ken_store.specs.Creations.{HasFailed, IsUnfailed}
+use Rattle.ken_store.specs.Standing.{IsNoneOrWhole}
+use Rattle.ken_ship.specs.declared.faults.NodeFault.{NodeFault}
+use Rattle.ken_ship.specs.declared.faults.NodeFault.TheVariants.{Disk, Damaged, Outlet, Memory}
+use Rattle.ken_ship.specs.declared.worker.SendWorker.{SendWorker}
+use Rattle.ken_ship.specs.Parts.{part_of}
+use Rattle.ken_node.specs.declared.patcher.PatchWorker.{PatchWorker}
+use Rattle.ken_node.specs.declared.stage.Stage.{Stage}
+use Rattle.ken_node.specs.declared.stage.Stage.TheVariants.{Created}
+use Rattle.ken_node.specs.declared.worker.TurnWorker.{TurnWorker}
+use Rattle.ken_node.specs.Created.{nothing_told}
+pub use Rattle.ken_node.specs.Down.{effects_in}
+use Rattle.ken_node.specs.Meeting.{AreEmpty, AreJoined}
+use Rattle.ken_node.specs.Whole.{IsWhole}
+
+-- the events of a restart of node v, which stood for n: what was in doubt, the crash and the recovery. Where there was no log the node
+-- is created anew, which is no event
+abbrev pub AreOfRestart : Game → ℕ → Node → Doubt → List Event → Type 0
+AreOfRestart g v n doubt es = IsRestart v doubt es ⊎ ((n ≡ first_node g) × (es ≡ []))
+
+-- the turns of a node that goes on from a recovered state: those that it keeps, and the one of the last record where that was in
+-- doubt and landed
+abbrev pub kept_turns : List Effects → ℕ → List Record → List Effects
+kept_turns turns count records = if nat_lt (length turns) count then turns ++ map effects_in (drop (length records - 1) records) else turns
+
+-- workers of node v that go on over a store that was recovered, with nothing on its way in the rings
+pub record GoOnFrom {D : Type 0} (g : Game) (v : ℕ) (turns : List Effects) (store : Store D) (state : State) (records : List Record) (t : TurnWorker D) (p : PatchWorker D) (s : SendWorker) : Type 0 where
+  pub node : t.node ≡ v
+  pub nodes : t.nodes ≡ g.nodes
+  pub cap : t.cap ≡ g.turns
+  pub inputs : t.inputs.items ≡ inputs_for g v
+  pub side : t.side ≡ store.turns
+  pub order : t.order ≡ record { nodes = g.nodes; stamp = state.stamp; consumed = state.consumed }
+  pub kept : t.turns.items ≡ kept_turns turns state.turns records
+  pub told_is : t.told ≡ nothing_told
+  pub patches : p.side ≡ store.patches
+  pub sender : s.backlog.node ≡ v
+  pub receivers : s.nodes ≡ g.nodes
+  pub due : (part_of s).due ≡ resumed 8 state
+  pub joined : AreJoined t p s
+  pub empty : AreEmpty t p s
+
+-- the node is up again: its events lead to a node with this many turns, for which its workers stand, and nothing is on its way in the
+-- rings
+pub record IsUpAgain {D : Type 0} (told : D → Option Story) (size : D → ℕ) (g : Game) (v : ℕ) (given : List Packet) (n : Node) (doubt : Doubt) (turns : ℕ) (stage : Stage D) : Type 0 where
+  pub after : Node
+  pub call : Call g v given (AreOfRestart g v n doubt) n nothing after
+  pub count : turns ≡ length after.turning.turns
+  pub handler : TurnWorker D
+  pub patcher : PatchWorker D
+  pub sender : SendWorker
+  pub stage_is : stage ≡ Created handler patcher sender
+  pub whole : IsWhole told size g v after handler patcher sender
+  pub empty : AreEmpty handler patcher sender
+  pub other : IsNoneOrWhole told handler.side.other
+
+module _ {D : Type 0} (told : D → Option Story) (count : D → ℕ) (fate : D → Option Fate) where
+  -- a disk was restarted
+  pub record WasRestarted (old new : D) : Type 0 where
+    pub story : Follows WentDown (told old) (told new)
+    pub falls : Follows Raised (fate old) (fate new)
+    pub faults : count new ≡ count old
+
+  -- all disks of a node were
+  pub record WereRestarted (old new : Disks D) : Type 0 where
+    pub log : WasRestarted old.log new.log
+    pub image : WasRestarted old.image new.image
+    pub second : WasRestarted old.second new.second
+
+  -- no call of them failed since, or one of one disk did
+  pub record AreUnfailed (old new : Disks D) : Type 0 where
+    pub log : IsUnfailed count fate old.log new.log
+    pub image : IsUnfailed count fate old.image new.image
+    pub second : IsUnfailed count fate old.second new.second
+
+  abbrev pub OneHasFailed : Disks D → Disks D → Type 0
+  OneHasFailed old new =
+      (HasFailed count fate old.log new.log × IsUnfailed count fate old.image new.image × IsUnfailed count fate old.second new.second)
+      ⊎ ((IsUnfailed count fate old.log new.log × HasFailed count fate old.image new.image × IsUnfailed count fate old.second new.second)
+      ⊎ (IsUnfailed count fate old.log new.log × IsUnfailed count fate old.image new.image × HasFailed count fate old.second new.second))
+
+  -- what became of them, by the answer: where memory ran out, only that no fault was counted
+  abbrev pub RestartsBy : {T : Type 0} → Result T NodeFault → Disks D → Disks D → Type 0
+  RestartsBy (Ok x) old new = (mid : Disks D) × (WereRestarted old mid × AreUnfailed mid new)
+  RestartsBy (Err Disk) old new = (mid : Disks D) × (WereRestarted old mid × OneHasFailed mid new)
+  RestartsBy (Err (Damaged n place)) old new = (mid : Disks D) × (WereRestarted old mid × AreUnfailed mid new)
+  RestartsBy (Err Memory) old new = (count new.log ≡ count old.log) × (count new.image ≡ count old.image) × (count new.second ≡ count old.second)
+  RestartsBy (Err Outlet) old new = ⊥

@@ -1,0 +1,133 @@
+// A node's own calls: each is one of its workers' calls, and then they meet. So nothing is on its way in their rings between two
+// calls, and one clause says what a call comes to.
+use crate::node::Node;
+use crate::stage::Stage;
+use crate::together;
+use crate::took::Took;
+use ken_app::{App, Oracle};
+use ken_disk::Disk;
+use ken_net::Net;
+use ken_ship::{Emit, NodeFault, Outlet};
+use std::alloc::AllocError;
+
+impl<D: Disk> Node<D> {
+    ghost use Rattle.std.specs.Prelude.{◌≡◌, [], ℕ, List, OnOk};
+    ghost use Rattle.ken_app.specs.Oracles.{Answers, HasAnswered};
+    ghost use Rattle.ken_model.specs.declared.messages.Out.{Out};
+    ghost use Rattle.ken_model.specs.Game.{Game};
+    ghost use Rattle.ken_core.specs.Nodes as core;
+    ghost use Rattle.ken_store.specs.declared.disks.Disks.{Disks};
+    ghost use Rattle.ken_ship.specs.Causes.{HasCause};
+    ghost use Rattle.ken_ship.specs.Emitting.{outlet_answer};
+    ghost use Rattle.ken_ship.specs.Fates.{Follows, Suffers};
+    ghost use Rattle.ken_ship.specs.Outlets.{also_took};
+    ghost use Rattle.ken_node.specs.NodeCalls.{DisksFailBy, EmitStepsBy, HearSteps, PatchStepsBy, SendSteps, SettleStepsBy, UnlessMemory};
+    ghost use Rattle.ken_node.specs.NodeTurns.{TurnStepsBy};
+    ghost use Rattle.ken_node.specs.Stages.{HasDisks, emissions_in};
+    ghost use Rattle.ken_node.specs.Up.{IsUp, MayBeCalled, MayBeCalledOn, MayTakeTurns};
+
+    /// Takes the next message, has the application make its turn, seals and acknowledges it. `Turn`: a turn was made. `Idle`: no
+    /// packet that was given is a next mail, and all inputs are consumed. `Capped`: the node makes no more turns, and nothing was
+    /// taken. The errors are `Disk`, after which a turnover or the turn's seal is in doubt, and the node must be restarted;
+    /// and `Memory`, after which it takes no more calls.
+    pub fn turn<N: Net, A: App, O: Oracle>(
+        &mut self,
+        net: &mut N,
+        app: &A,
+        oracle: &mut O,
+    ) -> Result<Took, NodeFault>
+        requires { MayTakeTurns D.told D.size (A.handler app.now) (N.node net.old) (N.nodes net.old) self.old.stage }
+        ensures steps { (g : Game) (v : ℕ) (n : core.Node) → (up : IsUp D.told D.size g v n self.old.stage) → A.handler app.now ≡ g.handler → TurnStepsBy D.told D.size g v n (N.given_between net.old net.new) (N.put_between net.old net.new) result (λ draws. Answers (O.telling.clocks oracle.old) (O.telling.clocks oracle.new) ((A.handler app.now).clocks draws) × Answers (O.telling.words oracle.old) (O.telling.words oracle.new) ((A.handler app.now).words draws)) (N.nones net.old) (N.nones net.new) up.handler self.new.stage }
+        ensures disks { (old new : Disks D) → HasDisks old self.old.stage → HasDisks new self.new.stage → DisksFailBy D.told D.faults D.fate result old new }
+        ensures emissions { emissions_in self.new.stage ≡ emissions_in self.old.stage }
+        ensures end { (N.node net.new ≡ N.node net.old) × (N.nodes net.new ≡ N.nodes net.old) }
+        ensures clocks_go_on { HasAnswered (O.telling.clocks oracle.old) (O.telling.clocks oracle.new) }
+        ensures words_go_on { HasAnswered (O.telling.words oracle.old) (O.telling.words oracle.new) }
+        ensures origin { O.telling.origin oracle.new ≡ O.telling.origin oracle.old }
+    {
+        match &mut self.stage {
+            Stage::Created(turns, patches, sends) => {
+                together::turn(turns, patches, sends, net, app, oracle)
+            }
+            Stage::Uncreated(..) | Stage::Moved => unreachable!(),
+        }
+    }
+
+    /// Writes the next page of the oldest sealed turn that is to patch to the image, by one call of its disk: false exactly where
+    /// there is none. The errors are `Disk`, after which the page counts as written, and the node must be restarted; and
+    /// `Memory`, after which it takes no more calls.
+    pub fn patch(&mut self) -> Result<bool, NodeFault>
+        requires { MayBeCalled D.told D.size self.old.stage }
+        ensures steps { (g : Game) (v : ℕ) (n : core.Node) → IsUp D.told D.size g v n self.old.stage → PatchStepsBy D.told D.size result g v n self.new.stage }
+        ensures disks { (old new : Disks D) → HasDisks old self.old.stage → HasDisks new self.new.stage → DisksFailBy D.told D.faults D.fate result old new }
+        ensures emissions { emissions_in self.new.stage ≡ emissions_in self.old.stage }
+    {
+        match &mut self.stage {
+            Stage::Created(turns, patches, sends) => together::patch(turns, patches, sends),
+            Stage::Uncreated(..) | Stage::Moved => unreachable!(),
+        }
+    }
+
+    /// Syncs the image, by one call of its disk: a base may leave out the pages of turns that are all there. The errors are
+    /// `Disk`, after which the node must be restarted, and `Memory`, after which it takes no more calls.
+    pub fn settle(&mut self) -> Result<(), NodeFault>
+        requires { MayBeCalled D.told D.size self.old.stage }
+        ensures steps { (g : Game) (v : ℕ) (n : core.Node) → IsUp D.told D.size g v n self.old.stage → SettleStepsBy D.told D.size result g v n self.new.stage }
+        ensures disks { (old new : Disks D) → HasDisks old self.old.stage → HasDisks new self.new.stage → DisksFailBy D.told D.faults D.fate result old new }
+        ensures emissions { emissions_in self.new.stage ≡ emissions_in self.old.stage }
+    {
+        match &mut self.stage {
+            Stage::Created(turns, patches, sends) => together::settle(turns, patches, sends),
+            Stage::Uncreated(..) | Stage::Moved => unreachable!(),
+        }
+    }
+
+    /// Sends the oldest unacknowledged messages: for each node of the run in order, 16 or all. After the error, which is want of
+    /// memory, the node takes no more calls.
+    pub fn send<N: Net>(&mut self, net: &mut N) -> Result<(), AllocError>
+        requires { MayBeCalledOn D.told D.size (N.node net.old) (N.nodes net.old) self.old.stage }
+        ensures steps { (g : Game) (v : ℕ) (n : core.Node) → IsUp D.told D.size g v n self.old.stage → OnOk result (SendSteps D.told D.size g v n (N.put_between net.old net.new) self.new.stage) }
+        ensures disks { (old new : Disks D) → HasDisks old self.old.stage → HasDisks new self.new.stage → new ≡ old }
+        ensures emissions { emissions_in self.new.stage ≡ emissions_in self.old.stage }
+        ensures end { (N.node net.new ≡ N.node net.old) × (N.nodes net.new ≡ N.nodes net.old) }
+        ensures given { N.given_between net.old net.new [] }
+        ensures nones { N.nones net.new ≡ N.nones net.old }
+    {
+        match &mut self.stage {
+            Stage::Created(turns, patches, sends) => together::send(turns, patches, sends, net),
+            Stage::Uncreated(..) | Stage::Moved => unreachable!(),
+        }
+    }
+
+    /// Takes packets until the net gives none, or 4,096 were given, and takes note of the acknowledgements among them. After the
+    /// error, which is want of memory, the node takes no more calls.
+    pub fn hear<N: Net>(&mut self, net: &mut N) -> Result<(), AllocError>
+        requires { MayBeCalledOn D.told D.size (N.node net.old) (N.nodes net.old) self.old.stage }
+        ensures steps { (g : Game) (v : ℕ) (n : core.Node) → IsUp D.told D.size g v n self.old.stage → OnOk result (HearSteps D.told D.size g v n (N.given_between net.old net.new) (N.nones net.old) (N.nones net.new) self.new.stage) }
+        ensures disks { (old new : Disks D) → HasDisks old self.old.stage → HasDisks new self.new.stage → new ≡ old }
+        ensures emissions { OnOk result (emissions_in self.new.stage ≡ emissions_in self.old.stage) }
+        ensures end { (N.node net.new ≡ N.node net.old) × (N.nodes net.new ≡ N.nodes net.old) }
+        ensures put { N.put_between net.old net.new [] }
+    {
+        match &mut self.stage {
+            Stage::Created(turns, patches, sends) => together::hear(turns, patches, sends, net),
+            Stage::Uncreated(..) | Stage::Moved => unreachable!(),
+        }
+    }
+
+    /// Emits the output that is due: `Done` where the outlet took it, `Refused` where the outlet failed, `Nothing` exactly where
+    /// none is due. The errors are `Outlet`: it was refused 64 times running before, and the outlet failed again; and
+    /// `Memory`, after which the node takes no more calls.
+    pub fn emit<O: Outlet>(&mut self, out: &mut O) -> Result<Emit, NodeFault>
+        requires { MayBeCalled D.told D.size self.old.stage }
+        ensures steps { (g : Game) (v : ℕ) (n : core.Node) → IsUp D.told D.size g v n self.old.stage → EmitStepsBy D.told D.size result g v n (λ (taken : List Out). O.took out.new ≡ also_took taken (O.took out.old)) self.old.stage self.new.stage }
+        ensures disks { (old new : Disks D) → HasDisks old self.old.stage → HasDisks new self.new.stage → new ≡ old }
+        ensures cause { UnlessMemory result (HasCause (O.faults out.old) (O.faults out.new) (outlet_answer result)) }
+        ensures fate { UnlessMemory result (Follows (Suffers (outlet_answer result)) (O.fate out.old) (O.fate out.new)) }
+    {
+        match &mut self.stage {
+            Stage::Created(turns, patches, sends) => together::emit(turns, patches, sends, out),
+            Stage::Uncreated(..) | Stage::Moved => unreachable!(),
+        }
+    }
+}

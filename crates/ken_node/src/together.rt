@@ -1,0 +1,138 @@
+// Calls of a node's workers side by side: after each they meet.
+ghost use Rattle.std.specs.Prelude.{◌≡◌, [], ℕ, List, OnOk};
+ghost use Rattle.ken_app.specs.Oracles.{Answers, HasAnswered};
+ghost use Rattle.ken_model.specs.declared.messages.Out.{Out};
+ghost use Rattle.ken_model.specs.Game.{Game};
+ghost use Rattle.ken_core.specs.Nodes.{Node};
+ghost use Rattle.ken_store.specs.Apart.{disks_apart};
+ghost use Rattle.ken_ship.specs.Causes.{HasCause};
+ghost use Rattle.ken_ship.specs.Emitting.{outlet_answer};
+ghost use Rattle.ken_ship.specs.Fates.{Follows, Suffers};
+ghost use Rattle.ken_ship.specs.Outlets.{also_took};
+ghost use Rattle.ken_ship.specs.Parts.{part_of};
+ghost use Rattle.ken_node.specs.NodeCalls.{DisksFailBy, EmitStepsBy, HearSteps, PatchStepsBy, SendSteps, SettleStepsBy, UnlessMemory};
+ghost use Rattle.ken_node.specs.NodeTurns.{TurnStepsBy};
+ghost use Rattle.ken_node.specs.declared.stage.Stage.TheVariants.{Created};
+ghost use Rattle.ken_node.specs.Up.{IsUp, MayBeCalled, MayBeCalledOn, MayTakeTurns};
+
+use crate::meeting::meet;
+use crate::patcher::PatchWorker;
+use crate::took::Took;
+use crate::worker::TurnWorker;
+use ken_app::{App, Oracle};
+use ken_disk::Disk;
+use ken_net::Net;
+use ken_ship::{Emit, NodeFault, Outlet, SendWorker};
+use std::alloc::AllocError;
+
+// A page is written.
+pub(crate) fn patch<D: Disk>(
+    turns: &mut TurnWorker<D>,
+    patches: &mut PatchWorker<D>,
+    sends: &mut SendWorker,
+) -> Result<bool, NodeFault>
+    requires { MayBeCalled D.told D.size (Created turns.old patches.old sends.old) }
+    ensures steps { (g : Game) (v : ℕ) (n : Node) → IsUp D.told D.size g v n (Created turns.old patches.old sends.old) → PatchStepsBy D.told D.size result g v n (Created turns.new patches.new sends.new) }
+    ensures disks { DisksFailBy D.told D.faults D.fate result (disks_apart turns.old.side patches.old.side) (disks_apart turns.new.side patches.new.side) }
+    ensures emissions { (part_of sends.new).emissions ≡ (part_of sends.old).emissions }
+{
+    let answer = patches.patch_once();
+    meet(turns, patches, sends)?;
+    answer
+}
+
+// The image is synced.
+pub(crate) fn settle<D: Disk>(
+    turns: &mut TurnWorker<D>,
+    patches: &mut PatchWorker<D>,
+    sends: &mut SendWorker,
+) -> Result<(), NodeFault>
+    requires { MayBeCalled D.told D.size (Created turns.old patches.old sends.old) }
+    ensures steps { (g : Game) (v : ℕ) (n : Node) → IsUp D.told D.size g v n (Created turns.old patches.old sends.old) → SettleStepsBy D.told D.size result g v n (Created turns.new patches.new sends.new) }
+    ensures disks { DisksFailBy D.told D.faults D.fate result (disks_apart turns.old.side patches.old.side) (disks_apart turns.new.side patches.new.side) }
+    ensures emissions { (part_of sends.new).emissions ≡ (part_of sends.old).emissions }
+{
+    let answer = patches.settle();
+    meet(turns, patches, sends)?;
+    answer
+}
+
+// What is due is sent.
+pub(crate) fn send<D: Disk, N: Net>(
+    turns: &mut TurnWorker<D>,
+    patches: &mut PatchWorker<D>,
+    sends: &mut SendWorker,
+    net: &mut N,
+) -> Result<(), AllocError>
+    requires { MayBeCalledOn D.told D.size (N.node net.old) (N.nodes net.old) (Created turns.old patches.old sends.old) }
+    ensures steps { (g : Game) (v : ℕ) (n : Node) → IsUp D.told D.size g v n (Created turns.old patches.old sends.old) → OnOk result (SendSteps D.told D.size g v n (N.put_between net.old net.new) (Created turns.new patches.new sends.new)) }
+    ensures disks { disks_apart turns.new.side patches.new.side ≡ disks_apart turns.old.side patches.old.side }
+    ensures emissions { (part_of sends.new).emissions ≡ (part_of sends.old).emissions }
+    ensures end { (N.node net.new ≡ N.node net.old) × (N.nodes net.new ≡ N.nodes net.old) }
+    ensures given { N.given_between net.old net.new [] }
+    ensures nones { N.nones net.new ≡ N.nones net.old }
+{
+    let answer = sends.send_due(net);
+    meet(turns, patches, sends)?;
+    answer
+}
+
+// Acknowledgements are taken.
+pub(crate) fn hear<D: Disk, N: Net>(
+    turns: &mut TurnWorker<D>,
+    patches: &mut PatchWorker<D>,
+    sends: &mut SendWorker,
+    net: &mut N,
+) -> Result<(), AllocError>
+    requires { MayBeCalledOn D.told D.size (N.node net.old) (N.nodes net.old) (Created turns.old patches.old sends.old) }
+    ensures steps { (g : Game) (v : ℕ) (n : Node) → IsUp D.told D.size g v n (Created turns.old patches.old sends.old) → OnOk result (HearSteps D.told D.size g v n (N.given_between net.old net.new) (N.nones net.old) (N.nones net.new) (Created turns.new patches.new sends.new)) }
+    ensures disks { disks_apart turns.new.side patches.new.side ≡ disks_apart turns.old.side patches.old.side }
+    ensures emissions { OnOk result ((part_of sends.new).emissions ≡ (part_of sends.old).emissions) }
+    ensures end { (N.node net.new ≡ N.node net.old) × (N.nodes net.new ≡ N.nodes net.old) }
+    ensures put { N.put_between net.old net.new [] }
+{
+    let answer = sends.take_acks(net);
+    meet(turns, patches, sends)?;
+    answer
+}
+
+// The output that is due is emitted.
+pub(crate) fn emit<D: Disk, O: Outlet>(
+    turns: &mut TurnWorker<D>,
+    patches: &mut PatchWorker<D>,
+    sends: &mut SendWorker,
+    out: &mut O,
+) -> Result<Emit, NodeFault>
+    requires { MayBeCalled D.told D.size (Created turns.old patches.old sends.old) }
+    ensures steps { (g : Game) (v : ℕ) (n : Node) → IsUp D.told D.size g v n (Created turns.old patches.old sends.old) → EmitStepsBy D.told D.size result g v n (λ (taken : List Out). O.took out.new ≡ also_took taken (O.took out.old)) (Created turns.old patches.old sends.old) (Created turns.new patches.new sends.new) }
+    ensures disks { disks_apart turns.new.side patches.new.side ≡ disks_apart turns.old.side patches.old.side }
+    ensures cause { UnlessMemory result (HasCause (O.faults out.old) (O.faults out.new) (outlet_answer result)) }
+    ensures fate { UnlessMemory result (Follows (Suffers (outlet_answer result)) (O.fate out.old) (O.fate out.new)) }
+{
+    let answer = sends.emit_once(out);
+    meet(turns, patches, sends)?;
+    answer
+}
+
+// A turn is made.
+pub(crate) fn turn<D: Disk, N: Net, A: App, O: Oracle>(
+    turns: &mut TurnWorker<D>,
+    patches: &mut PatchWorker<D>,
+    sends: &mut SendWorker,
+    net: &mut N,
+    app: &A,
+    oracle: &mut O,
+) -> Result<Took, NodeFault>
+    requires { MayTakeTurns D.told D.size (A.handler app.now) (N.node net.old) (N.nodes net.old) (Created turns.old patches.old sends.old) }
+    ensures steps { (g : Game) (v : ℕ) (n : Node) → (up : IsUp D.told D.size g v n (Created turns.old patches.old sends.old)) → A.handler app.now ≡ g.handler → TurnStepsBy D.told D.size g v n (N.given_between net.old net.new) (N.put_between net.old net.new) result (λ draws. Answers (O.telling.clocks oracle.old) (O.telling.clocks oracle.new) ((A.handler app.now).clocks draws) × Answers (O.telling.words oracle.old) (O.telling.words oracle.new) ((A.handler app.now).words draws)) (N.nones net.old) (N.nones net.new) up.handler (Created turns.new patches.new sends.new) }
+    ensures disks { DisksFailBy D.told D.faults D.fate result (disks_apart turns.old.side patches.old.side) (disks_apart turns.new.side patches.new.side) }
+    ensures emissions { (part_of sends.new).emissions ≡ (part_of sends.old).emissions }
+    ensures end { (N.node net.new ≡ N.node net.old) × (N.nodes net.new ≡ N.nodes net.old) }
+    ensures clocks_go_on { HasAnswered (O.telling.clocks oracle.old) (O.telling.clocks oracle.new) }
+    ensures words_go_on { HasAnswered (O.telling.words oracle.old) (O.telling.words oracle.new) }
+    ensures origin { O.telling.origin oracle.new ≡ O.telling.origin oracle.old }
+{
+    let answer = turns.turn_once(net, app, oracle);
+    meet(turns, patches, sends)?;
+    answer
+}
