@@ -1,0 +1,3 @@
+pub mod Worlds
+pub mod Oracles
+pub mod Outlets
