@@ -1,5 +1,5 @@
 -- Inboxes: the packets for each node, oldest first.
-use Rattle.std.specs.Prelude.{◌≡◌, ◌≢◌, ℕ, nat_lt, if◌then◌else◌, List, [], ◌∷◌, ◌++◌, length, slice_index_or, slice_set}
+use Rattle.std.specs.Prelude.{◌≡◌, ◌≢◌, ℕ, ◌<◌, ◌≤◌, nat_lt, if◌then◌else◌, List, [], ◌∷◌, ◌++◌, length, slice_index_or, slice_set}
 use Rattle.ken_net.specs.declared.inbox.TheConstants.{MAX_INBOX}
 use Rattle.ken_net.specs.Puts.{Put}
 
@@ -17,3 +17,9 @@ pub record Gave (node : ℕ) (old new : List (List (List ℕ))) (packets : List 
   pub front : slice_index_or old node [] ≡ packets ++ slice_index_or new node []
   pub others : (v : ℕ) → v ≢ node → slice_index_or new v [] ≡ slice_index_or old v []
   pub count : length new ≡ length old
+
+-- the same by an end that counts its takes which gave nothing: once one did, the inbox is empty
+pub record Taking (node nones nones2 : ℕ) (old new : List (List (List ℕ))) (packets : List (List ℕ)) : Type 0 where
+  pub gave : Gave node old new packets
+  pub counted : nones ≤ nones2
+  pub emptied : nones < nones2 → slice_index_or new node [] ≡ []

@@ -1,4 +1,4 @@
-ghost use Rattle.std.specs.Prelude.{◌≡◌, ◌<◌, length, slice_set, IfOk, OnOk, OnErr};
+ghost use Rattle.std.specs.Prelude.{◌≡◌, ◌<◌, [], length, slice_set, IfOk, OnOk, OnErr};
 ghost use Rattle.ken_net.specs.Acts.{WantsMemory};
 ghost use Rattle.ken_net.specs.History.{AreNew};
 ghost use Rattle.ken_net.specs.Puts.{MayPut, handing};
@@ -43,6 +43,17 @@ impl Links {
             links.push(Link::new(alloc, from, to, acts)?)?;
         }
         Ok(Links { alloc, from, links })
+    }
+
+    /// Links of a node to none: they take no memory, and stand in for others that are lent by value.
+    pub fn none(alloc: Global, from: u8) -> Self
+        ensures { (result.from ≡ from) × (result.links ≡ []) }
+    {
+        Links {
+            alloc,
+            from,
+            links: Vec::new(alloc),
+        }
     }
 
     /// The node whose links they are. What they keep is packets from it.

@@ -43,8 +43,8 @@ impl Base for PlainNet {
     ghost use Rattle.std.specs.Prelude.{◌≡◌, [], length, option_to_list, slice_get, slice_index_or, refl};
     ghost use Rattle.std.proofs.Common.{◌∙◌};
     ghost use Rattle.ken_net.specs.Counts.{Counted};
-    ghost use Rattle.ken_net.specs.Inboxes.{Gave, all_filed};
-    ghost use Rattle.ken_net.specs.InboxLaws.{filed_joins, gave_still, gave_joins};
+    ghost use Rattle.ken_net.specs.Inboxes.{Taking, all_filed};
+    ghost use Rattle.ken_net.specs.InboxLaws.{filed_joins, taking_still, taking_joins};
 
     ghost node = { λ n. n.node };
 
@@ -54,7 +54,8 @@ impl Base for PlainNet {
 
     ghost put_between = { λ a b ps. b.puts ≡ all_filed ps a.puts };
 
-    ghost given_between = { λ a b ps. (b.node ≡ a.node) × Gave a.node a.takes b.takes ps };
+    /// Once a take has given `None`, the node's inbox is empty.
+    ghost given_between = { λ a b ps. (b.node ≡ a.node) × Taking a.node a.nones b.nones a.takes b.takes ps };
 
     fn push<H: Handed>(&mut self, to: u8, bytes: Octets) {
         self.puts.push(to, bytes);
@@ -64,7 +65,7 @@ impl Base for PlainNet {
     fn take(&mut self) -> Option<Octets>
         ensures end { (self.new.node ≡ self.old.node) × (length self.new.puts ≡ length self.old.puts) }
         ensures put { self.new.puts ≡ self.old.puts }
-        ensures given { (self.new.node ≡ self.old.node) × Gave self.old.node self.old.takes self.new.takes (option_to_list result) }
+        ensures given { (self.new.node ≡ self.old.node) × Taking self.old.node self.old.nones self.new.nones self.old.takes self.new.takes (option_to_list result) }
         ensures nones { Counted self.old.nones self.new.nones result }
         ensures oldest { result ≡ slice_get (slice_index_or self.old.takes self.old.node []) 0 }
     {
@@ -79,7 +80,7 @@ impl Base for PlainNet {
 
     ghost put_joins = { λ a b c ps qs first then. filed_joins ps qs a.puts b.puts c.puts first then };
 
-    ghost given_still = { λ a. (refl, gave_still a.node a.takes) };
+    ghost given_still = { λ a. (refl, taking_still a.node a.nones a.takes) };
 
-    ghost given_joins = { λ a b c ps qs first then. (then.0 ∙ first.0, gave_joins a.node b.node a.takes b.takes c.takes ps qs first.0 first.1 then.1) };
+    ghost given_joins = { λ a b c ps qs first then. (then.0 ∙ first.0, taking_joins a.node b.node a.nones b.nones c.nones a.takes b.takes c.takes ps qs first.0 first.1 then.1) };
 }
