@@ -1,6 +1,6 @@
 -- A node that goes on from a recovered store, or is put back where memory ran out.
 use Rattle.std.proofs.Common.{◌≡◌, ℕ, List, inl, inr, ⊎_elim, sym, ap, subst, ◌∙◌, Option, Result, Ok, Err}
-use Rattle.std.specs.Prelude.{IfOk, OnErr, OnOk}
+use Rattle.std.specs.Prelude.{IfOk, IsSome, OnErr, OnOk}
 use Rattle.ken_disk.specs.Fates.{Fate}
 use Rattle.ken_disk.specs.Story.{Story}
 use Rattle.ken_model.specs.declared.states.State.{State}
@@ -14,9 +14,11 @@ use Rattle.ken_core.specs.Nodes.{Node}
 use Rattle.ken_core.specs.Packets.{Packet}
 use Rattle.ken_store.specs.declared.disks.Disks.{Disks}
 use Rattle.ken_store.specs.declared.owner.Owner.{Owner}
+use Rattle.ken_store.specs.declared.patching.PatchSide.{PatchSide}
 use Rattle.ken_store.specs.declared.store.Store.{Store}
 use Rattle.ken_store.specs.declared.turning.TurnSide.{TurnSide}
 use Rattle.ken_store.specs.Answers.{AreAtRest, TellsAll, disks_in}
+use Rattle.ken_store.specs.Apart.{disks_apart}
 use Rattle.ken_store.specs.Logs.{log_on}
 use Rattle.ken_store.specs.Reads.{AreSame}
 use Rattle.ken_store.specs.Recovered.{Whole, recovered}
@@ -25,12 +27,12 @@ use Rattle.ken_ship.specs.declared.faults.NodeFault.{NodeFault}
 use Rattle.ken_node.specs.declared.parts.Parts.{Parts}
 use Rattle.ken_node.specs.declared.stage.Stage.{Stage}
 use Rattle.ken_node.specs.declared.stage.Stage.TheVariants.{Uncreated}
-use Rattle.ken_node.specs.Down.{IsDown}
+use Rattle.ken_node.specs.Down.{AreTold, IsDown}
 use Rattle.ken_node.specs.First.{AreFirst, IsNewRing}
 use Rattle.ken_node.specs.Restarting.{AreUnchanged, GoesOn, IsPutBack}
 use Rattle.ken_node.specs.Restarts.{IsUpAgain}
 use Rattle.ken_node.proofs.GoesOn.{same-ready}
-use Rattle.ken_node.proofs.Recovered.{left-now, owner-ready, owner_in, read-less}
+use Rattle.ken_node.proofs.Recovered.{left-now, owner-ready, owner_in, read-less, tell-now}
 use Rattle.ken_node.proofs.Restarted.{down-on}
 use Rattle.ken_node.proofs.UpAgain.{up-again}
 
@@ -55,6 +57,12 @@ first-unchanged g v x y un first =
     })
 
 module _ {D : Type 0} (told : D → Option Story) (size count : D → ℕ) (fate : D → Option Fate) (g : Game) (v : ℕ) (given : List Packet) (n : Node) (doubt : Doubt) (disks : Disks D) (x : Parts) (d : IsDown told g v given n doubt (Uncreated disks x)) where
+  -- the disks of a store on them tell
+  tells-in : (store : Store D) → AreSame told count fate disks (disks_in store) → AreTold told (disks_in store)
+  tells-in store same =
+      let was = tell-now told g v given n doubt disks x d in
+      (subst (λ (o : Option Story). IsSome o) (sym same.log.story) was.0, subst (λ (o : Option Story). IsSome o) (sym same.image.story) was.1, subst (λ (o : Option Story). IsSome o) (sym same.second.story) was.2)
+
   -- it is up again
   pub whole-up : (rests : AreAtRest told disks) (store : Store D) (state : State) (records : List Record)
       → TellsAll told disks (λ l i s. recovered (owner_in x) l.now.seen i.now.seen s.now.seen ≡ Whole state store.turns.objects.value)
@@ -85,6 +93,7 @@ module _ {D : Type 0} (told : D → Option Story) (size count : D → ℕ) (fate
         whole = up.1.2;
         empty = go.goes.empty;
         other = up.1.3;
+        tell = subst (λ (y : TurnSide D). AreTold told (disks_apart y go.patcher.side)) (sym go.goes.side) (subst (λ (y : PatchSide D). AreTold told (disks_apart store.turns y)) (sym go.goes.patches) (tells-in store same));
       }
 
   -- a node that was put back is down as it was

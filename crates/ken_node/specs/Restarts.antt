@@ -15,6 +15,7 @@ use Rattle.ken_core.specs.Packets.{Packet, nothing}
 use Rattle.ken_outbox.specs.Waiting.{resumed}
 use Rattle.ken_store.specs.declared.disks.Disks.{Disks}
 use Rattle.ken_store.specs.declared.store.Store.{Store}
+use Rattle.ken_store.specs.Apart.{disks_apart}
 use Rattle.ken_store.specs.Creations.{HasFailed, IsUnfailed}
 use Rattle.ken_store.specs.Standing.{IsNoneOrWhole}
 use Rattle.ken_ship.specs.declared.faults.NodeFault.{NodeFault}
@@ -26,6 +27,7 @@ use Rattle.ken_node.specs.declared.stage.Stage.{Stage}
 use Rattle.ken_node.specs.declared.stage.Stage.TheVariants.{Created}
 use Rattle.ken_node.specs.declared.worker.TurnWorker.{TurnWorker}
 use Rattle.ken_node.specs.Created.{nothing_told}
+use Rattle.ken_node.specs.Down.{AreTold}
 pub use Rattle.ken_node.specs.Down.{effects_in}
 use Rattle.ken_node.specs.Meeting.{AreEmpty, AreJoined}
 use Rattle.ken_node.specs.Whole.{IsWhole}
@@ -70,6 +72,7 @@ pub record IsUpAgain {D : Type 0} (told : D → Option Story) (size : D → ℕ)
   pub whole : IsWhole told size g v after handler patcher sender
   pub empty : AreEmpty handler patcher sender
   pub other : IsNoneOrWhole told handler.side.other
+  pub tell : AreTold told (disks_apart handler.side patcher.side)
 
 module _ {D : Type 0} (told : D → Option Story) (count : D → ℕ) (fate : D → Option Fate) where
   -- a disk was restarted
