@@ -1,0 +1,55 @@
+// What holds of the group of a run's nodes, and of what is on its way between them. Each law is the contract of a function
+// that does nothing.
+ghost use Rattle.ken_flow.specs.Laws.{FirstIsInAccord, CallKeepsGroup, PutStaysPut, PutsArePut, AcksGoNoFurther, KnownStays, GivenAreKnown, PassedAreKnown, FirstAreKnown, SpelledAreKnown};
+
+/// The group of nodes at the start is in accord.
+pub fn first_is_in_accord()
+    ensures { FirstIsInAccord }
+{
+    ken_core::start_is_in_accord();
+}
+
+/// A call of one node that is told as events, over packets that were put, keeps accord of the group.
+pub fn call_keeps_group()
+    ensures { CallKeepsGroup }
+{}
+
+/// What was put stays put, whatever events a node ran.
+pub fn put_stays_put()
+    ensures { PutStaysPut }
+{}
+
+/// What a node's events put was put.
+pub fn puts_are_put()
+    ensures { PutsArePut }
+{}
+
+/// No acknowledgement that was put goes further than what the node that it is for has sealed.
+pub fn acks_go_no_further()
+    ensures { AcksGoNoFurther }
+{}
+
+/// What is known stays known where what was put stays put: bytes, inboxes and what links keep.
+pub fn known_stays()
+    ensures { KnownStays }
+{}
+
+/// What a known inbox gave was put, and what it still has is known.
+pub fn given_are_known()
+    ensures { GivenAreKnown }
+{}
+
+/// What links pass on of known puts is known, and so is what they keep and what is filed in inboxes.
+pub fn passed_are_known()
+    ensures { PassedAreKnown }
+{}
+
+/// Empty inboxes and new links have nothing unknown.
+pub fn first_are_known()
+    ensures { FirstAreKnown }
+{}
+
+/// Bytes that spell a packet that was put are known.
+pub fn spelled_are_known()
+    ensures { SpelledAreKnown }
+{}
