@@ -50,6 +50,17 @@ fn first_of(image: &mut Image<MemDisk>, page: u32, frame: &mut Frame) -> Result<
     Ok(frame.as_slice()[0])
 }
 
+// The first bytes of the three pages.
+fn firsts_of(image: &mut Image<MemDisk>, frame: &mut Frame) -> Result<[u8; 3], ImageFault>
+    requires whole { IsWhole ⟦<MemDisk as Disk>⟧.told ⟦<MemDisk as Disk>⟧.size image.old }
+    requires pages { image.old.pages ≡ 3 }
+{
+    let first = first_of(image, 0, frame)?;
+    let second = first_of(image, 1, frame)?;
+    let third = first_of(image, 2, frame)?;
+    Ok([first, second, third])
+}
+
 // The first bytes of the pages, or nothing where the disk is too short for them.
 fn firsts_on(alloc: Global, disk: MemDisk) -> Result<Option<[u8; 3]>, Fail>
     requires { IsAtRest disk.held.story.now }
@@ -57,12 +68,9 @@ fn firsts_on(alloc: Global, disk: MemDisk) -> Result<Option<[u8; 3]>, Fail>
     if disk.len() < u64::from(PAGES) * FRAME as u64 {
         return Ok(None);
     }
-    let mut image = Image::mount(disk, PAGES);
     let mut frame = Frame::zeroed(alloc)?;
-    let first = first_of(&mut image, 0, &mut frame)?;
-    let second = first_of(&mut image, 1, &mut frame)?;
-    let third = first_of(&mut image, 2, &mut frame)?;
-    Ok(Some([first, second, third]))
+    let mut image = Image::mount(disk, PAGES);
+    Ok(Some(firsts_of(&mut image, &mut frame)?))
 }
 
 // What a restart with this pick leaves where this call was cut.
@@ -71,37 +79,48 @@ fn left_by(rt: &(impl Abort + AllocGlobal), call: u64, pick: u64) -> Result<MemD
 {
     let disk = MemDisk::new(rt.alloc(), &[Cut { call, pick }])?;
     let (wrote, mut disk) = write_image(rt.alloc(), disk)?;
-    assert_eq!(rt;
-        wrote,
-        if call <= 6 {
-            Err(ImageFault::Disk)
-        } else {
-            Ok(())
-        },
-        "call {call}"
-    );
+    let wanted = if call <= 6 {
+        Err(ImageFault::Disk)
+    } else {
+        Ok(())
+    };
+    assert_eq!(rt; wrote, wanted, "call {call}");
     disk.restart(pick)?;
     Ok(disk)
 }
 
+// The call that is cut, and what is left by what was written, and by what was synced. A format of three pages makes
+// four calls, a patch is the fifth, and its sync the sixth.
+const CUTS: [(u64, Option<[u8; 3]>, Option<[u8; 3]>); 7] = [
+    (1, None, None),
+    (2, None, None),
+    (3, Some([1, 0, 0]), None),
+    (4, Some([1, 0, 0]), None),
+    (5, Some([1, 2, 0]), Some([1, 0, 0])),
+    (6, Some([1, 2, 0]), Some([1, 0, 0])),
+    (7, Some([1, 2, 0]), Some([1, 2, 0])),
+];
+
+fn check_left(
+    rt: &(impl Abort + AllocGlobal),
+    call: u64,
+    pick: u64,
+    want: Option<[u8; 3]>,
+) -> Result<(), Fail> {
+    let disk = left_by(rt, call, pick)?;
+    assert_eq!(rt;
+        firsts_on(rt.alloc(), disk)?,
+        want,
+        "call {call}, pick {pick}"
+    );
+    Ok(())
+}
+
 #[test]
 fn a_cut_leaves_what_was_synced_or_written(rt: HostRuntime) -> Result<(), Fail> {
-    // The call that is cut, and what is left by what was written, and by what was synced. A format of three pages makes
-    // four calls, a patch is the fifth, and its sync the sixth.
-    let cuts = [
-        (1, None, None),
-        (2, None, None),
-        (3, Some([1, 0, 0]), None),
-        (4, Some([1, 0, 0]), None),
-        (5, Some([1, 2, 0]), Some([1, 0, 0])),
-        (6, Some([1, 2, 0]), Some([1, 0, 0])),
-        (7, Some([1, 2, 0]), Some([1, 2, 0])),
-    ];
-    for (call, written, synced) in cuts {
-        let disk = left_by(&rt, call, 0)?;
-        assert_eq!(rt; firsts_on(rt.alloc(), disk)?, written, "call {call}");
-        let disk = left_by(&rt, call, 1)?;
-        assert_eq!(rt; firsts_on(rt.alloc(), disk)?, synced, "call {call}");
+    for (call, written, synced) in &CUTS {
+        check_left(&rt, *call, 0, *written)?;
+        check_left(&rt, *call, 1, *synced)?;
     }
     Ok(())
 }

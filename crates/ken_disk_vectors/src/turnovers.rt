@@ -6,7 +6,8 @@ ghost use Rattle.ken_record.specs.Spelling.{base_bytes};
 ghost use Rattle.ken_record.specs.Versions.{One};
 ghost use Rattle.ken_disk_vectors.specs.Logs.{TakesSeals};
 
-use ken_disk::{Disk, write_through};
+use crate::checks::{changed, contents, numbers, outs_to, same_bytes, text_of, write_at};
+use ken_disk::Disk;
 use ken_log::{Log, LogFault, SealFault};
 use ken_memdisk::{Cut, MemDisk};
 use ken_model::{Items, MAX_NODES, OUTSIDE, Octets, Out};
@@ -36,17 +37,32 @@ const BASE_END: usize = 806;
 // More of these than a test makes.
 const MANY: u64 = 1_000_000;
 
-fn page(alloc: Global) -> Result<Page, AllocError> {
-    Ok(Page {
+fn pages(alloc: Global) -> Result<Items<Page>, AllocError> {
+    let page = Page {
         page: 0,
         bytes: Octets::new(vec![in alloc; 0x5a; 256]?),
-    })
+    };
+    Ok(Items::new(vec![in alloc; page]?))
 }
 
-fn out(alloc: Global, number: u64) -> Result<Out, AllocError> {
-    Ok(Out {
+fn outs(alloc: Global, number: u64) -> Result<Items<Out>, AllocError> {
+    let out = Out {
         number,
-        text: Octets::new(Vec::from_slice(alloc, b"0")?),
+        text: text_of(alloc, b"0")?,
+    };
+    Ok(Items::new(vec![in alloc; out]?))
+}
+
+fn turn_of(alloc: Global, turn: u64) -> Result<Record, AllocError> {
+    Ok(Record {
+        turn,
+        stamp: turn,
+        from: OUTSIDE,
+        number: turn,
+        draws: Items::new(Vec::new(alloc)),
+        sends: Items::new(Vec::new(alloc)),
+        outs: outs(alloc, turn)?,
+        pages: pages(alloc)?,
     })
 }
 
@@ -54,16 +70,7 @@ fn out(alloc: Global, number: u64) -> Result<Out, AllocError> {
 fn record(alloc: Global, turn: u64) -> Result<Record, Fail>
     ensures { IfOk result (λ r. IsRecord One r) }
 {
-    let record = Record {
-        turn,
-        stamp: turn,
-        from: OUTSIDE,
-        number: turn,
-        draws: Items::new(Vec::new(alloc)),
-        sends: Items::new(Vec::new(alloc)),
-        outs: Items::new(vec![in alloc; out(alloc, turn)?]?),
-        pages: Items::new(vec![in alloc; page(alloc)?]?),
-    };
+    let record = turn_of(alloc, turn)?;
     if record.fits() {
         Ok(record)
     } else {
@@ -71,26 +78,24 @@ fn record(alloc: Global, turn: u64) -> Result<Record, Fail>
     }
 }
 
+fn base_of(alloc: Global) -> Result<Base, AllocError> {
+    Ok(Base {
+        stamp: 32,
+        consumed: numbers(alloc, SENDERS, 32)?,
+        sent: numbers(alloc, usize::from(MAX_NODES), 0)?,
+        outputs: 32,
+        messages: Items::new(Vec::new(alloc)),
+        outs: outs_to(alloc, 32)?,
+        pages: pages(alloc)?,
+    })
+}
+
 // What 32 such turns leave, where none of the outputs was emitted.
 fn base(alloc: Global) -> Result<Base, Fail>
     ensures fits { IfOk result (λ b. IsBase One b) }
     ensures short { IfOk result (λ b. length (base_bytes One b) < 2 ^ 32) }
 {
-    let mut consumed = vec![in alloc; 0; SENDERS - 1]?;
-    consumed.push(32)?;
-    let mut outs = Vec::new(alloc);
-    for number in 1..=32 {
-        outs.push(out(alloc, number)?)?;
-    }
-    let base = Base {
-        stamp: 32,
-        consumed: Items::new(consumed),
-        sent: Items::new(vec![in alloc; 0; usize::from(MAX_NODES)]?),
-        outputs: 32,
-        messages: Items::new(Vec::new(alloc)),
-        outs: Items::new(outs),
-        pages: Items::new(vec![in alloc; page(alloc)?]?),
-    };
+    let base = base_of(alloc)?;
     if base.fits() && (base.spelled_len() as u64) < MANY {
         Ok(base)
     } else {
@@ -98,21 +103,36 @@ fn base(alloc: Global) -> Result<Base, Fail>
     }
 }
 
+fn first_log(alloc: Global, disk: MemDisk) -> Result<Log<MemDisk>, Fail>
+    ensures { IfOk result (λ log. TakesSeals log) }
+{
+    match Log::format(alloc, disk, &FIRST) {
+        Ok(log) => Ok(log),
+        Err(_) => Err(Fail::from("there is no log")),
+    }
+}
+
+// Seals the next turn.
+fn seal(alloc: Global, log: &mut Log<MemDisk>, turn: u64) -> Result<(), Fail>
+    requires { TakesSeals log.old }
+    ensures { IfOk result (λ _. TakesSeals log.new) }
+{
+    lengths();
+    let record = record(alloc, turn)?;
+    if log.end() > MANY {
+        return Err(Fail::from("the log is too long"));
+    }
+    log.seal(alloc, &record)?;
+    Ok(())
+}
+
 // A first log with so many records on this disk.
 fn sealed(alloc: Global, disk: MemDisk, count: u64) -> Result<Log<MemDisk>, Fail>
     ensures { IfOk result (λ log. TakesSeals log) }
 {
-    lengths();
-    let mut log = match Log::format(alloc, disk, &FIRST) {
-        Ok(log) => log,
-        Err(_) => return Err(Fail::from("there is no log")),
-    };
+    let mut log = first_log(alloc, disk)?;
     for before in 0..count {
-        let item = record(alloc, before + 1)?;
-        if log.end() > MANY {
-            return Err(Fail::from("the log is too long"));
-        }
-        log.seal(alloc, &item)?;
+        seal(alloc, &mut log, before + 1)?;
     }
     Ok(log)
 }
@@ -132,13 +152,6 @@ fn turn_over(
     Ok(log.turnover(alloc, other, &base))
 }
 
-// All that a read gives.
-fn contents(alloc: Global, disk: &mut MemDisk) -> Result<Vec<u8>, Fail> {
-    let mut bytes = vec![in alloc; 0; disk.len() as usize]?;
-    disk.read(0, &mut bytes)?;
-    Ok(bytes)
-}
-
 // What is mounted.
 #[derive(Clone, Copy, Debug, PartialEq, Eq)]
 enum Found {
@@ -150,6 +163,12 @@ enum Found {
 const OLD: Found = Found::Log {
     generation: 1,
     records: 1,
+};
+
+// The log that goes over.
+const LASTING: Found = Found::Log {
+    generation: 1,
+    records: 2,
 };
 
 const NEW: Found = Found::Log {
@@ -183,26 +202,25 @@ enum Held {
 
 // Another disk, on which the call of this number fails after those that made it.
 fn other_disk(alloc: Global, held: Held, call: u64, pick: u64) -> Result<MemDisk, Fail> {
+    let made = match held {
+        Held::Nothing => 0,
+        Held::Log => 10,
+        Held::Torn => 2,
+    };
+    let call = call.saturating_add(made);
+    let disk = MemDisk::new(alloc, &[Cut { call, pick }])?;
     match held {
-        Held::Nothing => Ok(MemDisk::new(alloc, &[Cut { call, pick }])?),
-        Held::Log => {
-            let cut = Cut {
-                call: call.saturating_add(10),
-                pick,
-            };
-            let disk = MemDisk::new(alloc, &[cut])?;
-            Ok(sealed(alloc, disk, 1)?.release())
-        }
-        Held::Torn => {
-            let cut = Cut {
-                call: call.saturating_add(2),
-                pick,
-            };
-            let mut disk = MemDisk::new(alloc, &[cut])?;
-            write_through(&mut disk, 0, &[0xa5; 40])?;
-            Ok(disk)
-        }
+        Held::Nothing => Ok(disk),
+        Held::Log => Ok(sealed(alloc, disk, 1)?.release()),
+        Held::Torn => torn(disk),
     }
+}
+
+// An open gate before bytes that are no header.
+fn torn(mut disk: MemDisk) -> Result<MemDisk, Fail> {
+    write_at(&mut disk, 0, &[0xa5; 40])?;
+    disk.sync()?;
+    Ok(disk)
 }
 
 // A call that is cut, and what is mounted on the other disk after a restart with pick 0 and with pick 1. Each other pick
@@ -237,59 +255,75 @@ const TORN: [(u64, Found, Found); 7] = [
     (7, NEW, NEW),
 ];
 
-// What a turnover of a log with two records leaves on the written disk and on the other one, where this call was cut.
-fn cut_at(
+// The written disk and the other one after a turnover of a log with two records, where this call was cut.
+fn turned_at(
     rt: &(impl Abort + AllocGlobal),
     held: Held,
     call: u64,
     pick: u64,
-) -> Result<(Found, Found), Fail> {
-    let alloc = rt.alloc();
-    let own = MemDisk::new(alloc, &[])?;
-    let mut log = sealed(alloc, own, 2)?;
-    let mut other = other_disk(alloc, held, call, pick)?;
-    let turned = turn_over(alloc, &mut log, &mut other)?;
-    assert_eq!(rt;
-        turned,
-        if call <= 6 {
-            Err(SealFault::Disk)
-        } else {
-            Ok(())
-        },
-        "call {call}"
-    );
-    let (mut written, mut old) = if turned.is_ok() {
-        (log.release(), other)
+) -> Result<(MemDisk, MemDisk), Fail> {
+    let mut other = other_disk(rt.alloc(), held, call, pick)?;
+    let mut log = sealed(rt.alloc(), MemDisk::new(rt.alloc(), &[])?, 2)?;
+    let turned = turn_over(rt.alloc(), &mut log, &mut other)?;
+    let wanted = if call <= 6 {
+        Err(SealFault::Disk)
     } else {
-        (other, log.release())
+        Ok(())
     };
-    written.restart(pick)?;
-    old.restart(pick)?;
-    Ok((mounted_on(alloc, written)?, mounted_on(alloc, old)?))
+    assert_eq!(rt; turned, wanted, "call {call}");
+    let own = log.release();
+    Ok(if turned.is_ok() {
+        (own, other)
+    } else {
+        (other, own)
+    })
+}
+
+// What is mounted after a restart with this pick.
+fn found_on(alloc: Global, mut disk: MemDisk, pick: u64) -> Result<Found, Fail> {
+    disk.restart(pick)?;
+    mounted_on(alloc, disk)
+}
+
+// Each pick but 0 and 1 leaves what one of them does.
+fn is_one_of(pick: u64, found: Found, first: Found, second: Found) -> bool {
+    match pick {
+        0 => found == first,
+        1 => found == second,
+        _ => found == first || found == second,
+    }
+}
+
+// The old log stays.
+fn check_cut(
+    rt: &(impl Abort + AllocGlobal),
+    held: Held,
+    pick: u64,
+    row: (u64, Found, Found),
+) -> Result<(), Fail> {
+    let (call, first, second) = row;
+    let (written, old) = turned_at(rt, held, call, pick)?;
+    let found = found_on(rt.alloc(), written, pick)?;
+    assert!(rt;
+        is_one_of(pick, found, first, second),
+        "call {call}, pick {pick}: {found:?}"
+    );
+    assert_eq!(rt;
+        found_on(rt.alloc(), old, pick)?,
+        LASTING,
+        "call {call}, pick {pick}"
+    );
+    Ok(())
 }
 
 fn check_cuts(
     rt: &(impl Abort + AllocGlobal),
     held: Held,
-    cuts: &[(u64, Found, Found)],
+    rows: &[(u64, Found, Found)],
 ) -> Result<(), Fail> {
-    for (call, first, second) in cuts {
+    for row in rows {
         for pick in 0..10 {
-            let (written, old) = cut_at(rt, held, *call, pick)?;
-            let wanted = match pick {
-                0 => written == *first,
-                1 => written == *second,
-                _ => written == *first || written == *second,
-            };
-            assert!(rt; wanted, "{held:?}, call {call}, pick {pick}: {written:?}");
-            assert_eq!(rt;
-                old,
-                Found::Log {
-                    generation: 1,
-                    records: 2
-                },
-                "{held:?}, call {call}, pick {pick}"
-            );
+            check_cut(rt, held, pick, *row)?;
         }
     }
     Ok(())
@@ -312,13 +346,16 @@ fn a_cut_leaves_torn_bytes_or_no_log_or_the_new_one(rt: HostRuntime) -> Result<(
 
 // A log with 32 records that went over to a second one.
 fn turned_over(alloc: Global) -> Result<Log<MemDisk>, Fail> {
-    let own = MemDisk::new(alloc, &[])?;
-    let mut log = sealed(alloc, own, 32)?;
     let mut other = MemDisk::new(alloc, &[])?;
+    let mut log = sealed(alloc, MemDisk::new(alloc, &[])?, 32)?;
     match turn_over(alloc, &mut log, &mut other)? {
         Ok(()) => Ok(log),
         Err(_) => Err(Fail::from("there is no second log")),
     }
+}
+
+fn second_disk(alloc: Global) -> Result<MemDisk, Fail> {
+    Ok(turned_over(alloc)?.release())
 }
 
 #[test]
@@ -330,45 +367,58 @@ fn a_second_log_has_a_base_and_no_records(rt: HostRuntime) -> Result<(), Fail> {
     Ok(())
 }
 
+// The gate, the header and the base, and a closed gate.
+fn second_bytes(alloc: Global) -> Result<Vec<u8>, Fail> {
+    let base = base(alloc)?;
+    let mut bytes = Vec::from_slice(alloc, &SECOND)?;
+    base.put(&mut bytes)?;
+    bytes.push(0)?;
+    Ok(bytes)
+}
+
 #[test]
 fn a_second_log_is_written(rt: HostRuntime) -> Result<(), Fail> {
-    let mut disk = turned_over(rt.alloc())?.release();
-    let mut wanted = Vec::from_slice(rt.alloc(), &SECOND)?;
-    base(rt.alloc())?.put(&mut wanted)?;
-    wanted.push(0)?;
-    assert_eq!(rt;
-        contents(rt.alloc(), &mut disk)?.as_slice(),
-        wanted.as_slice()
-    );
+    let mut disk = second_disk(rt.alloc())?;
+    let bytes = contents(rt.alloc(), &mut disk)?;
+    same_bytes(&rt, &bytes, &second_bytes(rt.alloc())?);
     Ok(())
 }
 
 #[test]
 fn a_second_log_is_mounted(rt: HostRuntime) -> Result<(), Fail> {
-    let mut disk = turned_over(rt.alloc())?.release();
-    disk.restart(1)?;
-    assert_eq!(rt; mounted_on(rt.alloc(), disk)?, NEW);
+    let disk = second_disk(rt.alloc())?;
+    assert_eq!(rt; found_on(rt.alloc(), disk, 1)?, NEW);
     Ok(())
+}
+
+// A header of generation 2 after 32 turns that tells no base, between gates.
+const BASELESS: [u8; 33] = [
+    0xa5, b'K', b'E', b'N', b'L', 1, 0, 3, 0, 0, 0, 16, 0, 0, 0, 2, 0, 0, 0, 0, 0, 0, 0, 32, 0, 0,
+    0, 0, 0, 0, 0, 0, 0,
+];
+
+// The place of the damage on a disk of these bytes.
+fn damage_of(alloc: Global, bytes: &[u8]) -> Result<Option<u64>, Fail> {
+    let mut disk = MemDisk::new(alloc, &[])?;
+    write_at(&mut disk, 0, bytes)?;
+    disk.sync()?;
+    disk.restart(1)?;
+    match Log::mount(alloc, disk) {
+        Err((LogFault::Damaged { place }, _)) => Ok(Some(place)),
+        _ => Ok(None),
+    }
+}
+
+// The same bytes with generation 1, after no turns.
+fn first_bytes(alloc: Global) -> Result<Vec<u8>, AllocError> {
+    let bytes = changed(alloc, &BASELESS, 15, 1)?;
+    changed(alloc, &bytes, 23, 0)
 }
 
 // Only a node's first log has no base.
 #[test]
 fn a_later_log_without_a_base_is_damaged(rt: HostRuntime) -> Result<(), Fail> {
-    let mut bytes = [
-        0xa5, b'K', b'E', b'N', b'L', 1, 0, 3, 0, 0, 0, 16, 0, 0, 0, 2, 0, 0, 0, 0, 0, 0, 0, 32, 0,
-        0, 0, 0, 0, 0, 0, 0, 0,
-    ];
-    for (generation, want) in [(1, None), (2, Some(32))] {
-        bytes[15] = generation;
-        bytes[23] = if generation == 1 { 0 } else { 32 };
-        let mut disk = MemDisk::new(rt.alloc(), &[])?;
-        write_through(&mut disk, 0, &bytes)?;
-        disk.restart(1)?;
-        let place = match Log::mount(rt.alloc(), disk) {
-            Err((LogFault::Damaged { place }, _)) => Some(place),
-            _ => None,
-        };
-        assert_eq!(rt; place, want, "generation {generation}");
-    }
+    assert_eq!(rt; damage_of(rt.alloc(), &first_bytes(rt.alloc())?)?, None);
+    assert_eq!(rt; damage_of(rt.alloc(), &BASELESS)?, Some(32));
     Ok(())
 }
