@@ -1,10 +1,10 @@
 // Recoveries from logs with a base, by their bytes.
 use crate::changes::{Change, changed};
-use crate::found::{Found, damaged, left_by};
+use crate::found::{Found, damaged, left_over_zeros};
 use crate::recoveries::log_with;
 use ken_store::StoreFault;
+use std::alloc::{AllocError, Global};
 use std::process::Abort;
-use std::test::Fail;
 
 // A second log of node 0 of 3 with 16 pages, after two turns: a gate and the header, and a base of 484 bytes up to the zeros of
 // its page. The stamp is 9. Of node 0 one message was consumed, and one from the outside; two messages were sent to node 1, and
@@ -30,8 +30,6 @@ const LOG: [u8; 280] = [
 
 // The bytes of the log, the last of which is the closed gate.
 const LEN: usize = 517;
-
-const IMAGE: usize = 4096;
 
 // Where numbers of the base end.
 const CONSUMED_FROM_2: usize = 63;
@@ -112,61 +110,71 @@ const LISTS: [([Change; 3], Found); 15] = [
     ([(FIRST_OUT, 1), (SECOND_OUT, 2), (OUTPUTS, 2)], WHOLE),
 ];
 
-fn check(rt: &(impl Abort + AllocGlobal), rows: &[([Change; 3], Found)]) -> Result<(), Fail> {
-    let alloc = rt.alloc();
-    let image = vec![in alloc; 0; IMAGE]?;
+fn log_of(alloc: Global, changes: &[Change]) -> Result<Vec<u8>, AllocError> {
+    changed(alloc, &LOG, LEN, changes)
+}
+
+fn left_with(alloc: Global, changes: &[Change]) -> Result<Found, StoreFault> {
+    left_over_zeros(alloc, &log_of(alloc, changes)?, &[])
+}
+
+fn check(rt: &(impl Abort + AllocGlobal), rows: &[([Change; 3], Found)]) -> Result<(), StoreFault> {
     for (changes, want) in rows {
-        let log = changed(alloc, &LOG, LEN, changes)?;
-        assert_eq!(rt; left_by(alloc, &log, &image, &[])?, *want, "{changes:?}");
+        assert_eq!(rt; left_with(rt.alloc(), changes)?, *want, "{changes:?}");
     }
     Ok(())
 }
 
 #[test]
-fn counts_of_a_base_are_refused(rt: HostRuntime) -> Result<(), Fail> {
+fn counts_of_a_base_are_refused(rt: HostRuntime) -> Result<(), StoreFault> {
     check(&rt, &COUNTS)
 }
 
 #[test]
-fn lists_of_a_base_are_refused(rt: HostRuntime) -> Result<(), Fail> {
+fn lists_of_a_base_are_refused(rt: HostRuntime) -> Result<(), StoreFault> {
     check(&rt, &LISTS)
+}
+
+// What is found where the first log, with a byte changed, and the log with a base, with these changes, are on either disk.
+fn left_by_both(alloc: Global, first: Change, changes: &[Change]) -> Result<Found, StoreFault> {
+    let old = log_with(alloc, first.0, first.1)?;
+    let new = log_of(alloc, changes)?;
+    left_over_zeros(alloc, &old, &new)
+}
+
+// The same on the other disks.
+fn left_by_both_swapped(alloc: Global, first: Change) -> Result<Found, StoreFault> {
+    let old = log_with(alloc, first.0, first.1)?;
+    let new = log_of(alloc, &[])?;
+    left_over_zeros(alloc, &new, &old)
+}
+
+fn left_by_first(alloc: Global, first: Change) -> Result<Found, StoreFault> {
+    left_over_zeros(alloc, &log_with(alloc, first.0, first.1)?, &[])
 }
 
 // The first log has one turn, and the root 1.
 #[test]
-fn the_greater_generation_is_current(rt: HostRuntime) -> Result<(), Fail> {
-    let alloc = rt.alloc();
-    let image = vec![in alloc; 0; IMAGE]?;
-    let old = log_with(alloc, 0, 0xa5)?;
-    let new = changed(alloc, &LOG, LEN, &[])?;
-    assert_eq!(rt;
-        left_by(alloc, &old, &image, &[])?,
-        Found::Whole(1, 1, 1, 1)
-    );
-    assert_eq!(rt; left_by(alloc, &old, &image, &new)?, WHOLE);
-    assert_eq!(rt; left_by(alloc, &new, &image, &old)?, WHOLE);
+fn the_greater_generation_is_current(rt: HostRuntime) -> Result<(), StoreFault> {
+    assert_eq!(rt; left_by_first(rt.alloc(), SAME)?, Found::Whole(1, 1, 1, 1));
+    assert_eq!(rt; left_by_both(rt.alloc(), SAME, &[])?, WHOLE);
+    assert_eq!(rt; left_by_both_swapped(rt.alloc(), SAME)?, WHOLE);
     Ok(())
 }
 
 // Of the log that isn't current only the header is read.
 #[test]
-fn the_other_log_is_passed_over(rt: HostRuntime) -> Result<(), Fail> {
-    let alloc = rt.alloc();
-    let image = vec![in alloc; 0; IMAGE]?;
-    let old = log_with(alloc, 350, 0xa5)?;
-    let wrong = log_with(alloc, 1, 0)?;
-    let new = changed(alloc, &LOG, LEN, &[])?;
-    assert_eq!(rt; left_by(alloc, &old, &image, &new)?, WHOLE);
-    assert_eq!(rt; left_by(alloc, &wrong, &image, &new)?, damaged(0, 0));
+fn the_other_log_is_passed_over(rt: HostRuntime) -> Result<(), StoreFault> {
+    assert_eq!(rt; left_by_both(rt.alloc(), (350, 0xa5), &[])?, WHOLE);
+    assert_eq!(rt; left_by_both(rt.alloc(), (1, 0), &[])?, damaged(0, 0));
     Ok(())
 }
 
 #[test]
-fn a_base_is_refused_on_its_disk(rt: HostRuntime) -> Result<(), Fail> {
-    let alloc = rt.alloc();
-    let image = vec![in alloc; 0; IMAGE]?;
-    let old = log_with(alloc, 0, 0xa5)?;
-    let new = changed(alloc, &LOG, LEN, &[(PAGE, 16)])?;
-    assert_eq!(rt; left_by(alloc, &old, &image, &new)?, damaged(2, 32));
+fn a_base_is_refused_on_its_disk(rt: HostRuntime) -> Result<(), StoreFault> {
+    assert_eq!(rt;
+        left_by_both(rt.alloc(), SAME, &[(PAGE, 16)])?,
+        damaged(2, 32)
+    );
     Ok(())
 }

@@ -1,6 +1,4 @@
 // Bytes of which some are changed.
-ghost use Rattle.std.specs.Prelude.{◌≡◌, length, IfOk};
-
 use std::alloc::{AllocError, Global};
 
 // A byte, and what it becomes.
@@ -12,14 +10,12 @@ pub(crate) fn changed(
     front: &[u8],
     len: usize,
     changes: &[Change],
-) -> Result<Vec<u8>, AllocError>
-    ensures { IfOk result (λ bytes. length bytes.items ≡ len) }
-{
+) -> Result<Vec<u8>, AllocError> {
     let mut bytes = Vec::from_slice(alloc, front)?;
     bytes.resize(len, 0)?;
     for (place, byte) in changes {
-        if *place < bytes.len() {
-            bytes[*place] = *byte;
+        if let Some(at) = bytes.get_mut(*place) {
+            *at = *byte;
         }
     }
     Ok(bytes)

@@ -1,17 +1,17 @@
 // A run over three disks, cut at each call of each.
 ghost use Rattle.std.specs.Prelude.{IfOk};
-ghost use Rattle.ken_store.specs.Answers.{AreAtRest};
+ghost use Rattle.ken_store.specs.Answers.{AreAtRest, AreUnformatted};
 ghost use Rattle.ken_store_vectors.specs.Disks.{told};
 ghost use Rattle.ken_store_vectors.specs.Stores.{IsIdle};
 
 use crate::acts::{Act, patch_all, perform, turn};
 use crate::disks::{Place, crashed, created_on, cut_at};
-use crate::found::{Found, but_for_memory, numbers};
+use crate::found::{Found, but_for_memory, whole};
 use ken_memdisk::{Cut, MemDisk};
+use ken_model::State;
 use ken_store::*;
 use std::alloc::Global;
 use std::process::Abort;
-use std::test::Fail;
 
 const RUN: [Act; 8] = [
     Act::Turn(10),
@@ -74,7 +74,7 @@ fn may_be_left(done: Option<usize>, seen: Seen) -> bool {
 }
 
 // Does the acts up to the first at which a disk fails: how many were done.
-fn play(rt: &(impl Abort + AllocGlobal), store: &mut Store<MemDisk>) -> Result<usize, Fail>
+fn play(rt: &(impl Abort + AllocGlobal), store: &mut Store<MemDisk>) -> Result<usize, StoreFault>
     requires { IsIdle store.old }
 {
     let mut settled = 0;
@@ -87,7 +87,7 @@ fn play(rt: &(impl Abort + AllocGlobal), store: &mut Store<MemDisk>) -> Result<u
     Ok(RUN.len())
 }
 
-fn run(rt: &(impl Abort + AllocGlobal), disks: Disks<MemDisk>) -> Result<Played, Fail>
+fn run(rt: &(impl Abort + AllocGlobal), disks: Disks<MemDisk>) -> Result<Played, StoreFault>
     requires { AreAtRest told disks }
 {
     match created_on(rt.alloc(), disks, 1)? {
@@ -102,20 +102,37 @@ fn run(rt: &(impl Abort + AllocGlobal), disks: Disks<MemDisk>) -> Result<Played,
     }
 }
 
+// A new store, where nothing was found.
+fn begun(alloc: Global, disks: Disks<MemDisk>) -> Result<Store<MemDisk>, StoreFault>
+    requires rests { AreAtRest told disks }
+    requires none { AreUnformatted told disks }
+    ensures { IfOk result IsIdle }
+{
+    match create(alloc, disks, 0, 1, 1) {
+        Ok(store) => Ok(store),
+        Err((fault, _disks)) => Err(fault),
+    }
+}
+
+fn seen_of(alloc: Global, store: &Store<MemDisk>, state: &State) -> Result<Seen, StoreFault> {
+    Ok((whole(alloc, store, state)?, state.outs.len()))
+}
+
 // What is found after a crash, and a store to go on with: a new one where nothing was found.
-fn reopened(alloc: Global, disks: Disks<MemDisk>, pick: u64) -> Result<(Seen, Store<MemDisk>), Fail>
+fn reopened(
+    alloc: Global,
+    disks: Disks<MemDisk>,
+    pick: u64,
+) -> Result<(Seen, Store<MemDisk>), StoreFault>
     ensures { IfOk result (λ x. IsIdle x.1) }
 {
     match recover(alloc, crashed(disks, pick)?, 0, 1, 1) {
-        Ok(Recovered::Fresh(disks)) => match create(alloc, disks, 0, 1, 1) {
-            Ok(store) => Ok((NOTHING, store)),
-            Err((fault, _disks)) => Err(Fail::from(fault)),
-        },
+        Ok(Recovered::Fresh(disks)) => Ok((NOTHING, begun(alloc, disks)?)),
         Ok(Recovered::Whole(store, state, _records)) => {
-            let found = numbers(&state, &store.value(alloc)?);
-            Ok(((found, state.outs.len()), store))
+            let seen = seen_of(alloc, &store, &state)?;
+            Ok((seen, store))
         }
-        Err((fault, _disks)) => Err(Fail::from(fault)),
+        Err((fault, _disks)) => Err(fault),
     }
 }
 
@@ -128,7 +145,7 @@ fn turns_of(seen: Seen) -> u64 {
 }
 
 // What is found again once all is patched and settled, by what is safe alone.
-fn settled(alloc: Global, mut store: Store<MemDisk>) -> Result<(Seen, Store<MemDisk>), Fail>
+fn settled(alloc: Global, mut store: Store<MemDisk>) -> Result<(Seen, Store<MemDisk>), StoreFault>
     requires { IsIdle store }
     ensures { IfOk result (λ x. IsIdle x.1) }
 {
@@ -142,46 +159,81 @@ fn check_left(
     played: Played,
     place: Place,
     cut: Cut,
-) -> Result<(), Fail> {
+) -> Result<(), StoreFault> {
     let Played { done, disks } = played;
     let (seen, store) = reopened(rt.alloc(), disks, cut.pick)?;
     assert!(rt; may_be_left(done, seen), "{place:?}, {cut:?}: {seen:?}");
+    check_again(rt, store, seen, cut)
+}
+
+fn check_again(
+    rt: &(impl Abort + AllocGlobal),
+    store: Store<MemDisk>,
+    seen: Seen,
+    cut: Cut,
+) -> Result<(), StoreFault>
+    requires { IsIdle store }
+{
     let (again, mut store) = settled(rt.alloc(), store)?;
     let wanted = if seen == NOTHING { SEEN[0] } else { seen };
-    assert_eq!(rt; again, wanted, "{place:?}, {cut:?}");
+    assert_eq!(rt; again, wanted, "{cut:?}");
+    check_next(rt, &mut store, seen, cut)
+}
+
+fn check_next(
+    rt: &(impl Abort + AllocGlobal),
+    store: &mut Store<MemDisk>,
+    seen: Seen,
+    cut: Cut,
+) -> Result<(), StoreFault>
+    requires { IsIdle store.old }
+{
     let next = turns_of(seen).saturating_add(1);
-    assert_eq!(rt; turn(rt, &mut store, 50)?, next, "{place:?}, {cut:?}");
+    assert_eq!(rt; turn(rt, store, 50)?, next, "{cut:?}");
     Ok(())
 }
 
-// The run cut at each of so many calls, and at the next one, which it doesn't make.
-fn check_cuts(rt: &(impl Abort + AllocGlobal), place: Place, calls: u64) -> Result<(), Fail> {
-    for before in 0..calls {
-        for pick in 0..10 {
-            let call = before + 1;
-            let cut = Cut { call, pick };
-            let played = run(rt, cut_at(rt.alloc(), place, cut)?)?;
-            assert!(rt; played.done != Some(RUN.len()), "{place:?}, {cut:?}");
-            check_left(rt, played, place, cut)?;
-        }
-    }
-    let call = calls.saturating_add(1);
+// The run cut at this call ends before its end.
+fn check_cut(
+    rt: &(impl Abort + AllocGlobal),
+    place: Place,
+    call: u64,
+    pick: u64,
+) -> Result<(), StoreFault> {
+    let cut = Cut { call, pick };
+    let played = run(rt, cut_at(rt.alloc(), place, cut)?)?;
+    assert!(rt; played.done != Some(RUN.len()), "{place:?}, {cut:?}");
+    check_left(rt, played, place, cut)
+}
+
+// It is not cut at a call that it doesn't make.
+fn check_uncut(rt: &(impl Abort + AllocGlobal), place: Place, call: u64) -> Result<(), StoreFault> {
     let played = run(rt, cut_at(rt.alloc(), place, Cut { call, pick: 0 })?)?;
     assert_eq!(rt; played.done, Some(RUN.len()), "{place:?}");
     Ok(())
 }
 
+// The run cut at each of so many calls, and at the next one, which it doesn't make.
+fn check_cuts(rt: &(impl Abort + AllocGlobal), place: Place, calls: u64) -> Result<(), StoreFault> {
+    for before in 0..calls {
+        for pick in 0..10 {
+            check_cut(rt, place, before + 1, pick)?;
+        }
+    }
+    check_uncut(rt, place, calls.saturating_add(1))
+}
+
 #[test]
-fn a_cut_of_the_log_loses_no_acknowledged_turn(rt: HostRuntime) -> Result<(), Fail> {
+fn a_cut_of_the_log_loses_no_acknowledged_turn(rt: HostRuntime) -> Result<(), StoreFault> {
     check_cuts(&rt, Place::Log, LOG_CALLS)
 }
 
 #[test]
-fn a_cut_of_the_image_loses_no_acknowledged_turn(rt: HostRuntime) -> Result<(), Fail> {
+fn a_cut_of_the_image_loses_no_acknowledged_turn(rt: HostRuntime) -> Result<(), StoreFault> {
     check_cuts(&rt, Place::Image, IMAGE_CALLS)
 }
 
 #[test]
-fn a_cut_of_the_second_log_loses_no_acknowledged_turn(rt: HostRuntime) -> Result<(), Fail> {
+fn a_cut_of_the_second_log_loses_no_acknowledged_turn(rt: HostRuntime) -> Result<(), StoreFault> {
     check_cuts(&rt, Place::Second, SECOND_CALLS)
 }

@@ -10,7 +10,6 @@ use ken_disk::Disk;
 use ken_memdisk::{Cut, MemDisk};
 use ken_store::*;
 use std::alloc::Global;
-use std::test::Fail;
 
 // One of the disks of a node.
 #[derive(Clone, Copy, Debug, PartialEq, Eq)]
@@ -21,7 +20,7 @@ pub(crate) enum Place {
 }
 
 // A disk that is cut at this call, if at all.
-fn disk_cut(alloc: Global, is_cut: bool, cut: Cut) -> Result<MemDisk, Fail>
+fn disk_cut(alloc: Global, is_cut: bool, cut: Cut) -> Result<MemDisk, StoreFault>
     ensures { IfOk result (λ d. IsAtRest d.held.story.now) }
 {
     if is_cut {
@@ -32,7 +31,7 @@ fn disk_cut(alloc: Global, is_cut: bool, cut: Cut) -> Result<MemDisk, Fail>
 }
 
 // Disks without a byte, of which one is cut at this call.
-pub(crate) fn cut_at(alloc: Global, place: Place, cut: Cut) -> Result<Disks<MemDisk>, Fail>
+pub(crate) fn cut_at(alloc: Global, place: Place, cut: Cut) -> Result<Disks<MemDisk>, StoreFault>
     ensures { IfOk result (λ d. AreAtRest told d) }
 {
     Ok(Disks {
@@ -42,7 +41,7 @@ pub(crate) fn cut_at(alloc: Global, place: Place, cut: Cut) -> Result<Disks<MemD
     })
 }
 
-fn restarted(mut disk: MemDisk, pick: u64) -> Result<MemDisk, Fail>
+fn restarted(mut disk: MemDisk, pick: u64) -> Result<MemDisk, StoreFault>
     ensures { IfOk result (λ d. IsAtRest d.held.story.now) }
 {
     disk.restart(pick)?;
@@ -50,7 +49,7 @@ fn restarted(mut disk: MemDisk, pick: u64) -> Result<MemDisk, Fail>
 }
 
 // Disks after a crash that left this pick of each.
-pub(crate) fn crashed(disks: Disks<MemDisk>, pick: u64) -> Result<Disks<MemDisk>, Fail>
+pub(crate) fn crashed(disks: Disks<MemDisk>, pick: u64) -> Result<Disks<MemDisk>, StoreFault>
     ensures { IfOk result (λ d. AreAtRest told d) }
 {
     Ok(Disks {
@@ -60,16 +59,15 @@ pub(crate) fn crashed(disks: Disks<MemDisk>, pick: u64) -> Result<Disks<MemDisk>
     })
 }
 
-// Disks on which nothing is found.
-fn fresh_on(alloc: Global, disks: Disks<MemDisk>) -> Result<Disks<MemDisk>, Fail>
+// Disks on which nothing is found. Others are told as a disk that fails.
+fn fresh_on(alloc: Global, disks: Disks<MemDisk>) -> Result<Disks<MemDisk>, StoreFault>
     requires { AreAtRest told disks }
     ensures rests { IfOk result (λ d. AreAtRest told d) }
     ensures none { IfOk result (λ d. AreUnformatted told d) }
 {
     match recover(alloc, disks, 0, 1, 1) {
         Ok(Recovered::Fresh(disks)) => Ok(disks),
-        Ok(Recovered::Whole(_store, _state, _records)) => Err(Fail::from("there is a store")),
-        Err((_fault, _disks)) => Err(Fail::from("the disks are refused")),
+        _ => Err(StoreFault::Disk),
     }
 }
 
@@ -78,7 +76,7 @@ pub(crate) fn created_on(
     alloc: Global,
     disks: Disks<MemDisk>,
     pages: u32,
-) -> Result<Result<Store<MemDisk>, (StoreFault, Disks<MemDisk>)>, Fail>
+) -> Result<Result<Store<MemDisk>, (StoreFault, Disks<MemDisk>)>, StoreFault>
     requires rests { AreAtRest told disks }
     requires some { 1 ≤ pages }
     requires most { pages ≤ 4096 }
@@ -95,7 +93,7 @@ pub(crate) fn create_on(
     alloc: Global,
     disks: Disks<MemDisk>,
     pages: u32,
-) -> Result<(Result<(), StoreFault>, Disks<MemDisk>), Fail>
+) -> Result<(Result<(), StoreFault>, Disks<MemDisk>), StoreFault>
     requires rests { AreAtRest told disks }
     requires some { 1 ≤ pages }
     requires most { pages ≤ 4096 }

@@ -2,8 +2,8 @@
 use crate::changes::{Change, changed};
 use crate::found::{Found, damaged, left_by};
 use crate::recoveries::log_with;
-use std::process::Abort;
-use std::test::Fail;
+use ken_store::StoreFault;
+use std::alloc::Global;
 
 // The first heap of 16 pages up to its zeros: the root, the name, the pages, and the span of a gap.
 const HEAP: [u8; 20] = [
@@ -49,18 +49,20 @@ fn found(place: Option<u64>) -> Found {
 }
 
 // The log has no record.
-fn check(rt: &(impl Abort + AllocGlobal), rows: &[([Change; 4], Option<u64>)]) -> Result<(), Fail> {
-    let alloc = rt.alloc();
+fn left_with(alloc: Global, changes: &[Change]) -> Result<Found, StoreFault> {
     let log = log_with(alloc, 32, 0)?;
-    for (changes, place) in rows {
-        let image = changed(alloc, &HEAP, IMAGE, changes)?;
-        let left = left_by(alloc, &log, &image, &[])?;
-        assert_eq!(rt; left, found(*place), "{changes:?}");
-    }
-    Ok(())
+    let image = changed(alloc, &HEAP, IMAGE, changes)?;
+    left_by(alloc, &log, &image, &[])
 }
 
 #[test]
-fn a_heap_is_refused_where_it_breaks(rt: HostRuntime) -> Result<(), Fail> {
-    check(&rt, &ROWS)
+fn a_heap_is_refused_where_it_breaks(rt: HostRuntime) -> Result<(), StoreFault> {
+    for (changes, place) in &ROWS {
+        assert_eq!(rt;
+            left_with(rt.alloc(), changes)?,
+            found(*place),
+            "{changes:?}"
+        );
+    }
+    Ok(())
 }

@@ -11,16 +11,15 @@ use ken_record::Record;
 use ken_store::*;
 use std::alloc::{AllocError, Global};
 use std::process::Abort;
-use std::test::Fail;
 
 // A store with a heap of two pages.
-fn new_store(alloc: Global) -> Result<Store<MemDisk>, Fail>
+fn new_store(alloc: Global) -> Result<Store<MemDisk>, StoreFault>
     ensures { IfOk result IsIdle }
 {
     let never = Cut { call: 0, pick: 0 };
     match created_on(alloc, cut_at(alloc, Place::Log, never)?, 2)? {
         Ok(store) => Ok(store),
-        Err((fault, _disks)) => Err(Fail::from(fault)),
+        Err((fault, _disks)) => Err(fault),
     }
 }
 
@@ -57,7 +56,7 @@ fn two_turns(rt: &(impl Abort + AllocGlobal), store: &mut Store<MemDisk>) -> Res
     Ok(())
 }
 
-fn played(rt: &(impl Abort + AllocGlobal)) -> Result<Store<MemDisk>, Fail>
+fn played(rt: &(impl Abort + AllocGlobal)) -> Result<Store<MemDisk>, StoreFault>
     ensures { IfOk result IsIdle }
 {
     let mut store = new_store(rt.alloc())?;
@@ -73,7 +72,7 @@ struct Again {
     records: Items<Record>,
 }
 
-fn reopened(alloc: Global, store: Store<MemDisk>) -> Result<Again, Fail>
+fn reopened(alloc: Global, store: Store<MemDisk>) -> Result<Again, StoreFault>
     ensures { IfOk result (λ again. IsIdle again.store) }
 {
     match recover(alloc, crashed(store.release(), 1)?, 0, 1, 2) {
@@ -82,17 +81,17 @@ fn reopened(alloc: Global, store: Store<MemDisk>) -> Result<Again, Fail>
             state,
             records,
         }),
-        Ok(Recovered::Fresh(_disks)) => Err(Fail::from("there is no store")),
-        Err((fault, _disks)) => Err(Fail::from(fault)),
+        Ok(Recovered::Fresh(_disks)) => Err(StoreFault::Disk),
+        Err((fault, _disks)) => Err(fault),
     }
 }
 
 // The state that is found so.
-fn state_again(alloc: Global, store: Store<MemDisk>) -> Result<State, Fail> {
+fn state_again(alloc: Global, store: Store<MemDisk>) -> Result<State, StoreFault> {
     Ok(reopened(alloc, store)?.state)
 }
 
-fn store_again(alloc: Global, store: Store<MemDisk>) -> Result<Store<MemDisk>, Fail>
+fn store_again(alloc: Global, store: Store<MemDisk>) -> Result<Store<MemDisk>, StoreFault>
     ensures { IfOk result IsIdle }
 {
     Ok(reopened(alloc, store)?.store)
@@ -134,7 +133,7 @@ fn check_state(rt: &impl Abort, state: &State) {
 }
 
 #[test]
-fn what_was_sealed_is_told_again(rt: HostRuntime) -> Result<(), Fail> {
+fn what_was_sealed_is_told_again(rt: HostRuntime) -> Result<(), StoreFault> {
     check_state(&rt, &state_again(rt.alloc(), played(&rt)?)?);
     Ok(())
 }
@@ -148,12 +147,12 @@ fn told_by(record: &Record) -> (u64, u64, u64, usize) {
     (record.turn, record.stamp, out, record.pages.len())
 }
 
-fn records_again(alloc: Global, store: Store<MemDisk>) -> Result<Items<Record>, Fail> {
+fn records_again(alloc: Global, store: Store<MemDisk>) -> Result<Items<Record>, StoreFault> {
     Ok(reopened(alloc, store)?.records)
 }
 
 #[test]
-fn its_records_are_told_again(rt: HostRuntime) -> Result<(), Fail> {
+fn its_records_are_told_again(rt: HostRuntime) -> Result<(), StoreFault> {
     let records = records_again(rt.alloc(), played(&rt)?)?;
     assert_eq!(rt; records.len(), 2);
     let wanted = [(1, 2, 1, 1), (2, 4, 2, 2)];
@@ -180,7 +179,7 @@ fn log_of(store: &Store<MemDisk>) -> (u32, u64, u64) {
 
 // A record of one output takes 46 bytes with its gate, and 260 a page.
 #[test]
-fn the_store_tells_it_too(rt: HostRuntime) -> Result<(), Fail> {
+fn the_store_tells_it_too(rt: HostRuntime) -> Result<(), StoreFault> {
     let store = store_again(rt.alloc(), played(&rt)?)?;
     assert_eq!(rt; store.pages(), 2);
     assert_eq!(rt; numbers_of(&store), (2, 4, 2, 2, 0));
@@ -207,7 +206,7 @@ fn check_value(rt: &impl Abort, value: &Value) {
 }
 
 #[test]
-fn its_value_is_found_again(rt: HostRuntime) -> Result<(), Fail> {
+fn its_value_is_found_again(rt: HostRuntime) -> Result<(), StoreFault> {
     let store = store_again(rt.alloc(), played(&rt)?)?;
     check_value(&rt, &store.value(rt.alloc())?);
     Ok(())
@@ -222,80 +221,111 @@ fn patched(store: &mut Store<MemDisk>) -> Result<(bool, u64), StoreFault>
     Ok((more, store.settle()?))
 }
 
-// Three pages are to patch: one of the first turn, and two of the second.
-#[test]
-fn a_turn_is_settled_once_all_its_pages_are_written(rt: HostRuntime) -> Result<(), Fail> {
-    let mut store = played(&rt)?;
+// What four patches and settles tell, one after the other.
+const PATCHED: [(bool, u64); 4] = [(true, 1), (true, 1), (true, 2), (false, 2)];
+
+fn check_patches(rt: &impl Abort, store: &mut Store<MemDisk>) -> Result<(), StoreFault>
+    requires { IsIdle store.old }
+{
     assert_eq!(rt; store.settle()?, 0);
-    for want in [(true, 1), (true, 1), (true, 2), (false, 2)] {
-        assert_eq!(rt; patched(&mut store)?, want);
+    for want in &PATCHED {
+        assert_eq!(rt; patched(store)?, *want);
     }
     Ok(())
 }
 
-// A log that went over once all its pages were settled and its first output was emitted: no page is in its base, and of the
+// Three pages are to patch: one of the first turn, and two of the second.
+#[test]
+fn a_turn_is_settled_once_all_its_pages_are_written(rt: HostRuntime) -> Result<(), StoreFault> {
+    let mut store = played(&rt)?;
+    check_patches(&rt, &mut store)
+}
+
+// A log goes over once all its pages were settled and its first output was emitted: no page is in its base, and of the
 // outputs the second.
-fn renewed(rt: &(impl Abort + AllocGlobal)) -> Result<Store<MemDisk>, Fail>
+fn renew(rt: &impl Abort, store: &mut Store<MemDisk>) -> Result<(), StoreFault>
+    requires { IsIdle store.old }
+    ensures { OnOk result (IsIdle store.new) }
+{
+    patch_all(store)?;
+    turnover(rt, store, 2, 1)
+}
+
+fn renewed(rt: &(impl Abort + AllocGlobal)) -> Result<Store<MemDisk>, StoreFault>
     ensures { IfOk result IsIdle }
 {
     let mut store = played(rt)?;
-    patch_all(&mut store)?;
-    turnover(rt, &mut store, 2, 1)?;
+    renew(rt, &mut store)?;
     Ok(store)
 }
 
 // A base of nothing takes 162 bytes, an output of one byte 11, and a page 260.
+const SIZES: [(u64, u64, u64); 6] = [
+    (0, 0, 704),
+    (0, 1, 693),
+    (1, 2, 682),
+    (2, 0, 184),
+    (2, 1, 173),
+    (2, 2, 162),
+];
+
 #[test]
-fn a_base_has_what_was_not_told(rt: HostRuntime) -> Result<(), Fail> {
+fn a_base_has_what_was_not_told(rt: HostRuntime) -> Result<(), StoreFault> {
     let store = played(&rt)?;
-    let sizes = [
-        (0, 0, 704),
-        (0, 1, 693),
-        (1, 2, 682),
-        (2, 0, 184),
-        (2, 1, 173),
-        (2, 2, 162),
-    ];
-    for (settled, emitted, size) in sizes {
-        assert_eq!(rt;
-            base_size(&rt, &store, settled, emitted),
-            size,
-            "{settled}, {emitted}"
-        );
+    for (settled, emitted, size) in &SIZES {
+        let found = base_size(&rt, &store, *settled, *emitted);
+        assert_eq!(rt; found, *size, "{settled}, {emitted}");
     }
     Ok(())
 }
 
-#[test]
-fn a_log_goes_over_to_a_second_one(rt: HostRuntime) -> Result<(), Fail> {
-    let store = renewed(&rt)?;
-    assert_eq!(rt; log_of(&store), (2, 0, 32 + 173));
-    let store = store_again(rt.alloc(), store)?;
-    assert_eq!(rt; log_of(&store), (2, 0, 32 + 173));
-    check_value(&rt, &store.value(rt.alloc())?);
+fn check_renewed(
+    rt: &(impl Abort + AllocGlobal),
+    store: &Store<MemDisk>,
+) -> Result<(), AllocError> {
+    assert_eq!(rt; log_of(store), (2, 0, 32 + 173));
+    check_value(rt, &store.value(rt.alloc())?);
     Ok(())
 }
 
 #[test]
-fn what_was_told_is_left_out(rt: HostRuntime) -> Result<(), Fail> {
+fn a_log_goes_over_to_a_second_one(rt: HostRuntime) -> Result<(), StoreFault> {
+    let store = renewed(&rt)?;
+    assert_eq!(rt; log_of(&store), (2, 0, 32 + 173));
+    check_renewed(&rt, &store_again(rt.alloc(), store)?)?;
+    Ok(())
+}
+
+#[test]
+fn what_was_told_is_left_out(rt: HostRuntime) -> Result<(), StoreFault> {
     let state = state_again(rt.alloc(), renewed(&rt)?)?;
     assert_eq!(rt; progress(&state), (2, 4, 2, 1));
     Ok(())
 }
 
-// A log that went over and back to the first disk: its base has the page of a third turn, which nothing settled, and of the
+// A log goes over and back to the first disk: its base has the page of a third turn, which nothing settled, and of the
 // outputs the third.
-fn renewed_twice(rt: &(impl Abort + AllocGlobal)) -> Result<Store<MemDisk>, Fail>
+fn renew_again(
+    rt: &(impl Abort + AllocGlobal),
+    store: &mut Store<MemDisk>,
+) -> Result<(), StoreFault>
+    requires { IsIdle store.old }
+    ensures { OnOk result (IsIdle store.new) }
+{
+    turn(rt, store, 8)?;
+    turnover(rt, store, 2, 2)
+}
+
+fn renewed_twice(rt: &(impl Abort + AllocGlobal)) -> Result<Store<MemDisk>, StoreFault>
     ensures { IfOk result IsIdle }
 {
     let mut store = store_again(rt.alloc(), renewed(rt)?)?;
-    turn(rt, &mut store, 8)?;
-    turnover(rt, &mut store, 2, 2)?;
+    renew_again(rt, &mut store)?;
     Ok(store)
 }
 
 #[test]
-fn a_log_goes_back_to_the_first_disk(rt: HostRuntime) -> Result<(), Fail> {
+fn a_log_goes_back_to_the_first_disk(rt: HostRuntime) -> Result<(), StoreFault> {
     let store = store_again(rt.alloc(), renewed_twice(&rt)?)?;
     assert_eq!(rt; log_of(&store), (3, 0, 32 + 162 + 11 + 260));
     assert_eq!(rt; numbers_of(&store), (3, 6, 3, 3, 0));
@@ -319,13 +349,22 @@ fn undone(rt: &(impl Abort + AllocGlobal), store: &mut Store<MemDisk>) -> Result
     Ok(())
 }
 
-#[test]
-fn an_abort_leaves_the_value(rt: HostRuntime) -> Result<(), Fail> {
-    let mut store = played(&rt)?;
-    undone(&rt, &mut store)?;
-    check_value(&rt, &store.value(rt.alloc())?);
-    assert_eq!(rt; turn(&rt, &mut store, 8)?, 3);
+fn check_undone(
+    rt: &(impl Abort + AllocGlobal),
+    store: &mut Store<MemDisk>,
+) -> Result<(), StoreFault>
+    requires { IsIdle store.old }
+{
+    undone(rt, store)?;
+    check_value(rt, &store.value(rt.alloc())?);
+    assert_eq!(rt; turn(rt, store, 8)?, 3);
     Ok(())
+}
+
+#[test]
+fn an_abort_leaves_the_value(rt: HostRuntime) -> Result<(), StoreFault> {
+    let mut store = played(&rt)?;
+    check_undone(&rt, &mut store)
 }
 
 // The sides tell what the store does, and are one again.
@@ -339,11 +378,17 @@ fn parted(rt: &impl Abort, store: Store<MemDisk>) -> Store<MemDisk>
     Store::join(turns, patches)
 }
 
+fn third_turn(rt: &(impl Abort + AllocGlobal), store: &mut Store<MemDisk>) -> Result<(), StoreFault>
+    requires { IsIdle store.old }
+{
+    assert_eq!(rt; turn(rt, store, 8)?, 3);
+    patch_all(store)
+}
+
 #[test]
-fn a_store_is_split_and_joined(rt: HostRuntime) -> Result<(), Fail> {
+fn a_store_is_split_and_joined(rt: HostRuntime) -> Result<(), StoreFault> {
     let mut store = parted(&rt, played(&rt)?);
-    assert_eq!(rt; turn(&rt, &mut store, 8)?, 3);
-    patch_all(&mut store)?;
+    third_turn(&rt, &mut store)?;
     let store = store_again(rt.alloc(), store)?;
     assert_eq!(rt; numbers_of(&store), (3, 6, 3, 3, 0));
     Ok(())
