@@ -6,7 +6,7 @@ use ken_model::{
     Actors, Done, Facts, Input, Items, Kind, MAX_TEXT, OUTSIDE, Octets, Step, StepFault, Value,
 };
 use std::alloc::{AllocError, Global};
-use std::test::Fail;
+use std::process::Abort;
 
 /// A run of nodes with a heap of one page, and one input, for node 0.
 fn facts(alloc: Global, kind: Kind, nodes: u8, turns: u64, text: &[u8]) -> Result<Facts, AllocError>
@@ -106,130 +106,177 @@ fn receiver(done: &Done) -> Option<u8> {
     Some(message.to)
 }
 
-#[test]
-fn a_count_goes_round_three_nodes(rt: HostRuntime) -> Result<(), Fail> {
-    let alloc = rt.alloc();
-    let facts = facts(alloc, Kind::Ring, 3, 10, b"2")?;
-    let mut actors = Actors::start(alloc, &facts)?;
+// Its stamp, its one output, and the receiver of its first message. The message that it took had the number 1.
+fn check_done(rt: &impl Abort, done: &Done, stamp: u64, text: &str, to: Option<u8>) {
+    assert_eq!(rt; done.stamp, stamp);
+    assert_eq!(rt; done.number, 1);
+    assert!(rt; outputs(done, text));
+    assert_eq!(rt; receiver(done), to);
+}
 
-    let first = step(alloc, &mut actors, 0, OUTSIDE, &[])?;
-    assert_eq!(rt; (first.stamp, first.number), (1, 1));
-    assert!(rt; outputs(&first, "2"));
-    assert_eq!(rt; receiver(&first), Some(1));
-
-    let second = step(alloc, &mut actors, 1, 0, &[])?;
-    assert_eq!(rt; (second.stamp, second.number), (2, 1));
-    assert!(rt; outputs(&second, "1"));
-    assert_eq!(rt; receiver(&second), Some(2));
-
-    let third = step(alloc, &mut actors, 2, 1, &[])?;
-    assert_eq!(rt; (third.stamp, third.number), (3, 1));
-    assert!(rt; outputs(&third, "0"));
-    assert_eq!(rt; receiver(&third), None);
-
-    let roots = [
-        actors.value(0).root,
-        actors.value(1).root,
-        actors.value(2).root,
-    ];
-    assert_eq!(rt; roots, [1, 1, 1]);
+fn check_step(
+    rt: &(impl Abort + AllocGlobal),
+    actors: &mut Actors,
+    node: u8,
+    from: u8,
+    want: (u64, &str, Option<u8>),
+) -> Result<(), StepFault>
+    ensures { actors.new.facts ≡ actors.old.facts }
+{
+    let done = step(rt.alloc(), actors, node, from, &[])?;
+    check_done(rt, &done, want.0, want.1, want.2);
     Ok(())
 }
 
-#[test]
-fn a_refused_step_changes_nothing(rt: HostRuntime) -> Result<(), Fail> {
-    let alloc = rt.alloc();
-    let facts = facts(alloc, Kind::Ring, 1, 1, b"1")?;
-    let mut actors = Actors::start(alloc, &facts)?;
-    let refusals = [
-        (0, 0, [].as_slice(), StepFault::NoMessage),
-        (0, 7, &[], StepFault::NoMessage),
-        (7, OUTSIDE, &[], StepFault::NoMessage),
-        (0, OUTSIDE, &[5], StepFault::Draws),
-    ];
-    for (node, from, draws, fault) in refusals {
-        let refused = step(alloc, &mut actors, node, from, draws).err();
-        assert_eq!(rt; refused, Some(fault), "of ({node}, {from})");
-    }
+fn go_round(rt: &(impl Abort + AllocGlobal), actors: &mut Actors) -> Result<(), StepFault>
+    ensures { actors.new.facts ≡ actors.old.facts }
+{
+    check_step(rt, actors, 0, OUTSIDE, (1, "2", Some(1)))?;
+    check_step(rt, actors, 1, 0, (2, "1", Some(2)))?;
+    check_step(rt, actors, 2, 1, (3, "0", None))
+}
 
-    let done = step(alloc, &mut actors, 0, OUTSIDE, &[])?;
+fn check_root(rt: &impl Abort, actors: &Actors, node: u8)
+    requires { node < actors.now.facts.nodes }
+{
+    assert_eq!(rt; actors.value(node).root, 1);
+}
+
+#[test]
+fn a_count_goes_round_three_nodes(rt: HostRuntime) -> Result<(), StepFault> {
+    let facts = facts(rt.alloc(), Kind::Ring, 3, 10, b"2")?;
+    let mut actors = Actors::start(rt.alloc(), &facts)?;
+    go_round(&rt, &mut actors)?;
+    check_root(&rt, &actors, 0);
+    check_root(&rt, &actors, 1);
+    check_root(&rt, &actors, 2);
+    Ok(())
+}
+
+// A node, a sender and draws, and why no step is made of them.
+const REFUSALS: [(u8, u8, &[u64], StepFault); 4] = [
+    (0, 0, &[], StepFault::NoMessage),
+    (0, 7, &[], StepFault::NoMessage),
+    (7, OUTSIDE, &[], StepFault::NoMessage),
+    (0, OUTSIDE, &[5], StepFault::Draws),
+];
+
+// The same once the run has made its one turn.
+const CAPPED: [(u8, u8, &[u64], StepFault); 2] = [
+    (0, 0, &[], StepFault::Capped),
+    (0, OUTSIDE, &[], StepFault::Capped),
+];
+
+fn check_refusals(
+    rt: &(impl Abort + AllocGlobal),
+    actors: &mut Actors,
+    rows: &[(u8, u8, &[u64], StepFault)],
+) {
+    for (node, from, draws, fault) in rows {
+        let refused = step(rt.alloc(), actors, *node, *from, draws).err();
+        assert_eq!(rt; refused, Some(*fault), "of ({node}, {from})");
+    }
+}
+
+fn check_first(rt: &(impl Abort + AllocGlobal), actors: &mut Actors) -> Result<(), StepFault> {
+    let done = step(rt.alloc(), actors, 0, OUTSIDE, &[])?;
     assert_eq!(rt; (done.stamp, done.number), (1, 1));
-    for from in [0, OUTSIDE] {
-        let refused = step(alloc, &mut actors, 0, from, &[]).err();
-        assert_eq!(rt; refused, Some(StepFault::Capped), "of {from}");
-    }
     Ok(())
 }
 
 #[test]
-fn mix_takes_a_reading_and_a_word(rt: HostRuntime) -> Result<(), Fail> {
-    let alloc = rt.alloc();
-    let facts = facts(alloc, Kind::Mix, 1, 10, b"0")?;
-    let mut actors = Actors::start(alloc, &facts)?;
-    let refused = step(alloc, &mut actors, 0, OUTSIDE, &[1]).err();
-    assert_eq!(rt; refused, Some(StepFault::Draws));
+fn a_refused_step_changes_nothing(rt: HostRuntime) -> Result<(), StepFault> {
+    let facts = facts(rt.alloc(), Kind::Ring, 1, 1, b"1")?;
+    let mut actors = Actors::start(rt.alloc(), &facts)?;
+    check_refusals(&rt, &mut actors, &REFUSALS);
+    check_first(&rt, &mut actors)?;
+    check_refusals(&rt, &mut actors, &CAPPED);
+    Ok(())
+}
 
-    let done = step(alloc, &mut actors, 0, OUTSIDE, &[1, 167_951_807])?;
+fn mix_once(rt: &(impl Abort + AllocGlobal), actors: &mut Actors) -> Result<(), StepFault>
+    ensures { actors.new.facts ≡ actors.old.facts }
+{
+    let refused = step(rt.alloc(), actors, 0, OUTSIDE, &[1]).err();
+    assert_eq!(rt; refused, Some(StepFault::Draws));
+    let done = step(rt.alloc(), actors, 0, OUTSIDE, &[1, 167_951_807])?;
     assert_eq!(rt; done.stamp, 1);
     assert!(rt; outputs(&done, "807"));
     assert_eq!(rt; receiver(&done), None);
-    assert_eq!(rt; actors.value(0).root, 1);
     Ok(())
 }
 
 #[test]
-fn a_pair_goes_into_the_first_gap(rt: HostRuntime) -> Result<(), Fail> {
-    let alloc = rt.alloc();
-    let cases = [
-        ("put a 1", "ok"),
-        ("put b 1", "ok"),
-        ("put c 1", "ok"),
-        ("put d 1", "ok"),
-        ("put e 1", "ok"),
-        ("put f 1", "ok"),
-        ("put g 1", "ok"),
-        ("put h 1", "full"),
-        ("del c", "ok"),
-        ("put i 1", "ok"),
-        ("get i", "1"),
-        ("get c", "none"),
-    ];
-    let facts = commands(alloc, &cases)?;
-    let mut actors = Actors::start(alloc, &facts)?;
-    assert_eq!(rt; first_wrong(alloc, &mut actors, &cases)?, None);
-    let blocks = [
-        (32, "a 1"),
-        (64, "b 1"),
-        (96, "i 1"),
-        (128, "d 1"),
-        (160, "e 1"),
-        (192, "f 1"),
-        (224, "g 1"),
-    ];
-    assert!(rt; has_blocks(actors.value(0), &blocks));
+fn mix_takes_a_reading_and_a_word(rt: HostRuntime) -> Result<(), StepFault> {
+    let facts = facts(rt.alloc(), Kind::Mix, 1, 10, b"0")?;
+    let mut actors = Actors::start(rt.alloc(), &facts)?;
+    mix_once(&rt, &mut actors)?;
+    check_root(&rt, &actors, 0);
+    Ok(())
+}
+
+// A command, and what kv outputs.
+const FILLED: [(&str, &str); 12] = [
+    ("put a 1", "ok"),
+    ("put b 1", "ok"),
+    ("put c 1", "ok"),
+    ("put d 1", "ok"),
+    ("put e 1", "ok"),
+    ("put f 1", "ok"),
+    ("put g 1", "ok"),
+    ("put h 1", "full"),
+    ("del c", "ok"),
+    ("put i 1", "ok"),
+    ("get i", "1"),
+    ("get c", "none"),
+];
+
+const FILLED_BLOCKS: [(u64, &str); 7] = [
+    (32, "a 1"),
+    (64, "b 1"),
+    (96, "i 1"),
+    (128, "d 1"),
+    (160, "e 1"),
+    (192, "f 1"),
+    (224, "g 1"),
+];
+
+const RENEWED: [(&str, &str); 12] = [
+    ("put k a b c", "ok"),
+    ("get k", "a b c"),
+    ("put k ", "ok"),
+    ("get k", ""),
+    ("put a", "bad"),
+    ("put  x", "bad"),
+    ("get a b", "bad"),
+    ("get ", "bad"),
+    ("del", "bad"),
+    ("del a", "none"),
+    ("", "bad"),
+    ("Put a 1", "bad"),
+];
+
+// Makes a turn of each command on an empty heap of one page. It then has just these blocks.
+fn check_commands(
+    rt: &(impl Abort + AllocGlobal),
+    cases: &[(&str, &str)],
+    blocks: &[(u64, &str)],
+) -> Result<(), StepFault>
+    requires { length cases.now ≤ 100 }
+{
+    let facts = commands(rt.alloc(), cases)?;
+    let mut actors = Actors::start(rt.alloc(), &facts)?;
+    assert_eq!(rt; first_wrong(rt.alloc(), &mut actors, cases)?, None);
+    assert!(rt; has_blocks(actors.value(0), blocks));
     Ok(())
 }
 
 #[test]
-fn a_new_pair_comes_before_the_old_one_goes(rt: HostRuntime) -> Result<(), Fail> {
-    let alloc = rt.alloc();
-    let cases = [
-        ("put k a b c", "ok"),
-        ("get k", "a b c"),
-        ("put k ", "ok"),
-        ("get k", ""),
-        ("put a", "bad"),
-        ("put  x", "bad"),
-        ("get a b", "bad"),
-        ("get ", "bad"),
-        ("del", "bad"),
-        ("del a", "none"),
-        ("", "bad"),
-        ("Put a 1", "bad"),
-    ];
-    let facts = commands(alloc, &cases)?;
-    let mut actors = Actors::start(alloc, &facts)?;
-    assert_eq!(rt; first_wrong(alloc, &mut actors, &cases)?, None);
-    assert!(rt; has_blocks(actors.value(0), &[(64, "k ")]));
-    Ok(())
+fn a_pair_goes_into_the_first_gap(rt: HostRuntime) -> Result<(), StepFault> {
+    check_commands(&rt, &FILLED, &FILLED_BLOCKS)
+}
+
+#[test]
+fn a_new_pair_comes_before_the_old_one_goes(rt: HostRuntime) -> Result<(), StepFault> {
+    check_commands(&rt, &RENEWED, &[(64, "k ")])
 }

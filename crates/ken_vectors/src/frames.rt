@@ -1,15 +1,15 @@
 use ken_frame::{FRAME, Frame};
-use std::test::Fail;
+use std::alloc::AllocError;
 
 #[test]
-fn a_new_frame_is_256_zeros(rt: HostRuntime) -> Result<(), Fail> {
+fn a_new_frame_is_256_zeros(rt: HostRuntime) -> Result<(), AllocError> {
     let frame = Frame::zeroed(rt.alloc())?;
-    assert_eq!(rt; frame.as_slice(), [0u8; FRAME].as_slice());
+    assert_eq!(rt; frame.as_slice(), vec![in rt.alloc(); 0; FRAME]?.as_slice());
     Ok(())
 }
 
 #[test]
-fn bytes_are_read_where_they_were_written(rt: HostRuntime) -> Result<(), Fail> {
+fn bytes_are_read_where_they_were_written(rt: HostRuntime) -> Result<(), AllocError> {
     let mut frame = Frame::zeroed(rt.alloc())?;
     frame.write(254, &[1, 2]);
     frame.write(0, &[3]);
@@ -25,7 +25,7 @@ fn bytes_are_read_where_they_were_written(rt: HostRuntime) -> Result<(), Fail> {
 }
 
 #[test]
-fn a_copy_has_the_bytes_and_stays(rt: HostRuntime) -> Result<(), Fail> {
+fn a_copy_has_the_bytes_and_stays(rt: HostRuntime) -> Result<(), AllocError> {
     let alloc = rt.alloc();
     let mut frame = Frame::zeroed(alloc)?;
     frame.write(7, &[1, 2, 3]);

@@ -3,7 +3,7 @@ ghost use Rattle.std.specs.Prelude.{◌≡◌, ◌+◌, ◌*◌, ◌<◌, ◌≤
 use ken_frame::Frame;
 use ken_pages::{MAX_PAGES, PageHeap};
 use std::alloc::{AllocError, Global};
-use std::test::Fail;
+use std::process::Abort;
 
 /// Pages of zeros, with a turn begun.
 fn begun(alloc: Global, pages: u32) -> Result<PageHeap, AllocError>
@@ -36,50 +36,88 @@ fn byte(heap: &PageHeap, at: u64) -> u8
     buf[0]
 }
 
-#[test]
-fn a_new_heap_is_zeros(rt: HostRuntime) -> Result<(), Fail> {
-    let heap = PageHeap::new(rt.alloc(), 2)?;
-    assert_eq!(rt; heap.pages(), 2);
-    let mut all = [9u8; 512];
-    heap.read(0, &mut all);
-    assert_eq!(rt; all.as_slice(), [0u8; 512].as_slice());
+// The first bytes.
+fn front(alloc: Global, heap: &PageHeap, len: usize) -> Result<Vec<u8>, AllocError>
+    requires { len ≤ length heap.now.bytes }
+{
+    let mut bytes = vec![in alloc; 9; len]?;
+    heap.read(0, &mut bytes);
+    Ok(bytes)
+}
+
+// All bytes of two pages are zeros but these, by their places.
+fn check_bytes(
+    rt: &(impl Abort + AllocGlobal),
+    heap: &PageHeap,
+    wanted: &[(usize, u8)],
+) -> Result<(), AllocError>
+    requires { length heap.now.bytes ≡ 512 }
+{
+    let found = front(rt.alloc(), heap, 512)?;
+    let mut bytes = vec![in rt.alloc(); 0; 512]?;
+    for (place, byte) in wanted {
+        if let Some(at) = bytes.get_mut(*place) {
+            *at = *byte;
+        }
+    }
+    assert_eq!(rt; found.as_slice(), bytes.as_slice());
+    Ok(())
+}
+
+fn check_dirty(rt: &impl Abort, heap: &PageHeap, pages: &[u32]) -> Result<(), AllocError>
+    requires { IsSome heap.now.begun }
+{
+    assert_eq!(rt; heap.dirty()?.as_slice(), pages);
     Ok(())
 }
 
 #[test]
-fn bytes_are_written_and_read_across_a_border(rt: HostRuntime) -> Result<(), Fail> {
+fn a_new_heap_is_zeros(rt: HostRuntime) -> Result<(), AllocError> {
+    let heap = PageHeap::new(rt.alloc(), 2)?;
+    assert_eq!(rt; heap.pages(), 2);
+    check_bytes(&rt, &heap, &[])
+}
+
+#[test]
+fn bytes_are_written_and_read_across_a_border(rt: HostRuntime) -> Result<(), AllocError> {
     let mut heap = begun(rt.alloc(), 2)?;
     put(&mut heap, 254, &[1, 2, 3, 4])?;
     let mut around = [9u8; 6];
     heap.read(253, &mut around);
     assert_eq!(rt; around, [0, 1, 2, 3, 4, 0]);
-    assert_eq!(rt; heap.dirty()?.as_slice(), [0u32, 1].as_slice());
-    Ok(())
+    check_dirty(&rt, &heap, &[0, 1])
 }
 
 #[test]
-fn a_page_is_dirty_by_its_last_byte(rt: HostRuntime) -> Result<(), Fail> {
+fn a_page_is_dirty_by_its_last_byte(rt: HostRuntime) -> Result<(), AllocError> {
     let mut heap = begun(rt.alloc(), 2)?;
     put(&mut heap, 511, &[7])?;
     put(&mut heap, 255, &[7])?;
-    assert_eq!(rt; heap.dirty()?.as_slice(), [0u32, 1].as_slice());
-    Ok(())
+    check_dirty(&rt, &heap, &[0, 1])
+}
+
+fn put_as_it_was(heap: &mut PageHeap) -> Result<(), AllocError>
+    requires begun { IsSome heap.old.begun }
+    requires long { length heap.old.bytes ≡ 512 }
+    ensures { heap.new.begun ≡ heap.old.begun }
+{
+    put(heap, 10, &[0])?;
+    put(heap, 300, &[5])?;
+    put(heap, 300, &[0])?;
+    put(heap, 512, &[])
 }
 
 #[test]
-fn a_byte_written_as_it_was_makes_no_page_dirty(rt: HostRuntime) -> Result<(), Fail> {
+fn a_byte_written_as_it_was_makes_no_page_dirty(rt: HostRuntime) -> Result<(), AllocError> {
     let mut heap = begun(rt.alloc(), 2)?;
-    put(&mut heap, 10, &[0])?;
-    put(&mut heap, 300, &[5])?;
-    put(&mut heap, 300, &[0])?;
-    put(&mut heap, 512, &[])?;
-    assert_eq!(rt; heap.dirty()?.as_slice(), [0u32; 0].as_slice());
+    put_as_it_was(&mut heap)?;
+    check_dirty(&rt, &heap, &[])?;
     assert_eq!(rt; heap.freeze()?.len(), 0);
     Ok(())
 }
 
 #[test]
-fn frozen_pages_keep_their_bytes(rt: HostRuntime) -> Result<(), Fail> {
+fn frozen_pages_keep_their_bytes(rt: HostRuntime) -> Result<(), AllocError> {
     let mut heap = begun(rt.alloc(), 2)?;
     put(&mut heap, 256, &[1, 2])?;
     let frozen = heap.freeze()?;
@@ -94,25 +132,32 @@ fn frozen_pages_keep_their_bytes(rt: HostRuntime) -> Result<(), Fail> {
     Ok(())
 }
 
-#[test]
-fn an_abort_takes_a_turn_back(rt: HostRuntime) -> Result<(), Fail> {
-    let mut heap = begun(rt.alloc(), 2)?;
-    put(&mut heap, 200, &[1])?;
+// A turn is kept, and the next one taken back, which wrote over what it had written and past it.
+fn put_and_take_back(rt: &(impl Abort + AllocGlobal), heap: &mut PageHeap) -> Result<(), AllocError>
+    requires begun { IsSome heap.old.begun }
+    requires long { length heap.old.bytes ≡ 512 }
+    ensures { IfOk result (λ _. length heap.new.bytes ≡ 512) }
+{
+    let twos = vec![in rt.alloc(); 2; 100]?;
+    let threes = vec![in rt.alloc(); 3; 90]?;
+    put(heap, 200, &[1])?;
     heap.commit();
     heap.begin();
-    put(&mut heap, 200, &[2; 100])?;
-    put(&mut heap, 200, &[3; 90])?;
+    put(heap, 200, &twos)?;
+    put(heap, 200, &threes)?;
     heap.abort();
-    let mut after = [9u8; 512];
-    heap.read(0, &mut after);
-    let mut want = [0u8; 512];
-    want[200] = 1;
-    assert_eq!(rt; after.as_slice(), want.as_slice());
     Ok(())
 }
 
 #[test]
-fn an_abort_with_no_turn_begun_does_nothing(rt: HostRuntime) -> Result<(), Fail> {
+fn an_abort_takes_a_turn_back(rt: HostRuntime) -> Result<(), AllocError> {
+    let mut heap = begun(rt.alloc(), 2)?;
+    put_and_take_back(&rt, &mut heap)?;
+    check_bytes(&rt, &heap, &[(200, 1)])
+}
+
+#[test]
+fn an_abort_with_no_turn_begun_does_nothing(rt: HostRuntime) -> Result<(), AllocError> {
     let mut heap = begun(rt.alloc(), 2)?;
     put(&mut heap, 5, &[1])?;
     heap.commit();
@@ -123,7 +168,7 @@ fn an_abort_with_no_turn_begun_does_nothing(rt: HostRuntime) -> Result<(), Fail>
 }
 
 #[test]
-fn a_commit_keeps_a_turn(rt: HostRuntime) -> Result<(), Fail> {
+fn a_commit_keeps_a_turn(rt: HostRuntime) -> Result<(), AllocError> {
     let mut heap = begun(rt.alloc(), 2)?;
     put(&mut heap, 5, &[1])?;
     heap.commit();
@@ -134,27 +179,20 @@ fn a_commit_keeps_a_turn(rt: HostRuntime) -> Result<(), Fail> {
 }
 
 #[test]
-fn a_page_is_loaded_from_a_frame(rt: HostRuntime) -> Result<(), Fail> {
+fn a_page_is_loaded_from_a_frame(rt: HostRuntime) -> Result<(), AllocError> {
     let alloc = rt.alloc();
     let mut frame = Frame::zeroed(alloc)?;
     frame.write(0, &[1]);
     frame.write(255, &[2]);
     let mut heap = PageHeap::new(alloc, 2)?;
     heap.load(1, &frame);
-    let mut all = [9u8; 512];
-    heap.read(0, &mut all);
-    let mut want = [0u8; 512];
-    want[256] = 1;
-    want[511] = 2;
-    assert_eq!(rt; all.as_slice(), want.as_slice());
-    Ok(())
+    check_bytes(&rt, &heap, &[(256, 1), (511, 2)])
 }
 
 #[test]
-fn the_largest_heap_is_written_at_its_end(rt: HostRuntime) -> Result<(), Fail> {
+fn the_largest_heap_is_written_at_its_end(rt: HostRuntime) -> Result<(), AllocError> {
     let mut heap = begun(rt.alloc(), MAX_PAGES)?;
     assert_eq!(rt; heap.pages(), 4096);
     put(&mut heap, 1_048_575, &[1])?;
-    assert_eq!(rt; heap.dirty()?.as_slice(), [4095u32].as_slice());
-    Ok(())
+    check_dirty(&rt, &heap, &[4095])
 }

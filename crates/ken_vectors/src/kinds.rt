@@ -1,335 +1,332 @@
-ghost use Rattle.std.specs.Prelude.{None, false, IfOk, IsSome};
-
-use ken_alloc::Objects;
-use ken_app::{Oracle, take_turn};
+use crate::turns::{Case, heap, text_of, try_case, try_cases};
 use ken_apps::KindApp;
-use ken_model::{Kind, Message, OUTSIDE, Octets};
-use ken_pages::PageHeap;
-use std::alloc::{AllocError, Global};
+use ken_model::{Kind, OUTSIDE};
+use std::alloc::AllocError;
 use std::process::Abort;
-use std::test::Fail;
 
-// Tells nothing. It answers with the same reading and the same word, and counts how often.
-#[derive(Debug, Drop)]
-struct Fixed {
-    reading: u64,
-    word: u64,
-    asked: u64,
-}
+// A turn of node 2 of 3 with a root of 5, where the clock reads 1 and the word is the first of a generator in the state 0. It
+// is told that its payload is bad, and does nothing.
+const BAD: Case<'static> = Case {
+    nodes: 3,
+    pages: 1,
+    node: 2,
+    from: OUTSIDE,
+    payload: b"",
+    root: 5,
+    block: b"",
+    reading: 1,
+    word: 167_951_807,
+    root_then: 5,
+    block_then: b"",
+    draws: &[],
+    sent: &[],
+    outs: &[b"bad"],
+};
 
-impl Oracle for Fixed {
-    ghost telling = { record { clocks = λ _. None; words = λ _. None; origin = λ _. None; always = false } };
+const RING_TWO: Case<'static> = Case {
+    payload: b"2",
+    root_then: 6,
+    sent: &[(0, b"1")],
+    outs: &[b"2"],
+    ..BAD
+};
 
-    fn clock(&mut self) -> u64 {
-        self.asked = self.asked.wrapping_add(1);
-        self.reading
-    }
-
-    fn word(&mut self) -> u64 {
-        self.asked = self.asked.wrapping_add(1);
-        self.word
-    }
-}
-
-// A turn of one of three nodes, and what it is to come to.
-#[derive(Clone, Copy)]
-struct Case<'a> {
-    kind: Kind,
-    from: u8,
-    node: u8,
-    root: u64,
-    payload: &'a [u8],
-    // What the oracle answers.
-    reading: u64,
-    word: u64,
-    root_then: u64,
-    sent: &'a [(u8, &'a [u8])],
-    out: &'a [u8],
-    draws: &'a [u64],
-    // The one block of the heap after it, at 32: none where it is empty.
-    pair: &'a [u8],
-}
-
-// A heap of one page with that root, and with a turn begun.
-fn heap(alloc: Global, root: u64) -> Result<Objects, AllocError>
-    ensures { IfOk result (λ objects. IsSome objects.begun) }
-{
-    let mut objects = Objects::format(PageHeap::new(alloc, 1)?)?;
-    objects.begin();
-    objects.set_root(root)?;
-    Ok(objects)
-}
-
-// Makes the turn, and compares.
-fn try_case(rt: &(impl Abort + AllocGlobal), case: &Case<'_>) -> Result<(), Fail> {
-    let message = Message {
-        from: case.from,
-        to: case.node,
-        number: 1,
-        stamp: 0,
-        bytes: Octets::new(Vec::from_slice(rt.alloc(), case.payload)?),
-    };
-    let mut objects = heap(rt.alloc(), case.root)?;
-    let mut oracle = Fixed {
-        reading: case.reading,
-        word: case.word,
-        asked: 0,
-    };
-    assert!(rt; case.node < 3);
-    let app = KindApp(case.kind);
-    let made = take_turn(
-        rt.alloc(),
-        &app,
-        case.node,
-        3,
-        &message,
-        &mut objects,
-        &mut oracle,
-    )?;
-    let value = objects.value(rt.alloc())?;
-    assert_eq!(rt; (value.size, value.root), (256, case.root_then));
-    assert_eq!(rt; value.blocks.is_empty(), case.pair.is_empty());
-    for block in value.blocks.as_slice() {
-        assert_eq!(rt; (block.place, block.bytes.as_slice()), (32, case.pair));
-    }
-    assert_eq!(rt; made.draws.as_slice(), case.draws);
-    assert_eq!(rt; oracle.asked, case.draws.len() as u64);
-    assert_eq!(rt; made.sends.len(), case.sent.len());
-    for (send, want) in made.sends.iter().zip(case.sent) {
-        assert_eq!(rt; (send.to, send.bytes.as_slice()), *want);
-    }
-    assert_eq!(rt; made.outs.len(), 1);
-    for out in &made.outs {
-        assert_eq!(rt; out.as_slice(), case.out);
-    }
-    Ok(())
-}
-
-// A turn of node 2 with a root of 5, where the clock reads 1 and the word is the first of a generator in the state 0.
-fn make_case<'a>(
-    kind: Kind,
-    payload: &'a [u8],
-    root_then: u64,
-    sent: &'a [(u8, &'a [u8])],
-    out: &'a [u8],
-    draws: &'a [u64],
-) -> Case<'a> {
+const RING: [Case<'static>; 7] = [
+    RING_TWO,
     Case {
-        kind,
-        from: OUTSIDE,
-        node: 2,
-        root: 5,
+        node: 0,
+        sent: &[(1, b"1")],
+        ..RING_TWO
+    },
+    Case {
+        root: u64::MAX,
+        root_then: 0,
+        ..RING_TWO
+    },
+    Case {
+        payload: b"0",
+        root_then: 6,
+        outs: &[b"0"],
+        ..BAD
+    },
+    Case {
+        payload: b"10",
+        root_then: 6,
+        sent: &[(0, b"9")],
+        outs: &[b"10"],
+        ..BAD
+    },
+    Case {
+        payload: b"x",
+        ..BAD
+    },
+    Case {
+        payload: b"01",
+        ..BAD
+    },
+];
+
+const SHARE_FIVE: Case<'static> = Case {
+    payload: b"5",
+    root_then: 8,
+    sent: &[(0, b"2")],
+    outs: &[b"5"],
+    ..BAD
+};
+
+const SHARE: [Case<'static>; 6] = [
+    SHARE_FIVE,
+    Case {
+        node: 0,
+        sent: &[(1, b"2")],
+        ..SHARE_FIVE
+    },
+    Case {
+        root: u64::MAX,
+        root_then: 2,
+        ..SHARE_FIVE
+    },
+    Case {
+        payload: b"1",
+        root_then: 6,
+        outs: &[b"1"],
+        ..BAD
+    },
+    Case {
+        payload: b"0",
+        outs: &[b"0"],
+        ..BAD
+    },
+    Case {
+        payload: b"05",
+        ..BAD
+    },
+];
+
+const TALLY_SEVEN: Case<'static> = Case {
+    payload: b"7",
+    root_then: 12,
+    sent: &[(0, b"7"), (1, b"7")],
+    outs: &[b"12"],
+    ..BAD
+};
+
+const TALLY: [Case<'static>; 5] = [
+    TALLY_SEVEN,
+    Case {
+        node: 1,
+        sent: &[(0, b"7"), (2, b"7")],
+        ..TALLY_SEVEN
+    },
+    Case {
+        from: 0,
+        sent: &[],
+        ..TALLY_SEVEN
+    },
+    Case {
+        root: u64::MAX,
+        root_then: 6,
+        outs: &[b"6"],
+        ..TALLY_SEVEN
+    },
+    Case {
+        payload: b"7 ",
+        ..BAD
+    },
+];
+
+const MIX: [Case<'static>; 5] = [
+    Case {
+        payload: b"3",
+        reading: u64::MAX,
+        word: 7,
+        root_then: u64::MAX,
+        sent: &[(1, b"2")],
+        outs: &[b"7"],
+        draws: &[u64::MAX, 7],
+        ..BAD
+    },
+    Case {
+        payload: b"2",
+        root_then: 1,
+        sent: &[(2, b"1")],
+        outs: &[b"807"],
+        draws: &[1, 167_951_807],
+        ..BAD
+    },
+    Case {
+        payload: b"0",
+        root_then: 1,
+        outs: &[b"807"],
+        draws: &[1, 167_951_807],
+        ..BAD
+    },
+    Case {
+        payload: b"x",
+        ..BAD
+    },
+    BAD,
+];
+
+const KV: [Case<'static>; 5] = [
+    Case {
+        payload: b"put a 1",
+        block_then: b"a 1",
+        outs: &[b"ok"],
+        ..BAD
+    },
+    Case {
+        payload: b"put key a b",
+        block_then: b"key a b",
+        outs: &[b"ok"],
+        ..BAD
+    },
+    Case {
+        payload: b"put a ",
+        block_then: b"a ",
+        outs: &[b"ok"],
+        ..BAD
+    },
+    Case {
+        payload: b"get a",
+        outs: &[b"none"],
+        ..BAD
+    },
+    Case {
+        payload: b"del a",
+        outs: &[b"none"],
+        ..BAD
+    },
+];
+
+// What is no command of kv.
+const NO_COMMANDS: [&[u8]; 11] = [
+    b"",
+    b"put a",
+    b"put  1",
+    b"put ",
+    b"put",
+    b"get ",
+    b"get a b",
+    b"del ",
+    b"Put a 1",
+    b" put a 1",
+    b"7",
+];
+
+const KINDS: [Kind; 5] = [Kind::Ring, Kind::Tally, Kind::Share, Kind::Mix, Kind::Kv];
+
+// A payload that a kind does not know.
+fn try_bad(rt: &(impl Abort + AllocGlobal), kind: Kind, payload: &[u8]) -> Result<(), AllocError> {
+    try_case(rt, &KindApp(kind), &Case { payload, ..BAD })
+}
+
+#[test]
+fn ring_sends_a_count_to_the_next_node(rt: HostRuntime) -> Result<(), AllocError> {
+    try_cases(&rt, &KindApp(Kind::Ring), &RING)?;
+    try_bad(&rt, Kind::Ring, &text_of(rt.alloc(), b"", 512)?)
+}
+
+#[test]
+fn share_sends_the_smaller_half_on(rt: HostRuntime) -> Result<(), AllocError> {
+    try_cases(&rt, &KindApp(Kind::Share), &SHARE)
+}
+
+#[test]
+fn tally_sends_what_comes_from_outside_to_all_others(rt: HostRuntime) -> Result<(), AllocError> {
+    try_cases(&rt, &KindApp(Kind::Tally), &TALLY)
+}
+
+#[test]
+fn mix_sends_a_count_where_the_word_says(rt: HostRuntime) -> Result<(), AllocError> {
+    try_cases(&rt, &KindApp(Kind::Mix), &MIX)?;
+    try_bad(&rt, Kind::Mix, &text_of(rt.alloc(), b"", 512)?)
+}
+
+// A put, and the pair that is kept then.
+fn try_put<'a>(
+    rt: &(impl Abort + AllocGlobal),
+    payload: &'a [u8],
+    outs: &'a [&'a [u8]],
+    block_then: &'a [u8],
+) -> Result<(), AllocError> {
+    let case = Case {
         payload,
-        reading: 1,
-        word: 167_951_807,
-        root_then,
-        sent,
-        out,
-        draws,
-        pair: b"",
-    }
-}
-
-// Such a turn for a payload that no kind knows.
-fn bad<'a>(kind: Kind, payload: &'a [u8]) -> Case<'a> {
-    make_case(kind, payload, 5, &[], b"bad", &[])
-}
-
-#[test]
-fn ring_sends_a_count_to_the_next_node(rt: HostRuntime) -> Result<(), Fail> {
-    let letters = [b'x'; 512];
-    let last = make_case(Kind::Ring, b"2", 6, &[(0, b"1")], b"2", &[]);
-    let cases = [
-        last,
-        Case {
-            node: 0,
-            sent: &[(1, b"1")],
-            ..last
-        },
-        Case {
-            root: u64::MAX,
-            root_then: 0,
-            ..last
-        },
-        make_case(Kind::Ring, b"0", 6, &[], b"0", &[]),
-        make_case(Kind::Ring, b"10", 6, &[(0, b"9")], b"10", &[]),
-        bad(Kind::Ring, b"x"),
-        bad(Kind::Ring, b"01"),
-        bad(Kind::Ring, &letters),
-    ];
-    for case in &cases {
-        try_case(&rt, case)?;
-    }
-    Ok(())
-}
-
-#[test]
-fn share_sends_the_smaller_half_on(rt: HostRuntime) -> Result<(), Fail> {
-    let five = make_case(Kind::Share, b"5", 8, &[(0, b"2")], b"5", &[]);
-    let cases = [
-        five,
-        Case {
-            node: 0,
-            sent: &[(1, b"2")],
-            ..five
-        },
-        Case {
-            root: u64::MAX,
-            root_then: 2,
-            ..five
-        },
-        make_case(Kind::Share, b"1", 6, &[], b"1", &[]),
-        make_case(Kind::Share, b"0", 5, &[], b"0", &[]),
-        bad(Kind::Share, b"05"),
-    ];
-    for case in &cases {
-        try_case(&rt, case)?;
-    }
-    Ok(())
-}
-
-#[test]
-fn tally_sends_what_comes_from_outside_to_all_others(rt: HostRuntime) -> Result<(), Fail> {
-    let seven = make_case(Kind::Tally, b"7", 12, &[(0, b"7"), (1, b"7")], b"12", &[]);
-    let cases = [
-        seven,
-        Case {
-            node: 1,
-            sent: &[(0, b"7"), (2, b"7")],
-            ..seven
-        },
-        Case {
-            from: 0,
-            sent: &[],
-            ..seven
-        },
-        Case {
-            root: u64::MAX,
-            root_then: 6,
-            out: b"6",
-            ..seven
-        },
-        bad(Kind::Tally, b"7 "),
-    ];
-    for case in &cases {
-        try_case(&rt, case)?;
-    }
-    Ok(())
-}
-
-#[test]
-fn mix_sends_a_count_where_the_word_says(rt: HostRuntime) -> Result<(), Fail> {
-    let letters = [b'x'; 512];
-    let drawn = [1, 167_951_807];
-    let three = make_case(
-        Kind::Mix,
-        b"3",
-        u64::MAX,
-        &[(1, b"2")],
-        b"7",
-        &[u64::MAX, 7],
-    );
-    let cases = [
-        Case {
-            reading: u64::MAX,
-            word: 7,
-            ..three
-        },
-        make_case(Kind::Mix, b"2", 1, &[(2, b"1")], b"807", &drawn),
-        make_case(Kind::Mix, b"0", 1, &[], b"807", &drawn),
-        bad(Kind::Mix, b"x"),
-        bad(Kind::Mix, b""),
-        bad(Kind::Mix, &letters),
-    ];
-    for case in &cases {
-        try_case(&rt, case)?;
-    }
-    Ok(())
-}
-
-// A turn of kv in an empty heap: what it outputs, and the pair that it keeps, if any.
-fn kv<'a>(payload: &'a [u8], out: &'a [u8], pair: &'a [u8]) -> Case<'a> {
-    Case {
-        pair,
-        ..make_case(Kind::Kv, payload, 5, &[], out, &[])
-    }
-}
-
-#[test]
-fn kv_keeps_pairs_in_blocks(rt: HostRuntime) -> Result<(), Fail> {
-    let mut longest = [b'x'; 228];
-    longest[..6].copy_from_slice(b"put k ");
-    let mut longer = [b'x'; 229];
-    longer[..6].copy_from_slice(b"put k ");
-    let cases = [
-        kv(b"put a 1", b"ok", b"a 1"),
-        kv(b"put key a b", b"ok", b"key a b"),
-        kv(b"put a ", b"ok", b"a "),
-        kv(&longest, b"ok", &longest[4..]),
-        kv(&longer, b"full", b""),
-        kv(b"get a", b"none", b""),
-        kv(b"del a", b"none", b""),
-    ];
-    for case in &cases {
-        try_case(&rt, case)?;
-    }
-    let refused = [
-        b"".as_slice(),
-        b"put a",
-        b"put  1",
-        b"put ",
-        b"put",
-        b"get ",
-        b"get a b",
-        b"del ",
-        b"Put a 1",
-        b" put a 1",
-        b"7",
-    ];
-    for payload in refused {
-        try_case(&rt, &bad(Kind::Kv, payload))?;
-    }
-    Ok(())
-}
-
-#[test]
-fn a_message_may_be_too_long(rt: HostRuntime) -> Result<(), Fail> {
-    let mut put = [b'x'; 513];
-    put[..6].copy_from_slice(b"put k ");
-    for kind in [Kind::Ring, Kind::Tally, Kind::Share, Kind::Mix, Kind::Kv] {
-        try_case(&rt, &bad(kind, &put))?;
-    }
-    Ok(())
-}
-
-#[test]
-fn of_a_long_text_the_front_is_output(rt: HostRuntime) -> Result<(), Fail> {
-    let mut pair = [b'x'; 515];
-    pair[..2].copy_from_slice(b"k ");
-    let mut objects = Objects::format(PageHeap::new(rt.alloc(), 3)?)?;
-    objects.begin();
-    let Some(place) = objects.alloc(515)? else {
-        return Err(Fail::from(AllocError));
+        outs,
+        block_then,
+        ..BAD
     };
-    assert!(rt; objects.is_block(place) && objects.len_of(place) == 515);
-    objects.write(place, 0, &pair)?;
-    let message = Message {
-        from: OUTSIDE,
-        to: 0,
-        number: 1,
-        stamp: 0,
-        bytes: Octets::new(Vec::from_slice(rt.alloc(), b"get k")?),
-    };
-    let mut oracle = Fixed {
-        reading: 1,
+    try_case(rt, &KindApp(Kind::Kv), &case)
+}
+
+// A pair that fills the page, and one that is a byte longer.
+fn try_longest(rt: &(impl Abort + AllocGlobal)) -> Result<(), AllocError> {
+    let put = text_of(rt.alloc(), b"put k ", 228)?;
+    let pair = text_of(rt.alloc(), b"k ", 224)?;
+    try_put(rt, &put, &[b"ok"], &pair)
+}
+
+fn try_longer(rt: &(impl Abort + AllocGlobal)) -> Result<(), AllocError> {
+    let put = text_of(rt.alloc(), b"put k ", 229)?;
+    try_put(rt, &put, &[b"full"], b"")
+}
+
+#[test]
+fn kv_keeps_pairs_in_blocks(rt: HostRuntime) -> Result<(), AllocError> {
+    try_cases(&rt, &KindApp(Kind::Kv), &KV)?;
+    try_longest(&rt)?;
+    try_longer(&rt)
+}
+
+#[test]
+fn kv_knows_its_commands_alone(rt: HostRuntime) -> Result<(), AllocError> {
+    for payload in &NO_COMMANDS {
+        try_bad(&rt, Kind::Kv, payload)?;
+    }
+    Ok(())
+}
+
+#[test]
+fn a_message_may_be_too_long(rt: HostRuntime) -> Result<(), AllocError> {
+    let put = text_of(rt.alloc(), b"put k ", 513)?;
+    for kind in &KINDS {
+        try_bad(&rt, *kind, &put)?;
+    }
+    Ok(())
+}
+
+// A heap of three pages has room for a text that is longer than an output.
+#[test]
+fn of_a_long_text_the_front_is_output(rt: HostRuntime) -> Result<(), AllocError> {
+    let pair = text_of(rt.alloc(), b"k ", 515)?;
+    check_long_block(&rt, &pair)?;
+    let front = text_of(rt.alloc(), b"", 512)?;
+    check_front(&rt, &pair, &[&front])
+}
+
+fn check_long_block(rt: &(impl Abort + AllocGlobal), pair: &[u8]) -> Result<(), AllocError> {
+    let objects = heap(rt.alloc(), 3, 0, pair)?;
+    assert!(rt; objects.is_block(32) && objects.len_of(32) == 515);
+    Ok(())
+}
+
+fn check_front<'a>(
+    rt: &(impl Abort + AllocGlobal),
+    pair: &'a [u8],
+    outs: &'a [&'a [u8]],
+) -> Result<(), AllocError> {
+    let case = Case {
+        nodes: 1,
+        pages: 3,
+        node: 0,
+        payload: b"get k",
+        root: 0,
+        block: pair,
         word: 1,
-        asked: 0,
+        root_then: 0,
+        block_then: pair,
+        outs,
+        ..BAD
     };
-    let app = KindApp(Kind::Kv);
-    let made = take_turn(rt.alloc(), &app, 0, 1, &message, &mut objects, &mut oracle)?;
-    assert_eq!(rt; made.outs.len(), 1);
-    for out in &made.outs {
-        assert_eq!(rt; out.as_slice(), &pair[2..514]);
-    }
-    Ok(())
+    try_case(rt, &KindApp(Kind::Kv), &case)
 }

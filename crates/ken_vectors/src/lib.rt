@@ -30,4 +30,6 @@ mod scripts;
 #[cfg(test)]
 mod streams;
 #[cfg(test)]
+mod turns;
+#[cfg(test)]
 mod values;

@@ -2,43 +2,62 @@ use ken_model::{
     Command, Items, Kind, Octets, agreement_is_legal, first_gap_is_least, is_pair_of,
     report_spells_its_run, rounded,
 };
-use std::test::Fail;
+use std::alloc::AllocError;
 
 #[test]
-fn each_public_call_answers(rt: HostRuntime) -> Result<(), Fail> {
+fn kinds_are_named(rt: HostRuntime) {
     assert_eq!(rt; Kind::of(b"ring"), Some(Kind::Ring));
     assert_eq!(rt; Kind::of(b"kv"), Some(Kind::Kv));
     assert_eq!(rt; Kind::of(b"Ring"), None);
+}
 
-    let put = Command::of(b"put k a b");
-    assert_eq!(rt;
-        put,
-        Some(Command::Put {
-            key: b"k",
-            pair: b"k a b"
-        })
-    );
+#[test]
+fn commands_are_read(rt: HostRuntime) {
+    let put = Command::Put {
+        key: b"k",
+        pair: b"k a b",
+    };
+    assert_eq!(rt; Command::of(b"put k a b"), Some(put));
     assert_eq!(rt; Command::of(b"del k"), Some(Command::Delete { key: b"k" }));
     assert_eq!(rt; Command::of(b"get k b"), None);
+}
+
+#[test]
+fn a_pair_is_of_its_key(rt: HostRuntime) {
     assert!(rt; is_pair_of(b"k a b", b"k"));
     assert!(rt; !is_pair_of(b"k", b"k"));
+}
 
+#[test]
+fn octets_keep_their_bytes(rt: HostRuntime) -> Result<(), AllocError> {
     let octets = Octets::new(b"ken".to_vec(rt.alloc())?);
     assert_eq!(rt; octets.len(), 3);
     assert!(rt; !octets.is_empty());
     assert_eq!(rt; octets.as_slice(), b"ken".as_slice());
     assert_eq!(rt; octets.into_vec().as_slice(), b"ken".as_slice());
+    Ok(())
+}
 
+#[test]
+fn items_keep_their_numbers(rt: HostRuntime) -> Result<(), AllocError> {
     let items = Items::new([7, 8].to_vec(rt.alloc())?);
     assert_eq!(rt; items.len(), 2);
     assert!(rt; !items.is_empty());
     assert_eq!(rt; items.as_slice(), [7, 8].as_slice());
     assert_eq!(rt; items.into_vec().as_slice(), [7, 8].as_slice());
+    Ok(())
+}
 
-    assert_eq!(rt; [rounded(0), rounded(16), rounded(17)], [0, 16, 32]);
+#[test]
+fn spans_are_rounded_up(rt: HostRuntime) {
+    assert_eq!(rt; rounded(0), 0);
+    assert_eq!(rt; rounded(16), 16);
+    assert_eq!(rt; rounded(17), 32);
+}
 
+#[test]
+fn laws_are_told() {
     agreement_is_legal();
     first_gap_is_least();
     report_spells_its_run();
-    Ok(())
 }

@@ -1,7 +1,7 @@
 use ken_model::{Message, Octets};
 use ken_packet::*;
 use std::alloc::{AllocError, Global};
-use std::test::Fail;
+use std::process::Abort;
 
 // Message 1 from node 0 to node 1 with stamp 1 and the text `1`.
 const MAIL: [u8; 22] = [
@@ -94,88 +94,125 @@ fn is_packet(alloc: Global, bytes: &[u8]) -> Result<bool, AllocError> {
     }
 }
 
+fn is_spelled_so(alloc: Global, packet: &Packet, bytes: &[u8]) -> Result<bool, AllocError> {
+    Ok(is_spelled(&spelled(alloc, packet)?, bytes))
+}
+
+fn is_mail_spelled_so(alloc: Global, packet: &Packet, bytes: &[u8]) -> Result<bool, AllocError> {
+    Ok(is_spelled(&spelled_mail(alloc, packet)?, bytes))
+}
+
+fn is_first_mail(message: &Message) -> bool {
+    message.from == 0
+        && message.to == 1
+        && message.number == 1
+        && message.stamp == 1
+        && message.bytes.as_slice() == b"1".as_slice()
+}
+
+fn reads_mail(alloc: Global) -> bool {
+    match decode(alloc, &MAIL) {
+        Ok(Packet::Mail(read)) => is_first_mail(&read),
+        _ => false,
+    }
+}
+
+fn reads_ack(alloc: Global) -> bool {
+    match decode(alloc, &ACK) {
+        Ok(Packet::Ack { from, to, through }) => from == 1 && to == 0 && through == 1,
+        _ => false,
+    }
+}
+
 #[test]
-fn a_mail_has_these_bytes(rt: HostRuntime) -> Result<(), Fail> {
+fn a_mail_has_these_bytes(rt: HostRuntime) -> Result<(), AllocError> {
     let packet = Packet::Mail(mail(rt.alloc(), b"1")?);
-    assert_eq!(rt; is_spelled(&spelled(rt.alloc(), &packet)?, &MAIL), true);
-    assert_eq!(rt;
-        is_spelled(&spelled_mail(rt.alloc(), &packet)?, &MAIL),
-        true
-    );
-    let told = match decode(rt.alloc(), &MAIL)? {
-        Packet::Mail(read) => {
-            read.from == 0
-                && read.to == 1
-                && read.number == 1
-                && read.stamp == 1
-                && read.bytes.as_slice() == b"1".as_slice()
-        }
-        Packet::Ack { .. } => false,
-    };
-    assert_eq!(rt; told, true);
+    assert_eq!(rt; is_spelled_so(rt.alloc(), &packet, &MAIL)?, true);
+    assert_eq!(rt; is_mail_spelled_so(rt.alloc(), &packet, &MAIL)?, true);
+    assert_eq!(rt; reads_mail(rt.alloc()), true);
     Ok(())
 }
 
 #[test]
-fn its_acknowledgement_has_these_bytes(rt: HostRuntime) -> Result<(), Fail> {
+fn its_acknowledgement_has_these_bytes(rt: HostRuntime) -> Result<(), AllocError> {
     let packet = Packet::Ack {
         from: 1,
         to: 0,
         through: 1,
     };
-    assert_eq!(rt; is_spelled(&spelled(rt.alloc(), &packet)?, &ACK), true);
-    let told = match decode(rt.alloc(), &ACK)? {
-        Packet::Ack { from, to, through } => from == 1 && to == 0 && through == 1,
-        Packet::Mail(_) => false,
-    };
-    assert_eq!(rt; told, true);
+    assert_eq!(rt; is_spelled_so(rt.alloc(), &packet, &ACK)?, true);
+    assert_eq!(rt; reads_ack(rt.alloc()), true);
     Ok(())
 }
 
+// No front of the bytes is a packet.
+fn check_fronts(rt: &(impl Abort + AllocGlobal), bytes: &[u8]) -> Result<(), AllocError> {
+    for len in 0..bytes.len() {
+        assert_eq!(rt; is_packet(rt.alloc(), &bytes[..len])?, false);
+    }
+    Ok(())
+}
+
+fn is_packet_with_more(alloc: Global, bytes: &[u8]) -> Result<bool, AllocError> {
+    let mut more = Vec::from_slice(alloc, bytes)?;
+    more.push(0)?;
+    is_packet(alloc, &more)
+}
+
 #[test]
-fn these_are_no_packets(rt: HostRuntime) -> Result<(), Fail> {
+fn these_are_no_packets(rt: HostRuntime) -> Result<(), AllocError> {
     assert_eq!(rt; is_packet(rt.alloc(), &[])?, false);
     assert_eq!(rt; is_packet(rt.alloc(), &[3])?, false);
-    for len in 0..MAIL.len() {
-        assert_eq!(rt; is_packet(rt.alloc(), &MAIL[..len])?, false);
-    }
-    for len in 0..ACK.len() {
-        assert_eq!(rt; is_packet(rt.alloc(), &ACK[..len])?, false);
-    }
-    for bytes in [MAIL.as_slice(), ACK.as_slice()] {
-        let mut more = Vec::from_slice(rt.alloc(), bytes)?;
-        more.push(0)?;
-        assert_eq!(rt; is_packet(rt.alloc(), &more)?, false);
+    check_fronts(&rt, &MAIL)?;
+    check_fronts(&rt, &ACK)?;
+    assert_eq!(rt; is_packet_with_more(rt.alloc(), &MAIL)?, false);
+    assert_eq!(rt; is_packet_with_more(rt.alloc(), &ACK)?, false);
+    Ok(())
+}
+
+fn is_packet_with(alloc: Global, bytes: &[u8], place: usize, byte: u8) -> Result<bool, AllocError> {
+    is_packet(alloc, &changed(alloc, bytes, place, byte)?)
+}
+
+fn check_changes(
+    rt: &(impl Abort + AllocGlobal),
+    bytes: &[u8],
+    rows: &[(usize, u8, bool)],
+) -> Result<(), AllocError> {
+    for (place, byte, good) in rows {
+        let found = is_packet_with(rt.alloc(), bytes, *place, *byte)?;
+        assert_eq!(rt; found, *good, "{byte} at {place}");
     }
     Ok(())
 }
 
 #[test]
-fn fields_keep_their_limits(rt: HostRuntime) -> Result<(), Fail> {
-    for (place, byte, good) in &MAILS {
-        let bytes = changed(rt.alloc(), &MAIL, *place, *byte)?;
-        assert_eq!(rt; is_packet(rt.alloc(), &bytes)?, *good);
+fn fields_keep_their_limits(rt: HostRuntime) -> Result<(), AllocError> {
+    check_changes(&rt, &MAIL, &MAILS)?;
+    check_changes(&rt, &ACK, &ACKS)
+}
+
+// The bytes of a mail with a text of so many letters, if it has a spelling.
+fn long_mail(alloc: Global, len: usize) -> Result<Option<Octets>, AllocError> {
+    let text = vec![in alloc; b'a'; len]?;
+    spelled(alloc, &Packet::Mail(mail(alloc, &text)?))
+}
+
+// Whether such a mail is spelled in so many bytes more, which are a packet.
+fn is_long_mail(alloc: Global, len: usize) -> Result<bool, AllocError> {
+    match long_mail(alloc, len)? {
+        Some(bytes) => Ok(
+            bytes.len() == len.saturating_add(21) && is_packet(alloc, bytes.as_slice())?,
+        ),
+        None => Ok(false),
     }
-    for (place, byte, good) in &ACKS {
-        let bytes = changed(rt.alloc(), &ACK, *place, *byte)?;
-        assert_eq!(rt; is_packet(rt.alloc(), &bytes)?, *good);
-    }
-    Ok(())
 }
 
 #[test]
-fn a_text_of_512_bytes_is_the_longest(rt: HostRuntime) -> Result<(), Fail> {
-    for (len, good) in [(0, true), (512, true), (513, false)] {
-        let text = vec![in rt.alloc(); b'a'; len]?;
-        let packet = Packet::Mail(mail(rt.alloc(), &text)?);
-        match spelled(rt.alloc(), &packet)? {
-            Some(bytes) => {
-                assert_eq!(rt; good && bytes.len() == 21 + len, true);
-                assert_eq!(rt; is_packet(rt.alloc(), bytes.as_slice())?, true);
-            }
-            None => assert_eq!(rt; good, false),
-        }
-    }
+fn a_text_of_512_bytes_is_the_longest(rt: HostRuntime) -> Result<(), AllocError> {
+    assert_eq!(rt; is_long_mail(rt.alloc(), 0)?, true);
+    assert_eq!(rt; is_long_mail(rt.alloc(), 512)?, true);
+    assert!(rt; long_mail(rt.alloc(), 513)?.is_none());
     Ok(())
 }
 

@@ -50,54 +50,73 @@ impl io::Write for Broken {
     }
 }
 
+// How much a call reads, the limit, and what is read of the digits.
+const READS: [(usize, usize, &str); 5] = [
+    (3, 100, "0123456789"),
+    (100, 10, "0123456789"),
+    (1, 9, "0123456789"),
+    (4, 8, "012345678"),
+    (4, 0, "0"),
+];
+
+// The call that fails, and what three digits a call leave then.
+const LEFT: [(u64, &str); 3] = [(1, "012"), (2, "345"), (5, "")];
+
+// The room of a sink, the call that fails, how much a call takes, what is answered to the digits, and what is out.
+const WRITES: [(usize, u64, usize, Result<(), Failed>, &str); 6] = [
+    (10, 0, 100, Ok(()), "0123456789"),
+    (20, 0, 1, Ok(()), "0123456789"),
+    (10, 1, 4, Err(Failed), ""),
+    (10, 2, 4, Err(Failed), "0123"),
+    (7, 0, 4, Err(Failed), "0123456"),
+    (0, 0, 4, Err(Failed), ""),
+];
+
+fn read_of(rt: &(impl Abort + AllocGlobal), piece: usize, limit: usize) -> Result<Octets, Fail> {
+    let mut source = digits(rt, 0, piece)?;
+    Ok(read_all(rt.alloc(), &mut source, limit)?)
+}
+
 #[test]
 fn a_source_is_read_to_its_end_or_to_one_byte_past_the_limit(rt: HostRuntime) -> Result<(), Fail> {
-    let cases = [
-        (3, 100, "0123456789"),
-        (100, 10, "0123456789"),
-        (1, 9, "0123456789"),
-        (4, 8, "012345678"),
-        (4, 0, "0"),
-    ];
-    for (piece, limit, want) in cases {
-        let read = read_all(rt.alloc(), &mut digits(&rt, 0, piece)?, limit)?;
+    for (piece, limit, want) in &READS {
+        let read = read_of(&rt, *piece, *limit)?;
         assert_eq!(rt; read.as_slice(), want.as_bytes(), "limit {limit}");
     }
     Ok(())
 }
 
+fn check_left(rt: &impl Abort, source: &mut MemSource, want: &str) -> Result<(), Failed> {
+    let mut buf = [0; 8];
+    let count = source.read(&mut buf)?;
+    assert_eq!(rt; &buf[..count], want.as_bytes());
+    Ok(())
+}
+
+fn check_failing(rt: &(impl Abort + AllocGlobal), failing: u64, next: &str) -> Result<(), Fail> {
+    let mut source = digits(rt, failing, 3)?;
+    let read = read_all(rt.alloc(), &mut source, 100);
+    assert!(rt; matches!(read, Err(ReadFault::Failed)), "call {failing}");
+    Ok(check_left(rt, &mut source, next)?)
+}
+
 #[test]
 fn nothing_is_read_after_a_read_that_fails(rt: HostRuntime) -> Result<(), Fail> {
-    let cases = [(1, "012"), (2, "345"), (5, "")];
-    for (failing, next) in cases {
-        let mut source = digits(&rt, failing, 3)?;
-        let read = read_all(rt.alloc(), &mut source, 100);
-        assert!(rt; matches!(read, Err(ReadFault::Failed)), "call {failing}");
-        let mut buf = [0; 8];
-        let count = source.read(&mut buf)?;
-        assert_eq!(rt; &buf[..count], next.as_bytes(), "call {failing}");
+    for (failing, next) in &LEFT {
+        check_failing(&rt, *failing, next)?;
     }
     Ok(())
 }
 
+fn check_written(rt: &impl Abort, sink: &mut MemSink, want: Result<(), Failed>, out: &str) {
+    assert_eq!(rt; write_all(sink, DIGITS), want, "{out}");
+    assert_eq!(rt; sink.bytes(), out.as_bytes());
+}
+
 #[test]
 fn a_sink_takes_all_or_a_front(rt: HostRuntime) -> Result<(), Fail> {
-    let cases = [
-        (10, 0, 100, Ok(()), "0123456789"),
-        (20, 0, 1, Ok(()), "0123456789"),
-        (10, 1, 4, Err(Failed), ""),
-        (10, 2, 4, Err(Failed), "0123"),
-        (7, 0, 4, Err(Failed), "0123456"),
-        (0, 0, 4, Err(Failed), ""),
-    ];
-    for (room, failing, piece, want, out) in cases {
-        let mut sink = sink(&rt, room, failing, piece)?;
-        assert_eq!(rt;
-            write_all(&mut sink, DIGITS),
-            want,
-            "room {room}, call {failing}"
-        );
-        assert_eq!(rt; sink.bytes(), out.as_bytes(), "room {room}, call {failing}");
+    for (room, failing, piece, want, out) in &WRITES {
+        check_written(&rt, &mut sink(&rt, *room, *failing, *piece)?, *want, out);
     }
     Ok(())
 }

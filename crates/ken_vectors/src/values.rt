@@ -3,7 +3,7 @@ use ken_model::{
     stands_for_one, wrong_header,
 };
 use std::alloc::{AllocError, Global};
-use std::test::Fail;
+use std::process::Abort;
 
 // The front of a page: a block of three bytes at 32, a gap, a block of one byte at 112, and a gap. Dots are what stands in
 // padding and inside gaps.
@@ -65,58 +65,69 @@ fn a_head_is_one_within_its_room(rt: HostRuntime) {
 }
 
 #[test]
-fn the_first_heap_is_read(rt: HostRuntime) -> Result<(), Fail> {
-    let bytes = first(rt.alloc())?;
-    match Value::read(rt.alloc(), &bytes)? {
-        Some(value) => {
-            assert!(rt; value.size == 4096 && value.root == 0 && value.blocks.is_empty());
-        }
-        None => return Err(Fail::new("no value")),
+fn the_first_heap_is_read(rt: HostRuntime) -> Result<(), AllocError> {
+    let value = value_of(rt.alloc(), &first(rt.alloc())?)?;
+    check_numbers(&rt, &value, 4096, 0);
+    assert!(rt; value.blocks.is_empty());
+    Ok(())
+}
+
+// What bytes stand for. Where they stand for nothing, the test ends.
+fn value_of(alloc: Global, bytes: &[u8]) -> Result<Value, AllocError> {
+    match Value::read(alloc, bytes)? {
+        Some(value) => Ok(value),
+        None => Err(AllocError),
+    }
+}
+
+fn check_numbers(rt: &impl Abort, value: &Value, size: u64, root: u64) {
+    assert_eq!(rt; value.size, size);
+    assert_eq!(rt; value.root, root);
+}
+
+const BLOCKS: [(u64, &[u8]); 2] = [(32, b"ken"), (112, b"7")];
+
+#[test]
+fn blocks_are_read_where_they_stand(rt: HostRuntime) -> Result<(), AllocError> {
+    let value = value_of(rt.alloc(), &page(rt.alloc(), 256, 256, 0)?)?;
+    check_numbers(&rt, &value, 256, 0x0102);
+    assert_eq!(rt; value.blocks.len(), 2);
+    for (block, (place, bytes)) in value.blocks.as_slice().iter().zip(&BLOCKS) {
+        assert_eq!(rt; block.place, *place);
+        assert_eq!(rt; block.bytes.as_slice(), *bytes);
     }
     Ok(())
 }
 
-#[test]
-fn blocks_are_read_where_they_stand(rt: HostRuntime) -> Result<(), Fail> {
-    let bytes = page(rt.alloc(), 256, 256, 0)?;
-    let wanted: [(u64, &[u8]); 2] = [(32, b"ken"), (112, b"7")];
-    match Value::read(rt.alloc(), &bytes)? {
-        Some(value) => {
-            assert!(rt; value.size == 256 && value.root == 0x0102);
-            assert_eq!(rt; value.blocks.len(), 2);
-            for (block, (place, bytes)) in value.blocks.as_slice().iter().zip(wanted) {
-                assert_eq!(rt; block.place, place);
-                assert_eq!(rt; block.bytes.as_slice(), bytes);
-            }
-        }
-        None => return Err(Fail::new("no value")),
-    }
-    Ok(())
+// How many bytes of the page are there, and a place with another byte.
+const WRONG: [(usize, usize, u8); 10] = [
+    (256, 8, b'k'),
+    (256, 15, 2),
+    (256, 19, 40),
+    (256, 23, 17),
+    (256, 24, 1),
+    (256, 51, 32),
+    (256, 51, 0),
+    (256, 130, 1),
+    (240, 240, 0),
+    (0, 0, 0),
+];
+
+fn is_none(alloc: Global, bytes: &[u8]) -> Result<bool, AllocError> {
+    Ok(Value::read(alloc, bytes)?.is_none())
+}
+
+fn is_none_with(alloc: Global, len: usize, at: usize, byte: u8) -> Result<bool, AllocError> {
+    is_none(alloc, &page(alloc, len, at, byte)?)
 }
 
 #[test]
-fn other_bytes_stand_for_none(rt: HostRuntime) -> Result<(), Fail> {
-    let alloc = rt.alloc();
-    let zeros = vec![in alloc; 0; 256]?;
-    assert!(rt; Value::read(alloc, &zeros)?.is_none());
-    let wrong = [
-        (256, 8, b'k'),
-        (256, 15, 2),
-        (256, 19, 40),
-        (256, 23, 17),
-        (256, 24, 1),
-        (256, 51, 32),
-        (256, 51, 0),
-        (256, 130, 1),
-        (240, 240, 0),
-        (0, 0, 0),
-    ];
-    for (len, at, byte) in wrong {
-        let bytes = page(alloc, len, at, byte)?;
-        assert!(rt;
-            Value::read(alloc, &bytes)?.is_none(),
-            "{len} bytes, at {at}"
-        );
+fn other_bytes_stand_for_none(rt: HostRuntime) -> Result<(), AllocError> {
+    let zeros = vec![in rt.alloc(); 0; 256]?;
+    assert!(rt; is_none(rt.alloc(), &zeros)?);
+    for (len, at, byte) in &WRONG {
+        let none = is_none_with(rt.alloc(), *len, *at, *byte)?;
+        assert!(rt; none, "{len} bytes, at {at}");
     }
     Ok(())
 }
