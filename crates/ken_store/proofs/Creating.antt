@@ -19,7 +19,7 @@ use Rattle.ken_log.specs.Calls.{MadeAfterRead, log_writes}
 use Rattle.ken_log.specs.Formats.{MountsAsAny, Replaces}
 use Rattle.ken_log.specs.Mounts.{mount_of}
 use Rattle.ken_log.specs.Mounts as mounts
-use Rattle.ken_log.specs.Seals.{MountsAs, MountsAsEither, as_disk}
+use Rattle.ken_log.specs.Seals.{HasLogCause, MountsAs, MountsAsEither, as_disk}
 use Rattle.ken_image.specs.Pages.{first_page, first_image}
 use Rattle.ken_image.specs.Whole.{Keeps}
 use Rattle.ken_store.specs.declared.owner.Owner.{Owner}
@@ -31,6 +31,7 @@ use Rattle.ken_store.specs.Logs.{front_of, logs_of, is_owned}
 use Rattle.ken_store.specs.Numbers.{no_numbers}
 use Rattle.ken_store.specs.Reads.{of_seal}
 use Rattle.ken_store.specs.Recovered.{Fresh, state_of, recovered, with_logs, with_log}
+use Rattle.ken_store.specs.Turning.{log_answer}
 use Rattle.ken_store.specs.Creations.{first_header, created, HoldsFirst, FreshOrCreated, Creates, MayFormat, TellsStill}
 use Rattle.ken_store.proofs.Mounted.{front_none, front_whole}
 use Rattle.ken_store.proofs.Recovering.{whole_answer}
@@ -177,3 +178,8 @@ module _ {A B : Type 0} (o : Owner) (h s : Story) where
   pub formats_err : (f : SealFault) → MadeAfterRead (as_disk {T = A} (Err f)) (log_writes (first_header o) None h.now.seen) h s → Replaces {T = A} (mount_of h.now.seen) (mounts.Whole (first_header o) None []) (Err f) h s → MayFormat {T = B} o (Err (of_seal f)) h s
   formats_err Disk made replaces = inr (record { calls = made; in_doubt = λ _. ⊎_elim inl (λ x. inr x.1) (replaces.in_doubt refl) })
   formats_err Memory made replaces = inr (record { calls = made; in_doubt = λ no. absurd (let none : ⊥ = cc no in none) })
+
+-- so is the cause of its fault
+pub cause_err : (A B : Type 0) (f : SealFault) (old new : ℕ) → HasLogCause {T = A} old new (Err f) → HasLogCause {T = B} old new (log_answer (Err (of_seal f)))
+cause_err A B Disk old new cause = cause
+cause_err A B Memory old new cause = cause

@@ -11,7 +11,7 @@ use Rattle.ken_record.specs.declared.header.Header.{Header}
 use Rattle.ken_log.specs.Calls.{MadeAfterRead, log_writes}
 use Rattle.ken_log.specs.Mounts.{mount_of}
 use Rattle.ken_log.specs.Mounts as mounts
-use Rattle.ken_log.specs.Seals.{MountsAsEither, as_disk}
+use Rattle.ken_log.specs.Seals.{HasLogCause, MountsAsEither, as_disk}
 use Rattle.ken_store.specs.declared.owner.Owner.{Owner}
 use Rattle.ken_store.specs.declared.disks.Disks.{Disks}
 use Rattle.ken_store.specs.declared.faults.StoreFault.{StoreFault}
@@ -73,6 +73,10 @@ pub record Formats {T : Type 0} (o : Owner) (result : Result T StoreFault) (old 
 abbrev pub MayFormat : {T : Type 0} → Owner → Result T StoreFault → Story → Story → Type 0
 MayFormat o (Ok x) old new = Formats o (Ok x) old new
 MayFormat {T} o (Err fault) old new = (new ≡ old) ⊎ Formats {T = T} o (Err fault) old new
+
+-- the log's disk is as it was; or it saw a format, and a fault that is answered is one of its own
+abbrev pub CallsLog : {D T : Type 0} → (D → Option Story) → (D → ℕ) → Owner → Result T StoreFault → D → D → Type 0
+CallsLog told faults o result old new = ((told new ≡ told old) × (faults new ≡ faults old)) ⊎ (Follows (MayFormat o result) (told old) (told new) × HasLogCause (faults old) (faults new) (log_answer result))
 
 -- what told what it holds tells it still
 abbrev pub TellsStill : Option Story → Option Story → Type 0

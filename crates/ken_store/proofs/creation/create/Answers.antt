@@ -12,10 +12,10 @@ use Rattle.ken_model.specs.Layout.{first_heap}
 use Rattle.ken_image.specs.Pages.{first_image}
 use Rattle.ken_cover.specs.Sides.{first_turn_pages}
 use Rattle.ken_store.specs.Logs.{is_owned}
-use Rattle.ken_store.specs.Turning.{Turning, IsPassed, live_layers, sealed_bytes, turn_pages}
+use Rattle.ken_store.specs.Turning.{Turning, IsPassed, live_layers, log_answer, sealed_bytes, turn_pages}
 use Rattle.ken_store.proofs.Mounted.{front_none}
 use Rattle.ken_store.proofs.First.{length-first_heap, first_stands}
-use Rattle.std.proofs.Common.{◌≡◌, ◌∙◌, ◌*◌, length, [], ap, sym, subst, refl, Some, None, Ok, Err, true}
+use Rattle.std.proofs.Common.{◌≡◌, ◌∙◌, ◌*◌, inl, inr, length, [], ap, sym, subst, refl, Some, None, Ok, Err, true}
 use Rattle.ken_disk.specs.Story.{Story, IsAtRest}
 use Rattle.ken_disk.proofs.Told.{some_is}
 use Rattle.ken_log.specs.Formats.{Replaces}
@@ -25,10 +25,10 @@ use Rattle.ken_store.specs.declared.owner.Owner.{Owner}
 use Rattle.ken_store.specs.declared.faults.StoreFault.TheVariants.{Memory}
 use Rattle.ken_store.specs.declared.store.Store.{Store}
 use Rattle.ken_log.specs.Calls.{MadeAfterRead, log_writes}
-use Rattle.ken_log.specs.Seals.{as_disk}
+use Rattle.ken_log.specs.Seals.{HasLogCause, as_disk}
 use Rattle.ken_store.specs.declared.faults.StoreFault.{StoreFault}
 use Rattle.ken_store.specs.Creations.{Creates, MayFormat, first_header}
-use Rattle.ken_store.proofs.Creating.{first_image-heap, owned, creates_not, creates_err, creates_ok, follows_at, follows_both, formats_err, formats_ok, holds_first, follows_still, unformatted_still}
+use Rattle.ken_store.proofs.Creating.{cause_err, first_image-heap, owned, creates_not, creates_err, creates_ok, follows_at, follows_both, formats_err, formats_ok, holds_first, follows_still, unformatted_still}
 use Rattle.ken_store.proofs.creation.create.Goals as goal
 
 pub returns-in-Err-clause-creates : goal.returns-in-Err-clause-creates
@@ -147,3 +147,26 @@ returns-in-Err-format-2-clause-calls g c =
     (follows_both (λ (h n : Story). IsAtRest h.now → Replaces (mount_of h.now.seen) (mounts.Whole (first_header o) None []) (Err fault) h n)
     (λ (h n : Story). MadeAfterRead (as_disk (Err fault)) (log_writes (first_header o) None h.now.seen) h n) (MayFormat {T = Store g.row.D.Denot} o (Err _)) _ _ c.in-Err-format-2.ensures.story c.in-Err-format-2.ensures.calls
     (λ h n is replaces made. formats_err o h n fault made (replaces (c.requires.rests.log h is))))
+
+pub returns-in-Ok-format-2-clause-log : goal.returns-in-Ok-format-2-clause-log
+returns-in-Ok-format-2-clause-log g c =
+    let o : Owner = record { node = c.args.node; nodes = c.args.nodes; pages = c.args.pages } in
+    inr (
+      follows_both (λ (h n : Story). IsAtRest h.now → Replaces (mount_of h.now.seen) (mounts.Whole (first_header o) None []) (Ok c.in-Ok-format-2.log) h n)
+      (λ (h n : Story). MadeAfterRead (as_disk (Ok c.in-Ok-format-2.log)) (log_writes (first_header o) None h.now.seen) h n) (MayFormat {T = Store g.row.D.Denot} o (Ok _)) _ _ c.in-Ok-format-2.ensures.story c.in-Ok-format-2.ensures.calls
+      (λ h n is replaces made. formats_ok o h n c.in-Ok-format-2.log _ made),
+      c.in-Ok-format-2.ensures.cause
+    )
+
+pub returns-in-Err-format-2-clause-log : goal.returns-in-Err-format-2-clause-log
+returns-in-Err-format-2-clause-log g c =
+    let o : Owner = record { node = c.args.node; nodes = c.args.nodes; pages = c.args.pages } in
+    let fault = c.in-Err-format-2.fault in
+    let log = c.in-Err-format-2.log in
+    inr (
+      subst (λ (f : StoreFault). Follows (MayFormat {T = Store g.row.D.Denot} o (Err f)) (g.D.Disk.told c.args.disks.log) (g.D.Disk.told log)) (sym c.from-in-Err-format-2.ensures)
+      (follows_both (λ (h n : Story). IsAtRest h.now → Replaces (mount_of h.now.seen) (mounts.Whole (first_header o) None []) (Err fault) h n)
+      (λ (h n : Story). MadeAfterRead (as_disk (Err fault)) (log_writes (first_header o) None h.now.seen) h n) (MayFormat {T = Store g.row.D.Denot} o (Err _)) _ _ c.in-Err-format-2.ensures.story c.in-Err-format-2.ensures.calls
+      (λ h n is replaces made. formats_err o h n fault made (replaces (c.requires.rests.log h is)))),
+      subst (λ (f : StoreFault). HasLogCause (g.D.Disk.faults c.args.disks.log) (g.D.Disk.faults log) (log_answer {T = Store g.row.D.Denot} (Err f))) (sym c.from-in-Err-format-2.ensures) (cause_err (Unit {0}) (Store g.row.D.Denot) fault _ _ c.in-Err-format-2.ensures.cause)
+    )
