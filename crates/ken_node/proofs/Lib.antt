@@ -61,3 +61,6 @@ pub mod Mails
 pub mod Recovered
 pub mod Fresh
 pub mod WholeAgain
+pub mod Synced
+pub mod TurnSynced
+pub mod RestartSynced

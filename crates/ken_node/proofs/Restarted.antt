@@ -43,7 +43,7 @@ less-told None new less some = absurd (let no : ⊥ = cc some in no)
 less-told (Some h) new less some = subst (λ (o : Option Story). IsSome o) (sym less.1) refl
 
 -- the story before
-was-told : (old new : Option Story) → LeavesLess old new → (h : Story) → new ≡ Some h → (b : Story) × ((old ≡ Some b) × ((image : List ℕ) → IsImage h.now image → IsImage b.now image))
+pub was-told : (old new : Option Story) → LeavesLess old new → (h : Story) → new ≡ Some h → (b : Story) × ((old ≡ Some b) × ((image : List ℕ) → IsImage h.now image → IsImage b.now image))
 was-told None new less h is = absurd (let no : ⊥ = cc in no)
 was-told (Some b) new less h is =
     (b, (refl, subst (λ (x : Story). (image : List ℕ) → IsImage x.now image → IsImage b.now image) (some_is less.0 h (sym less.1 ∙ is)) less.2))

@@ -21,6 +21,7 @@ pub mod TurnLaws
 pub mod KindLaws
 pub mod NewLaws
 pub mod Up
+pub mod Synced
 pub mod NodeCalls
 pub mod NodeTurns
 pub mod DownLaws

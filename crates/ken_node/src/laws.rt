@@ -2,6 +2,7 @@
 ghost use Rattle.ken_node.specs.DownLaws.{CreationGoesDown, MeetingStaysDown, NewOtherIsNone, OtherStays, PatchGoesDown, SealGoesDown, TurnGoesDown, TurnoverGoesDown, WholeGoesDown};
 ghost use Rattle.ken_node.specs.KindLaws.{KindsKeepShort};
 ghost use Rattle.ken_node.specs.NewLaws.{NewAreWhole};
+ghost use Rattle.ken_node.specs.Synced.{UpHasSynced};
 ghost use Rattle.ken_node.specs.TurnLaws.{TurnKeepsWhole};
 ghost use Rattle.ken_node.specs.WholeLaws.{AcksKeepWhole, EmissionKeepsWhole, MeetingKeepsWhole, PatchKeepsWhole, SamePartKeepsWhole, SendsKeepWhole, SyncKeepsWhole};
 
@@ -95,4 +96,9 @@ pub fn the_other_disk_stays_whole<D: Disk, O: Oracle, N: Net>()
 /// A node that may be restarted may be after a meeting too.
 pub fn a_meeting_stays_down<D: Disk>()
     ensures { MeetingStaysDown D.told D.size }
+{}
+
+/// A node that is up has over the disks of its logs, as Ok syncs and faults together, what its creation and its sealed turns take.
+pub fn a_node_has_synced<D: Disk>()
+    ensures { UpHasSynced D.told D.size D.faults }
 {}

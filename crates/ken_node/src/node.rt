@@ -27,8 +27,11 @@ impl<D: Disk> Node<D> {
     ghost use Rattle.ken_model.specs.Game.{Game, game_of};
     ghost use Rattle.ken_model.specs.Limits.{IsWithinLimits};
     ghost use Rattle.ken_node.specs.Created.{IsCreation};
+    ghost use Rattle.ken_node.specs.Down.{AreTold};
     ghost use Rattle.ken_node.specs.Faults.{IsFaultOfWorker};
+    ghost use Rattle.ken_node.specs.NodeCalls.{UnlessMemory};
     ghost use Rattle.ken_node.specs.Stages.{HasDisks, HasValue, IsCreated, IsUncreated, MayBeCreated, emissions_in, turns_in};
+    ghost use Rattle.ken_node.specs.Synced.{IsSynced};
 
     /// A node of a run that isn't created yet. Its disks may be any, and see no call. The error, which is want of memory, hands
     /// them back.
@@ -57,6 +60,7 @@ impl<D: Disk> Node<D> {
     pub fn create(&mut self) -> Result<(), NodeFault>
         requires { MayBeCreated D.told self.old.stage }
         ensures creation { (g : Game) (v : ℕ) (disks : Disks D) → IsUncreated g v disks self.old.stage → IsCreation D.told D.size D.faults D.fate g v result disks self.new.stage }
+        ensures synced { (g : Game) (v : ℕ) (disks : Disks D) → IsUncreated g v disks self.old.stage → AreTold D.told disks → UnlessMemory result (IsSynced D.told D.faults g v self.new.stage) }
         ensures sound { IsFaultOfWorker result }
     {
         let (stage, result) = mem::replace(&mut self.stage, Stage::Moved).created();
@@ -142,8 +146,10 @@ impl<D: Disk> Node<Watched<D>> {
     ghost use Rattle.ken_store.specs.declared.disks.Disks.{Disks as Has};
     ghost use Rattle.ken_node.specs.Down.{IsDown, MayRestart};
     ghost use Rattle.ken_node.specs.Faults.{IsFaultOfWorker};
+    ghost use Rattle.ken_node.specs.NodeCalls.{UnlessMemory};
     ghost use Rattle.ken_node.specs.Restarts.{IsUpAgain, RestartsBy};
     ghost use Rattle.ken_node.specs.Stages.{HasDisks, emissions_in};
+    ghost use Rattle.ken_node.specs.Synced.{IsSynced};
 
     /// Restarts the node: its workers meet, all its disks are restarted, and the node goes on with what they hold then. It
     /// answers how many turns it made. The pick for the disks is what the lowest of them proposes that has failed since it was last
@@ -153,6 +159,7 @@ impl<D: Disk> Node<Watched<D>> {
         requires { MayRestart ⟦<Watched<D> as Disk>⟧.told self.old.stage }
         ensures up { (g : Game) (v : ℕ) (given : List Packet) (n : Stood) (doubt : Doubt) → IsDown ⟦<Watched<D> as Disk>⟧.told g v given n doubt self.old.stage → IfOk result (λ turns. IsUpAgain ⟦<Watched<D> as Disk>⟧.told ⟦<Watched<D> as Disk>⟧.size g v given n doubt turns self.new.stage) }
         ensures down { (g : Game) (v : ℕ) (given : List Packet) (n : Stood) (doubt : Doubt) → IsDown ⟦<Watched<D> as Disk>⟧.told g v given n doubt self.old.stage → OnErr result (IsDown ⟦<Watched<D> as Disk>⟧.told g v given n doubt self.new.stage) }
+        ensures synced { (g : Game) (v : ℕ) (given : List Packet) (n : Stood) (doubt : Doubt) → IsDown ⟦<Watched<D> as Disk>⟧.told g v given n doubt self.old.stage → IsSynced ⟦<Watched<D> as Disk>⟧.told ⟦<Watched<D> as Disk>⟧.faults g v self.old.stage → UnlessMemory result (IsSynced ⟦<Watched<D> as Disk>⟧.told ⟦<Watched<D> as Disk>⟧.faults g v self.new.stage) }
         ensures sound { IsFaultOfWorker result }
         ensures emissions { emissions_in self.new.stage ≡ emissions_in self.old.stage }
         ensures disks { (old new : Has (Watched D)) → HasDisks old self.old.stage → HasDisks new self.new.stage → RestartsBy ⟦<Watched<D> as Disk>⟧.told ⟦<Watched<D> as Disk>⟧.faults ⟦<Watched<D> as Disk>⟧.fate result old new }

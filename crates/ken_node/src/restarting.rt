@@ -11,13 +11,15 @@ ghost use Rattle.ken_store.specs.Answers.{AreAtRest, disks_in};
 ghost use Rattle.ken_store.specs.Apart.{disks_apart};
 ghost use Rattle.ken_ship.specs.Fits.{IsMailFrom};
 ghost use Rattle.ken_ship.specs.Parts.{part_of};
-ghost use Rattle.ken_node.specs.Down.{AreReady, IsDown, IsOfNode, MayRestart};
+ghost use Rattle.ken_node.specs.Down.{AreReady, AreTold, IsDown, IsOfNode, MayRestart};
 ghost use Rattle.ken_node.specs.Faults.{IsFaultOfWorker};
 ghost use Rattle.ken_node.specs.Meeting.{AreJoined};
 ghost use Rattle.ken_node.specs.News.{AreInputs};
+ghost use Rattle.ken_node.specs.NodeCalls.{UnlessMemory};
 ghost use Rattle.ken_node.specs.Restarting.{GoesOn, HaveCounts, IsCreatedAnew, IsPutBack, LeaveLess, RecoversBy, none_made, stage_of};
 ghost use Rattle.ken_node.specs.Restarts.{IsUpAgain, RestartsBy, WereRestarted};
 ghost use Rattle.ken_node.specs.Stages.{HasDisks, IsUncreated, MayBeCreated, emissions_in, turns_in};
+ghost use Rattle.ken_node.specs.Synced.{IsSynced, KeepSyncs, LeavesSynced};
 ghost use Rattle.ken_node.specs.Whole.{AreOfRun};
 
 use crate::faults::answered;
@@ -50,6 +52,7 @@ impl<D: Disk> Stage<Watched<D>> {
         requires { MayRestart ⟦<Watched<D> as Disk>⟧.told self }
         ensures up { (g : Game) (v : ℕ) (given : List Packet) (n : Stood) (doubt : Doubt) → IsDown ⟦<Watched<D> as Disk>⟧.told g v given n doubt self → IfOk result.1 (λ turns. IsUpAgain ⟦<Watched<D> as Disk>⟧.told ⟦<Watched<D> as Disk>⟧.size g v given n doubt turns result.0) }
         ensures down { (g : Game) (v : ℕ) (given : List Packet) (n : Stood) (doubt : Doubt) → IsDown ⟦<Watched<D> as Disk>⟧.told g v given n doubt self → OnErr result.1 (IsDown ⟦<Watched<D> as Disk>⟧.told g v given n doubt result.0) }
+        ensures synced { (g : Game) (v : ℕ) (given : List Packet) (n : Stood) (doubt : Doubt) → IsDown ⟦<Watched<D> as Disk>⟧.told g v given n doubt self → IsSynced ⟦<Watched<D> as Disk>⟧.told ⟦<Watched<D> as Disk>⟧.faults g v self → UnlessMemory result.1 (IsSynced ⟦<Watched<D> as Disk>⟧.told ⟦<Watched<D> as Disk>⟧.faults g v result.0) }
         ensures here { result.0 ≡ Stage.Moved → ⊥ }
         ensures sound { IsFaultOfWorker result.1 }
         ensures emissions { emissions_in result.0 ≡ emissions_in self }
@@ -105,6 +108,7 @@ fn restart_all<D: Disk>(disks: &mut Disks<D>, pick: u64) -> Result<(), AllocErro
     ensures ok { OnOk result (WereRestarted D.told D.faults D.fate disks.old disks.new) }
     ensures leave { LeaveLess D.told disks.old disks.new }
     ensures counts { HaveCounts D.faults disks.old disks.new }
+    ensures syncs { KeepSyncs D.told disks.old disks.new }
 {
     disks.log.restart(pick)?;
     disks.image.restart(pick)?;
@@ -120,6 +124,7 @@ fn up_again<D: Disk>(
     requires { MayRestart D.told (Stage.Uncreated disks parts) }
     ensures up { (g : Game) (v : ℕ) (given : List Packet) (n : Stood) (doubt : Doubt) → IsDown D.told g v given n doubt (Stage.Uncreated disks parts) → IfOk result.1 (λ turns. IsUpAgain D.told D.size g v given n doubt turns result.0) }
     ensures down { (g : Game) (v : ℕ) (given : List Packet) (n : Stood) (doubt : Doubt) → IsDown D.told g v given n doubt (Stage.Uncreated disks parts) → OnErr result.1 (IsDown D.told g v given n doubt result.0) }
+    ensures synced { (g : Game) (v : ℕ) (given : List Packet) (n : Stood) (doubt : Doubt) → IsDown D.told g v given n doubt (Stage.Uncreated disks parts) → LeavesSynced D.told D.faults g v disks → UnlessMemory result.1 (IsSynced D.told D.faults g v result.0) }
     ensures here { result.0 ≡ Stage.Moved → ⊥ }
     ensures sound { IsFaultOfWorker result.1 }
     ensures emissions { emissions_in result.0 ≡ (part_of parts.sends).emissions }
@@ -137,6 +142,7 @@ fn recovered<D: Disk>(disks: Disks<D>, parts: Parts) -> (Stage<D>, Result<u64, N
     requires down { MayRestart D.told (Stage.Uncreated disks parts) }
     ensures up { (g : Game) (v : ℕ) (given : List Packet) (n : Stood) (doubt : Doubt) → IsDown D.told g v given n doubt (Stage.Uncreated disks parts) → IfOk result.1 (λ turns. IsUpAgain D.told D.size g v given n doubt turns result.0) }
     ensures down { (g : Game) (v : ℕ) (given : List Packet) (n : Stood) (doubt : Doubt) → IsDown D.told g v given n doubt (Stage.Uncreated disks parts) → OnErr result.1 (IsDown D.told g v given n doubt result.0) }
+    ensures synced { (g : Game) (v : ℕ) (given : List Packet) (n : Stood) (doubt : Doubt) → IsDown D.told g v given n doubt (Stage.Uncreated disks parts) → LeavesSynced D.told D.faults g v disks → UnlessMemory result.1 (IsSynced D.told D.faults g v result.0) }
     ensures here { result.0 ≡ Stage.Moved → ⊥ }
     ensures sound { IsFaultOfWorker result.1 }
     ensures emissions { emissions_in result.0 ≡ (part_of parts.sends).emissions }
@@ -165,6 +171,7 @@ fn none_made(answer: Result<(), NodeFault>) -> Result<u64, NodeFault>
 fn created_anew<D: Disk>(stage: Stage<D>) -> (Stage<D>, Result<u64, NodeFault>)
     requires { MayBeCreated D.told stage }
     ensures creation { (g : Game) (v : ℕ) (disks : Has D) → IsUncreated g v disks stage → IsCreatedAnew D.told D.size D.faults D.fate g v result.1 disks result.0 }
+    ensures synced { (g : Game) (v : ℕ) (disks : Has D) → IsUncreated g v disks stage → AreTold D.told disks → UnlessMemory result.1 (IsSynced D.told D.faults g v result.0) }
     ensures here { result.0 ≡ Stage.Moved → ⊥ }
     ensures sound { IsFaultOfWorker result.1 }
 {

@@ -24,6 +24,7 @@ impl<D: Disk> Node<D> {
     ghost use Rattle.ken_node.specs.NodeCalls.{DisksFailBy, EmitStepsBy, HearSteps, PatchStepsBy, SendSteps, SettleStepsBy, UnlessMemory};
     ghost use Rattle.ken_node.specs.NodeTurns.{TurnStepsBy};
     ghost use Rattle.ken_node.specs.Stages.{HasDisks, emissions_in};
+    ghost use Rattle.ken_node.specs.Synced.{IsSynced};
     ghost use Rattle.ken_node.specs.Up.{IsUp, MayBeCalled, MayBeCalledOn, MayTakeTurns};
 
     /// Takes the next message, has the application make its turn, seals and acknowledges it. `Turn`: a turn was made. `Idle`: no
@@ -39,6 +40,7 @@ impl<D: Disk> Node<D> {
         requires { MayTakeTurns D.told D.size (A.handler app.now) (N.node net.old) (N.nodes net.old) self.old.stage }
         ensures steps { (g : Game) (v : ℕ) (n : core.Node) → (up : IsUp D.told D.size g v n self.old.stage) → A.handler app.now ≡ g.handler → TurnStepsBy D.told D.size g v n (N.given_between net.old net.new) (N.put_between net.old net.new) result (λ draws. Answers (O.telling.clocks oracle.old) (O.telling.clocks oracle.new) ((A.handler app.now).clocks draws) × Answers (O.telling.words oracle.old) (O.telling.words oracle.new) ((A.handler app.now).words draws)) (N.nones net.old) (N.nones net.new) up.handler self.new.stage }
         ensures disks { (old new : Disks D) → HasDisks old self.old.stage → HasDisks new self.new.stage → DisksFailBy D.told D.faults D.fate result old new }
+        ensures synced { (g : Game) (v : ℕ) (n : core.Node) → IsUp D.told D.size g v n self.old.stage → A.handler app.now ≡ g.handler → IsSynced D.told D.faults g v self.old.stage → UnlessMemory result (IsSynced D.told D.faults g v self.new.stage) }
         ensures emissions { emissions_in self.new.stage ≡ emissions_in self.old.stage }
         ensures end { (N.node net.new ≡ N.node net.old) × (N.nodes net.new ≡ N.nodes net.old) }
         ensures clocks_go_on { HasAnswered (O.telling.clocks oracle.old) (O.telling.clocks oracle.new) }
@@ -60,6 +62,7 @@ impl<D: Disk> Node<D> {
         requires { MayBeCalled D.told D.size self.old.stage }
         ensures steps { (g : Game) (v : ℕ) (n : core.Node) → IsUp D.told D.size g v n self.old.stage → PatchStepsBy D.told D.size result g v n self.new.stage }
         ensures disks { (old new : Disks D) → HasDisks old self.old.stage → HasDisks new self.new.stage → DisksFailBy D.told D.faults D.fate result old new }
+        ensures synced { (g : Game) (v : ℕ) → IsSynced D.told D.faults g v self.old.stage → IsSynced D.told D.faults g v self.new.stage }
         ensures emissions { emissions_in self.new.stage ≡ emissions_in self.old.stage }
     {
         match &mut self.stage {
@@ -74,6 +77,7 @@ impl<D: Disk> Node<D> {
         requires { MayBeCalled D.told D.size self.old.stage }
         ensures steps { (g : Game) (v : ℕ) (n : core.Node) → IsUp D.told D.size g v n self.old.stage → SettleStepsBy D.told D.size result g v n self.new.stage }
         ensures disks { (old new : Disks D) → HasDisks old self.old.stage → HasDisks new self.new.stage → DisksFailBy D.told D.faults D.fate result old new }
+        ensures synced { (g : Game) (v : ℕ) → IsSynced D.told D.faults g v self.old.stage → IsSynced D.told D.faults g v self.new.stage }
         ensures emissions { emissions_in self.new.stage ≡ emissions_in self.old.stage }
     {
         match &mut self.stage {
@@ -88,6 +92,7 @@ impl<D: Disk> Node<D> {
         requires { MayBeCalledOn D.told D.size (N.node net.old) (N.nodes net.old) self.old.stage }
         ensures steps { (g : Game) (v : ℕ) (n : core.Node) → IsUp D.told D.size g v n self.old.stage → OnOk result (SendSteps D.told D.size g v n (N.put_between net.old net.new) self.new.stage) }
         ensures disks { (old new : Disks D) → HasDisks old self.old.stage → HasDisks new self.new.stage → new ≡ old }
+        ensures synced { (g : Game) (v : ℕ) → IsSynced D.told D.faults g v self.old.stage → IsSynced D.told D.faults g v self.new.stage }
         ensures emissions { emissions_in self.new.stage ≡ emissions_in self.old.stage }
         ensures end { (N.node net.new ≡ N.node net.old) × (N.nodes net.new ≡ N.nodes net.old) }
         ensures given { N.given_between net.old net.new [] }
@@ -105,6 +110,7 @@ impl<D: Disk> Node<D> {
         requires { MayBeCalledOn D.told D.size (N.node net.old) (N.nodes net.old) self.old.stage }
         ensures steps { (g : Game) (v : ℕ) (n : core.Node) → IsUp D.told D.size g v n self.old.stage → OnOk result (HearSteps D.told D.size g v n (N.given_between net.old net.new) (N.nones net.old) (N.nones net.new) self.new.stage) }
         ensures disks { (old new : Disks D) → HasDisks old self.old.stage → HasDisks new self.new.stage → new ≡ old }
+        ensures synced { (g : Game) (v : ℕ) → IsSynced D.told D.faults g v self.old.stage → IsSynced D.told D.faults g v self.new.stage }
         ensures emissions { OnOk result (emissions_in self.new.stage ≡ emissions_in self.old.stage) }
         ensures end { (N.node net.new ≡ N.node net.old) × (N.nodes net.new ≡ N.nodes net.old) }
         ensures put { N.put_between net.old net.new [] }
@@ -122,6 +128,7 @@ impl<D: Disk> Node<D> {
         requires { MayBeCalled D.told D.size self.old.stage }
         ensures steps { (g : Game) (v : ℕ) (n : core.Node) → IsUp D.told D.size g v n self.old.stage → EmitStepsBy D.told D.size result g v n (λ (taken : List Out). O.took out.new ≡ also_took taken (O.took out.old)) self.old.stage self.new.stage }
         ensures disks { (old new : Disks D) → HasDisks old self.old.stage → HasDisks new self.new.stage → new ≡ old }
+        ensures synced { (g : Game) (v : ℕ) → IsSynced D.told D.faults g v self.old.stage → IsSynced D.told D.faults g v self.new.stage }
         ensures cause { UnlessMemory result (HasCause (O.faults out.old) (O.faults out.new) (outlet_answer result)) }
         ensures fate { UnlessMemory result (Follows (Suffers (outlet_answer result)) (O.fate out.old) (O.fate out.new)) }
     {

@@ -36,4 +36,4 @@ mod TurnMeanwhile
 mod SealRecovers
 pub mod OtherLog
 mod Undone
-mod Worked
+pub mod Worked

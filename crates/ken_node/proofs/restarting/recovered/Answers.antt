@@ -1,4 +1,6 @@
-use Rattle.std.proofs.Common.{◌≡◌, ℕ, List, Result, Err, subst, sym}
+use Rattle.ken_node.proofs.RestartSynced.{less-synced, read-work, same-tell, stage-synced, unless-any}
+use Rattle.std.proofs.Common.{◌≡◌, ℕ, List, Result, Ok, Err, refl, subst, sym}
+use Rattle.ken_node.specs.declared.stage.Stage.TheVariants.{Uncreated}
 use Rattle.std.specs.Prelude.{OnOk}
 use Rattle.ken_record.specs.declared.record.Record.{Record}
 use Rattle.ken_store.specs.declared.store.Recovered.{Recovered}
@@ -8,7 +10,7 @@ use Rattle.ken_ship.specs.declared.faults.NodeFault.{NodeFault}
 use Rattle.ken_node.specs.Faults.{IsFaultOfWorker}
 use Rattle.ken_node.specs.Restarting.{GoesOn}
 use Rattle.ken_node.proofs.Fresh.{found-by, found-down, found-emissions, found-up, uncreated}
-use Rattle.ken_node.proofs.Recovered.{IsFound, on-err, read-less, recovers-sound, state-mails}
+use Rattle.ken_node.proofs.Recovered.{IsFound, on-err, read-less, recovers-sound, state-mails, tell-now}
 use Rattle.ken_node.proofs.Restarted.{down-on}
 use Rattle.ken_node.proofs.WholeAgain.{backs-down, whole-up}
 use Rattle.ken_node.proofs.restarting.recovered.Goals as goal
@@ -106,3 +108,29 @@ returns-in-Err-clause-sound g c =
     let r = c.requires.down in
     subst (λ (a : Result ℕ NodeFault). IsFaultOfWorker a) (sym c.answered.ensures)
     (recovers-sound g.D.Disk.told r.game r.node r.given r.stood_for r.doubt c.args.disks c.args.parts r.down c.requires.rests c.in-Err.fault c.in-Err.ensures.answers)
+
+pub returns-in-Ok-Fresh-clause-synced : goal.returns-in-Ok-Fresh-clause-synced
+returns-in-Ok-Fresh-clause-synced g c = λ game v given n doubt d before.
+    let e = c.in-Ok-Fresh.ensures in
+    let is : c.in-Ok-Fresh.field-0 ≡ found.Fresh c.in-Ok-Fresh.disks = cc in
+    let f = subst (IsFound g.D.Disk.told g.D.Disk.size g.D.Disk.faults g.D.Disk.fate c.args.disks c.args.parts) is (record { answers = e.answers; records = e.records; ready = e.ready; reads = e.reads }) in
+    let new = c.in-Ok-Fresh.disks in
+    let u = uncreated g.D.Disk.told g.D.Disk.size g.D.Disk.faults g.D.Disk.fate game v given n doubt c.args.disks new c.args.parts d c.requires.rests f.answers f.reads in
+    c.created_anew.ensures.synced game v new u (same-tell g.D.Disk.told g.D.Disk.faults g.D.Disk.fate c.args.disks new f.reads (tell-now g.D.Disk.told game v given n doubt c.args.disks c.args.parts d))
+
+pub returns-in-Ok-Whole-clause-synced : goal.returns-in-Ok-Whole-clause-synced
+returns-in-Ok-Whole-clause-synced g c = λ game v given n doubt d before.
+    let e = c.in-Ok-Whole.ensures in
+    let store = c.in-Ok-Whole.store in
+    let is : c.in-Ok-Whole.field-0 ≡ found.Whole store c.in-Ok-Whole.state c.in-Ok-Whole.records = cc in
+    let f = subst (IsFound g.D.Disk.told g.D.Disk.size g.D.Disk.faults g.D.Disk.fate c.args.disks c.args.parts) is (record { answers = e.answers; records = e.records; ready = e.ready; reads = e.reads }) in
+    let read = read-work g.D.Disk.told g.D.Disk.faults g.D.Disk.fate (Ok (found.Whole store c.in-Ok-Whole.state c.in-Ok-Whole.records)) c.args.disks (disks_in store) f.reads in
+    unless-any c.gone_on.result.1 _
+    (stage-synced g.D.Disk.told g.D.Disk.faults game v (disks_in store) c.gone_on.result.0 c.gone_on.ensures.disks (less-synced g.D.Disk.told g.D.Disk.faults game v c.args.disks (disks_in store) read before))
+
+pub returns-in-Err-clause-synced : goal.returns-in-Err-clause-synced
+returns-in-Err-clause-synced g c = λ game v given n doubt d before.
+    let old = c.args.disks in
+    let new = c.in-Err.disks in
+    let read = read-work g.D.Disk.told g.D.Disk.faults g.D.Disk.fate {T = Recovered g.row.D.Denot} (Err c.in-Err.fault) old new c.in-Err.ensures.reads in
+    unless-any c.answered.result _ (stage-synced g.D.Disk.told g.D.Disk.faults game v new (Uncreated new c.args.parts) refl (less-synced g.D.Disk.told g.D.Disk.faults game v old new read before))

@@ -1,3 +1,4 @@
+use Rattle.ken_node.proofs.RestartSynced.{less-synced, restarted-work}
 use Rattle.ken_node.proofs.Restarted.{down-on, restarts-by}
 use Rattle.ken_node.proofs.restarting.up_again.Goals as goal
 
@@ -27,3 +28,10 @@ returns-in-Ok-clause-disks g c = λ new has.
 
 pub returns-in-Err-clause-down : goal.returns-in-Err-clause-down
 returns-in-Err-clause-down g c = λ game v given n doubt d. down-on g.D.Disk.told game v given n doubt c.args.disks c.restart_all.new.disks c.args.parts c.restart_all.ensures.leave d
+
+pub returns-in-Ok-clause-synced : goal.returns-in-Ok-clause-synced
+returns-in-Ok-clause-synced g c = λ game v given n doubt d before.
+    let all = c.restart_all.ensures in
+    let new = c.restart_all.new.disks in
+    c.recovered.ensures.synced game v given n doubt (down-on g.D.Disk.told game v given n doubt c.args.disks new c.args.parts all.leave d)
+    (less-synced g.D.Disk.told g.D.Disk.faults game v c.args.disks new (restarted-work g.D.Disk.told g.D.Disk.faults c.args.disks new all.leave all.counts all.syncs) before)

@@ -1,3 +1,5 @@
+use Rattle.ken_node.specs.Synced.{IsSynced}
+use Rattle.ken_node.specs.NodeCalls.{UnlessMemory}
 use Rattle.std.proofs.Common.{subst, sym}
 use Rattle.std.specs.Prelude.{IfOk, OnErr}
 use Rattle.ken_node.specs.declared.stage.Stage.{Stage}
@@ -26,3 +28,10 @@ returns-clause-down g c = λ game v given n doubt d.
 pub returns-clause-disks : goal.returns-clause-disks
 returns-clause-disks g c = λ old new has now.
     c.restarted-stage.ensures.disks old new (subst (HasDisks old) (sym c.replace.ensures.value) has) (subst (HasDisks new) c.replace-2.ensures.after now)
+
+pub returns-clause-synced : goal.returns-clause-synced
+returns-clause-synced g c = λ game v given n doubt d before.
+    let told = λ (w : Watched g.row.D.Denot). g.D.Disk.told w.disk in
+    let faults = λ (w : Watched g.row.D.Denot). g.D.Disk.faults w.disk in
+    subst (λ (s : Stage (Watched g.row.D.Denot)). UnlessMemory c.restarted-stage.result.1 (IsSynced told faults game v s)) (sym c.replace-2.ensures.after)
+    (c.restarted-stage.ensures.synced game v given n doubt (subst (IsDown told game v given n doubt) (sym c.replace.ensures.value) d) (subst (IsSynced told faults game v) (sym c.replace.ensures.value) before))

@@ -1,3 +1,6 @@
+use Rattle.ken_node.specs.declared.stage.Stage.{Stage}
+use Rattle.ken_node.specs.Synced.{IsSynced}
+use Rattle.ken_node.specs.NodeCalls.{UnlessMemory}
 use Rattle.std.proofs.Common.{◌∙◌, sym, subst}
 use Rattle.ken_node.specs.Created.{IsCreation}
 use Rattle.ken_node.specs.Stages.{IsUncreated}
@@ -10,3 +13,8 @@ pub returns-clause-creation : goal.returns-clause-creation
 returns-clause-creation g c = λ game v disks u.
     subst (IsCreation g.D.Disk.told g.D.Disk.size g.D.Disk.faults g.D.Disk.fate game v c.created-stage.result.1 disks) (sym c.replace-2.ensures.after)
     (c.created-stage.ensures.creation game v disks (subst (IsUncreated game v disks) (sym c.replace.ensures.value) u))
+
+pub returns-clause-synced : goal.returns-clause-synced
+returns-clause-synced g c = λ game v disks u tell.
+    subst (λ (s : Stage g.row.D.Denot). UnlessMemory c.created-stage.result.1 (IsSynced g.D.Disk.told g.D.Disk.faults game v s)) (sym c.replace-2.ensures.after)
+    (c.created-stage.ensures.synced game v disks (subst (IsUncreated game v disks) (sym c.replace.ensures.value) u) tell)

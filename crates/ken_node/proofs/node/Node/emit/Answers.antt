@@ -1,3 +1,4 @@
+use Rattle.ken_node.proofs.RestartSynced.{disks-synced}
 use Rattle.std.proofs.Common.{◌≡◌, List, sym, subst, ◌∙◌}
 use Rattle.ken_model.specs.declared.messages.Out.{Out}
 use Rattle.ken_ship.specs.Outlets.{also_took}
@@ -25,3 +26,7 @@ returns-clause-steps g c = λ game v n up.
       other = up.other;
       tell = up.tell;
     }))
+
+pub returns-clause-synced : goal.returns-clause-synced
+returns-clause-synced g c = λ game v before.
+    disks-synced g.D.Disk.told g.D.Disk.faults game v c.args.self.now.stage c.in-Created.turns c.emit.new.turns c.in-Created.patches c.emit.new.patches c.in-Created.sends c.emit.new.sends (sym c.in-Created.is) c.emit.ensures.disks before

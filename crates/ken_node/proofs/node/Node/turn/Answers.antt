@@ -1,4 +1,9 @@
-use Rattle.std.proofs.Common.{sym, ◌∙◌}
+use Rattle.ken_store.specs.Apart.{disks_apart}
+use Rattle.ken_node.proofs.RestartSynced.{stage-synced, unless-with}
+use Rattle.ken_node.specs.declared.stage.Stage.TheVariants.{Created}
+use Rattle.ken_node.specs.Up.{IsUp}
+use Rattle.ken_node.specs.Synced.{IsSynced}
+use Rattle.std.proofs.Common.{refl, subst, sym, ◌∙◌}
 use Rattle.ken_node.proofs.node.Node.turn.Goals as goal
 
 pub returns-clause-steps : goal.returns-clause-steps
@@ -17,3 +22,14 @@ returns-clause-steps g c = λ game v n up of_run.
       tell = up.tell;
     })
     of_run
+
+pub returns-clause-synced : goal.returns-clause-synced
+returns-clause-synced g c = λ game v n up of_run before.
+    let told = g.D.Disk.told in
+    let faults = g.D.Disk.faults in
+    let is = sym c.in-Created.is in
+    let t = c.turn.new.turns in
+    let p = c.turn.new.patches in
+    let had = subst (IsSynced told faults game v) is before in
+    unless-with c.turn.result _ _ (stage-synced told faults game v (disks_apart t.side p.side) (Created t p c.turn.new.sends) refl)
+    (c.turn.ensures.synced game v n (subst (IsUp told g.D.Disk.size game v n) is up) of_run (had _ refl))

@@ -1,3 +1,6 @@
+use Rattle.ken_store.specs.declared.disks.Disks.{Disks}
+use Rattle.ken_node.specs.declared.watched.Watched.{Watched}
+use Rattle.ken_node.specs.Synced.{LeavesSynced}
 use Rattle.std.proofs.Common.{refl, subst}
 use Rattle.ken_node.specs.Down.{IsOfNode}
 use Rattle.ken_node.proofs.Fresh.{has-one}
@@ -25,3 +28,10 @@ returns-in-Err-clause-here g c = λ is.
 
 pub returns-in-Err-clause-disks : goal.returns-in-Err-clause-disks
 returns-in-Err-clause-disks g c = λ old new has now. let same = has-one old new c.in-Err.stage (c.in-Err.ensures.disks old has) now in rw same (refl, refl, refl)
+
+pub returns-in-Ok-clause-synced : goal.returns-in-Ok-clause-synced
+returns-in-Ok-clause-synced g c = λ game v given n doubt d before.
+    let told = λ (w : Watched g.row.D.Denot). g.D.Disk.told w.disk in
+    let faults = λ (w : Watched g.row.D.Denot). g.D.Disk.faults w.disk in
+    let same = c.in-Ok.ensures.disks d.disks d.has in
+    c.up_again.ensures.synced game v given n doubt (c.in-Ok.ensures.down game v given n doubt d) (subst (λ (x : Disks (Watched g.row.D.Denot)). LeavesSynced told faults game v x) same (before d.disks d.has))
