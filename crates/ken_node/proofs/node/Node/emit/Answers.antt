@@ -29,4 +29,4 @@ returns-clause-steps g c = λ game v n up.
 
 pub returns-clause-synced : goal.returns-clause-synced
 returns-clause-synced g c = λ game v before.
-    disks-synced g.D.Disk.told g.D.Disk.faults game v c.args.self.now.stage c.in-Created.turns c.emit.new.turns c.in-Created.patches c.emit.new.patches c.in-Created.sends c.emit.new.sends (sym c.in-Created.is) c.emit.ensures.disks before
+    disks-synced g.D.Disk.told g.D.Disk.faults game v c.args.self.now.stage c.in-Created.turns c.emit.new.turns c.in-Created.patches c.emit.new.patches c.in-Created.sends c.emit.new.sends c.in-Created.is c.emit.ensures.disks before

@@ -1,7 +1,6 @@
-use Rattle.std.proofs.Common.{sym}
 use Rattle.ken_node.proofs.RestartSynced.{side-synced}
 use Rattle.ken_node.proofs.node.Node.patch.Goals as goal
 
 pub returns-clause-synced : goal.returns-clause-synced
 returns-clause-synced g c = λ game v before.
-    side-synced g.D.Disk.told g.D.Disk.faults game v c.args.self.now.stage c.in-Created.turns c.patch.new.turns c.in-Created.patches c.patch.new.patches c.in-Created.sends c.patch.new.sends (sym c.in-Created.is) c.patch.ensures.side before
+    side-synced g.D.Disk.told g.D.Disk.faults game v c.args.self.now.stage c.in-Created.turns c.patch.new.turns c.in-Created.patches c.patch.new.patches c.in-Created.sends c.patch.new.sends c.in-Created.is c.patch.ensures.side before

@@ -1,7 +1,6 @@
-use Rattle.std.proofs.Common.{sym}
 use Rattle.ken_node.proofs.RestartSynced.{disks-synced}
 use Rattle.ken_node.proofs.node.Node.send.Goals as goal
 
 pub returns-clause-synced : goal.returns-clause-synced
 returns-clause-synced g c = λ game v before.
-    disks-synced g.D.Disk.told g.D.Disk.faults game v c.args.self.now.stage c.in-Created.turns c.send.new.turns c.in-Created.patches c.send.new.patches c.in-Created.sends c.send.new.sends (sym c.in-Created.is) c.send.ensures.disks before
+    disks-synced g.D.Disk.told g.D.Disk.faults game v c.args.self.now.stage c.in-Created.turns c.send.new.turns c.in-Created.patches c.send.new.patches c.in-Created.sends c.send.new.sends c.in-Created.is c.send.ensures.disks before

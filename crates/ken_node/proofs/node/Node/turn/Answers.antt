@@ -27,7 +27,7 @@ pub returns-clause-synced : goal.returns-clause-synced
 returns-clause-synced g c = λ game v n up of_run before.
     let told = g.D.Disk.told in
     let faults = g.D.Disk.faults in
-    let is = sym c.in-Created.is in
+    let is = c.in-Created.is in
     let t = c.turn.new.turns in
     let p = c.turn.new.patches in
     let had = subst (IsSynced told faults game v) is before in
