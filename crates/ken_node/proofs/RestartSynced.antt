@@ -1,19 +1,14 @@
 -- The creation and the restart of a node, and how often the disks of its logs were synced.
-use Rattle.std.proofs.Common.{◌≡◌, ℕ, ◌+◌, ◌*◌, ◌^◌, ◌<◌, ◌≤◌, ◌⊎◌, inl, inr, ⊎_elim, List, [], refl, sym, ap, subst, ◌∙◌, arith, Option, Some, None, Result, Ok, Err}
+use Rattle.std.proofs.Common.{◌≡◌, ℕ, ◌+◌, ◌*◌, ◌≤◌, inl, inr, ⊎_elim, List, [], refl, sym, ap, subst, ◌∙◌, arith, Option, Some, None, Result, Ok, Err}
 use Rattle.std.specs.Prelude.{IsSome}
 use Rattle.ken_disk.specs.Fates.{Fate}
-use Rattle.ken_disk.specs.Steps.{WentDown}
-use Rattle.ken_disk.specs.Story.{Story, Follows, IsAtRest, IsImage, Tells}
+use Rattle.ken_disk.specs.Story.{Story, IsAtRest, IsImage, Tells}
 use Rattle.ken_disk.proofs.Images.{image_at_rest}
 use Rattle.ken_disk.proofs.Since.{now_too}
 use Rattle.ken_disk.proofs.Told.{by_none, some_is, weakened}
 use Rattle.ken_model.specs.Game.{Game}
 use Rattle.ken_log.specs.Mounts.{mount_of}
 use Rattle.ken_log.specs.Mounts as mounts
-use Rattle.ken_log.specs.Seals.{HasLogCause}
-use Rattle.ken_core.specs.Calls.{Doubt}
-use Rattle.ken_core.specs.Nodes.{Node}
-use Rattle.ken_core.specs.Packets.{Packet}
 use Rattle.ken_order.specs.Consumed.{Consumed}
 use Rattle.ken_store.specs.declared.disks.Disks.{Disks}
 use Rattle.ken_store.specs.declared.disks.Which.{Which}
@@ -29,7 +24,6 @@ use Rattle.ken_store.specs.Apart.{disks_apart}
 use Rattle.ken_store.specs.Creations.{CallsLog, Creates, FailsBy, Formats, MayFormat, TellsStill, first_header}
 use Rattle.ken_store.specs.Numbers.{no_numbers}
 use Rattle.ken_store.specs.Reads.{AreSame, Fails, IsSame, ReadsDisks}
-use Rattle.ken_store.specs.Turning.{log_answer}
 use Rattle.ken_store.specs.Work.{HaveWorked, MayHaveChanged}
 use Rattle.ken_store.proofs.Creating.{owned}
 use Rattle.ken_store.proofs.Worked.{creation_works}

@@ -1,12 +1,11 @@
 -- How often the disks of a node's logs were synced.
-use Rattle.std.proofs.Common.{◌≡◌, ℕ, ◌+◌, ◌*◌, ◌^◌, ◌<◌, ◌≤◌, ◌⊎◌, inl, inr, ⊎_elim, List, [], ◌∷◌, ◌++◌, length, Bool, true, false, refl, sym, ap, subst, ◌∙◌, arith, Option, Some, None, Result, Ok, Err}
+use Rattle.std.proofs.Common.{◌≡◌, ℕ, ◌+◌, ◌^◌, ◌<◌, ◌≤◌, ◌⊎◌, inl, inr, ⊎_elim, List, [], ◌∷◌, length, Bool, true, false, refl, sym, ap, subst, ◌∙◌, arith, Option, Some, Ok, Err}
 use Rattle.std.proofs.lemmas.List.{length-append}
 use Rattle.ken_disk.specs.Fates.{Fate}
-use Rattle.ken_disk.specs.Story.{Story, IsImage, Tells}
+use Rattle.ken_disk.specs.Story.{Story, IsImage}
 use Rattle.ken_disk.proofs.Images.{image_at_rest, image-synced}
 use Rattle.ken_disk.proofs.Told.{some_is}
 use Rattle.ken_model.specs.Game.{Game}
-use Rattle.ken_model.specs.Network.{Turn}
 use Rattle.ken_record.specs.declared.base.Base.{Base}
 use Rattle.ken_record.specs.declared.effects.Effects.{Effects}
 use Rattle.ken_record.specs.declared.header.Header.{Header}
@@ -43,7 +42,7 @@ use Rattle.ken_node.specs.Created.{owner_of}
 use Rattle.ken_node.specs.Down.{AreTold, ComesOut, Finds, IsDown, IsOlder, LeavesLog, LeavesNode, Left, MountedLog, a_log, nothing}
 use Rattle.ken_node.specs.Sealing.{RenewsBy, SealsTurn}
 use Rattle.ken_node.specs.Stages.{HasDisks}
-use Rattle.ken_node.specs.Synced.{HasSynced, IsSynced, LeavesSynced, UpHasSynced}
+use Rattle.ken_node.specs.Synced.{HasSynced, LeavesSynced, UpHasSynced}
 use Rattle.ken_node.proofs.Fresh.{has-one}
 use Rattle.ken_node.proofs.GoesDown.{finds-current, older-passed, whole_goes_down}
 use Rattle.ken_node.proofs.Recovered.{some-is}

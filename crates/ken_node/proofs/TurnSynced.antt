@@ -1,5 +1,5 @@
 -- A call of the handler, and how often the disks of the logs were synced.
-use Rattle.std.proofs.Common.{◌≡◌, ℕ, ◌+◌, ◌*◌, ◌^◌, ◌<◌, ◌≤◌, ◌⊎◌, inl, inr, ⊎_elim, List, [], ◌∷◌, ◌++◌, length, Bool, true, false, Option, Some, None, Result, Ok, Err, refl, sym, ap, subst, ◌∙◌, arith}
+use Rattle.std.proofs.Common.{◌≡◌, ℕ, ◌+◌, ◌*◌, ◌<◌, ◌≤◌, inl, inr, ⊎_elim, List, [], ◌∷◌, ◌++◌, length, Bool, true, false, Option, Some, Result, Ok, Err, refl, sym, ap, subst, ◌∙◌, arith}
 use Rattle.std.proofs.lemmas.Bool.{cases_lt}
 use Rattle.std.proofs.lemmas.List.{length-append}
 use Rattle.ken_disk.specs.Fates.{Fate}
@@ -8,17 +8,12 @@ use Rattle.ken_model.specs.Game.{Game}
 use Rattle.ken_model.specs.Handler.{Handler}
 use Rattle.ken_record.specs.declared.effects.Effects.{Effects}
 use Rattle.ken_log.specs.declared.log.Log.{Log}
-use Rattle.ken_log.specs.Mounts.{mount_of}
 use Rattle.ken_net.specs.Puts.{Put}
 use Rattle.ken_core.specs.Calls.{no_doubt, seal, turnover}
 use Rattle.ken_core.specs.Nodes.{Node}
-use Rattle.ken_store.specs.declared.disks.Disks.{Disks}
-use Rattle.ken_store.specs.declared.faults.StoreFault.TheVariants as store
 use Rattle.ken_store.specs.declared.numbers.Numbers.{Numbers}
-use Rattle.ken_store.specs.declared.owner.Owner.{Owner}
 use Rattle.ken_store.specs.declared.turning.TurnSide.{TurnSide}
 use Rattle.ken_store.specs.Apart.{disks_apart}
-use Rattle.ken_store.specs.Logs.{log_on}
 use Rattle.ken_store.specs.Recovered.{numbers_of}
 use Rattle.ken_store.specs.Standing.{IsNoneOrWhole}
 use Rattle.ken_store.specs.Turning.{Turning}
@@ -47,7 +42,7 @@ use Rattle.ken_node.specs.Whole.{IsWhole}
 use Rattle.ken_node.specs.Workers.{HearsNews, IsSameWorker}
 use Rattle.ken_node.proofs.GoesDown.{owner-is, whole_goes_down}
 use Rattle.ken_node.proofs.OtherDisk.{came-other, other_stays}
-use Rattle.ken_node.proofs.Synced.{TellsTurns, WorkedAt, WorkedIn, begun-work, calm-turns, doubted-work, has-synced, landed-changed, landed-work, leaves-by, leaves-synced, renewed-work, same-turns, seal-turns, sealed-work, turnover-turns, unsealed-work, worked-from, worked-less, worked-to}
+use Rattle.ken_node.proofs.Synced.{WorkedAt, begun-work, calm-turns, doubted-work, has-synced, landed-changed, landed-work, leaves-by, leaves-synced, renewed-work, same-turns, seal-turns, sealed-work, turnover-turns, unsealed-work, worked-from, worked-less, worked-to}
 use Rattle.ken_node.proofs.TurnDisks.{disk-failed, turn-told}
 use Rattle.ken_node.proofs.TurnDown.{turn_goes_down}
 use Rattle.ken_node.proofs.TurnoverDown.{turnover_goes_down}

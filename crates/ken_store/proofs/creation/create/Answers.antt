@@ -153,9 +153,9 @@ returns-in-Ok-format-2-clause-log g c =
     let o : Owner = record { node = c.args.node; nodes = c.args.nodes; pages = c.args.pages } in
     inr (
       follows_both (λ (h n : Story). IsAtRest h.now → Replaces (mount_of h.now.seen) (mounts.Whole (first_header o) None []) (Ok c.in-Ok-format-2.log) h n)
-      (λ (h n : Story). MadeAfterRead (as_disk (Ok c.in-Ok-format-2.log)) (log_writes (first_header o) None h.now.seen) h n) (MayFormat {T = Store g.row.D.Denot} o (Ok _)) _ _ c.in-Ok-format-2.ensures.story c.in-Ok-format-2.ensures.calls
-      (λ h n is replaces made. formats_ok o h n c.in-Ok-format-2.log _ made),
-      c.in-Ok-format-2.ensures.cause
+          (λ (h n : Story). MadeAfterRead (as_disk (Ok c.in-Ok-format-2.log)) (log_writes (first_header o) None h.now.seen) h n) (MayFormat {T = Store g.row.D.Denot} o (Ok _)) _ _ c.in-Ok-format-2.ensures.story c.in-Ok-format-2.ensures.calls
+          (λ h n is replaces made. formats_ok o h n c.in-Ok-format-2.log _ made),
+      c.in-Ok-format-2.ensures.cause,
     )
 
 pub returns-in-Err-format-2-clause-log : goal.returns-in-Err-format-2-clause-log
@@ -165,8 +165,8 @@ returns-in-Err-format-2-clause-log g c =
     let log = c.in-Err-format-2.log in
     inr (
       subst (λ (f : StoreFault). Follows (MayFormat {T = Store g.row.D.Denot} o (Err f)) (g.D.Disk.told c.args.disks.log) (g.D.Disk.told log)) (sym c.from-in-Err-format-2.ensures)
-      (follows_both (λ (h n : Story). IsAtRest h.now → Replaces (mount_of h.now.seen) (mounts.Whole (first_header o) None []) (Err fault) h n)
-      (λ (h n : Story). MadeAfterRead (as_disk (Err fault)) (log_writes (first_header o) None h.now.seen) h n) (MayFormat {T = Store g.row.D.Denot} o (Err _)) _ _ c.in-Err-format-2.ensures.story c.in-Err-format-2.ensures.calls
-      (λ h n is replaces made. formats_err o h n fault made (replaces (c.requires.rests.log h is)))),
-      subst (λ (f : StoreFault). HasLogCause (g.D.Disk.faults c.args.disks.log) (g.D.Disk.faults log) (log_answer {T = Store g.row.D.Denot} (Err f))) (sym c.from-in-Err-format-2.ensures) (cause_err (Unit {0}) (Store g.row.D.Denot) fault _ _ c.in-Err-format-2.ensures.cause)
+          (follows_both (λ (h n : Story). IsAtRest h.now → Replaces (mount_of h.now.seen) (mounts.Whole (first_header o) None []) (Err fault) h n)
+          (λ (h n : Story). MadeAfterRead (as_disk (Err fault)) (log_writes (first_header o) None h.now.seen) h n) (MayFormat {T = Store g.row.D.Denot} o (Err _)) _ _ c.in-Err-format-2.ensures.story c.in-Err-format-2.ensures.calls
+          (λ h n is replaces made. formats_err o h n fault made (replaces (c.requires.rests.log h is)))),
+      subst (λ (f : StoreFault). HasLogCause (g.D.Disk.faults c.args.disks.log) (g.D.Disk.faults log) (log_answer {T = Store g.row.D.Denot} (Err f))) (sym c.from-in-Err-format-2.ensures) (cause_err (Unit {0}) (Store g.row.D.Denot) fault _ _ c.in-Err-format-2.ensures.cause),
     )
