@@ -133,7 +133,7 @@ module _ {D : Type 0} (told : D → Option Story) (size : D → ℕ) where
       err = tt;
       creates = λ l el i ei s es l2 el2 i2 ei2.
           let made = creates l el i ei s es l2 el2 i2 ei2 in
-          subst (λ (o : Owner). Creates {T = Unit {0}} o (Ok tt) l i s l2 i2) (owner_is g v x is) (record { before = made.before; order = made.order; logs = made.logs; any_moment = made.any_moment; ok = made.ok });
+          subst (λ (o : Owner). Creates {T = Unit {0}} o (Ok tt) l i s l2 i2) (owner_is g v x is) (record { before = made.before; order = made.order; logs = made.logs; any_moment = made.any_moment; memory = tt; ok = made.ok });
       tells = tells;
       second = second;
       faults = faults;
@@ -161,7 +161,7 @@ module _ {D : Type 0} (told : D → Option Story) (size : D → ℕ) where
           creates = λ l el i ei s es l2 el2 i2 ei2.
               let made = creates l el i ei s es l2 el2 i2 ei2 in
               subst (λ (r : Result (Unit {0}) StoreFault). Creates (owner_of g v) r l i s l2 i2) back
-              (subst (λ (o : Owner). Creates o answer l i s l2 i2) (owner_is g v x is) (record { before = made.before; order = made.order; logs = made.logs; any_moment = made.any_moment; ok = tt }));
+              (subst (λ (o : Owner). Creates o answer l i s l2 i2) (owner_is g v x is) (record { before = made.before; order = made.order; logs = made.logs; any_moment = made.any_moment; memory = made.memory; ok = tt }));
           tells = tells;
           second = second;
           faults = subst (λ (r : Result (Unit {0}) StoreFault). FailsBy count fate r old disks) back (fails_as fault old disks faults);

@@ -37,10 +37,9 @@ use Rattle.ken_node.specs.declared.stage.Stage.TheVariants.{Created}
 use Rattle.ken_node.specs.declared.worker.TurnWorker.{TurnWorker}
 use Rattle.ken_node.specs.Created.{AreOver, owner_of}
 use Rattle.ken_node.specs.Down.{AreTold, Finds, IsOlder, MountedLog}
-use Rattle.ken_node.specs.Faults.{node_answer}
 use Rattle.ken_node.specs.First.{AreFirst}
 use Rattle.ken_node.specs.NodeCalls.{UnlessMemory}
-use Rattle.ken_node.specs.Restarting.{HaveCounts, LeaveLess, none_made}
+use Rattle.ken_node.specs.Restarting.{HaveCounts, LeaveLess}
 use Rattle.ken_node.specs.Stages.{HasDisks}
 use Rattle.ken_node.specs.Synced.{IsSynced, KeepSyncs, KeepsSyncs, LeavesSynced}
 use Rattle.ken_node.proofs.Fresh.{has-one}
@@ -149,7 +148,7 @@ module _ {D : Type 0} (told : D → Option Story) (count : D → ℕ) (g : Game)
       (λ one. created-work told count (owner_of g v) old.log new.log new.second (log-none told count g v (Ok y) old new rests unformatted tell now tells second) T y one (subst (λ (o : Owner). CallsLog told count o (Ok y) old.log new.log) owner calls))
 
   pub uncreated-synced : {T : Type 0} (fate : D → Option Fate) (fault : StoreFault) → CreatesBy {T = T} (owner_at x) (Err fault) → TellsStill (told old.image) (told new.image) → new.second ≡ old.second → CallsLog {T = T} told count (owner_at x) (Err fault) old.log new.log
-      → FailsBy count fate {T = T} (Err fault) old new → UnlessMemory (node_answer {T = Unit {0}} (Err fault)) (LeavesSynced told count g v new)
+      → FailsBy count fate {T = T} (Err fault) old new → LeavesSynced told count g v new
   uncreated-synced {T} fate store.Disk creates tells second calls fails =
       let owner = owner-first g v x first in
       let now : CreatesBy {T = T} (owner_of g v) (Err store.Disk) = subst (λ (o : Owner). CreatesBy {T = T} o (Err store.Disk)) owner creates in
@@ -157,7 +156,15 @@ module _ {D : Type 0} (told : D → Option Story) (count : D → ℕ) (g : Game)
       (λ one.
       failed-work told count (owner_of g v) old.log new.log new.second (log-none {T = T} told count g v (Err store.Disk) old new rests unformatted tell now tells second) T one
       (subst (λ (o : Owner). CallsLog {T = T} told count o (Err store.Disk) old.log new.log) owner calls))
-  uncreated-synced fate store.Memory creates tells second calls fails = tt
+  uncreated-synced {T} fate store.Memory creates tells second calls fails =
+      let owner = owner-first g v x first in
+      let now : CreatesBy {T = T} (owner_of g v) (Err store.Memory) = subst (λ (o : Owner). CreatesBy {T = T} o (Err store.Memory)) owner creates in
+      let l = some-is (told old.log) tell.0 in
+      let i = some-is (told old.image) tell.1 in
+      let i2 = some-is (told new.image) (tells tell.1) in
+      let s = some-is (told old.second) tell.2 in
+      created-leaves {T = T} told count g v (Err store.Memory) old new rests unformatted tell now tells second
+      (λ one. absurd (one.there ((now l.0 l.1 i.0 i.1 s.0 s.1 one.story one.is_told i2.0 i2.1).memory refl one.image one.left)))
   uncreated-synced fate (store.Damaged disk place) creates tells second calls fails = absurd fails
 
 -- the disks of workers over a store are the store's
@@ -165,20 +172,6 @@ pub over-disks : {D : Type 0} (x : Parts) (s : Store D) (o : Consumed) (t : Turn
 over-disks {D} x s o t p w over = ap (λ (y : TurnSide D). disks_apart y p.side) over.side ∙ ap (λ (y : PatchWorker D). disks_apart s.turns y.side) over.patches
 
 -- ---- an answer of another kind
-
-pub unless-made : (r : Result (Unit {0}) NodeFault) (P : Type 0) → UnlessMemory r P → UnlessMemory (none_made r) P
-unless-made (Ok x) P holds = holds
-unless-made (Err Disk) P holds = holds
-unless-made (Err Memory) P holds = holds
-unless-made (Err Outlet) P holds = holds
-unless-made (Err (Damaged disk place)) P holds = holds
-
-pub unless-any : {T : Type 0} (r : Result T NodeFault) (P : Type 0) → P → UnlessMemory r P
-unless-any (Ok x) P holds = holds
-unless-any (Err Disk) P holds = holds
-unless-any (Err Memory) P holds = tt
-unless-any (Err Outlet) P holds = holds
-unless-any (Err (Damaged disk place)) P holds = holds
 
 pub unless-with : {T : Type 0} (r : Result T NodeFault) (P Q : Type 0) → (P → Q) → UnlessMemory r P → UnlessMemory r Q
 unless-with (Ok x) P Q goes holds = goes holds

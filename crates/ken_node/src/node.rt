@@ -29,7 +29,6 @@ impl<D: Disk> Node<D> {
     ghost use Rattle.ken_node.specs.Created.{IsCreation};
     ghost use Rattle.ken_node.specs.Down.{AreTold};
     ghost use Rattle.ken_node.specs.Faults.{IsFaultOfWorker};
-    ghost use Rattle.ken_node.specs.NodeCalls.{UnlessMemory};
     ghost use Rattle.ken_node.specs.Stages.{HasDisks, HasValue, IsCreated, IsUncreated, MayBeCreated, emissions_in, turns_in};
     ghost use Rattle.ken_node.specs.Synced.{IsSynced};
 
@@ -60,7 +59,7 @@ impl<D: Disk> Node<D> {
     pub fn create(&mut self) -> Result<(), NodeFault>
         requires { MayBeCreated D.told self.old.stage }
         ensures creation { (g : Game) (v : ℕ) (disks : Disks D) → IsUncreated g v disks self.old.stage → IsCreation D.told D.size D.faults D.fate g v result disks self.new.stage }
-        ensures synced { (g : Game) (v : ℕ) (disks : Disks D) → IsUncreated g v disks self.old.stage → AreTold D.told disks → UnlessMemory result (IsSynced D.told D.faults g v self.new.stage) }
+        ensures synced { (g : Game) (v : ℕ) (disks : Disks D) → IsUncreated g v disks self.old.stage → AreTold D.told disks → IsSynced D.told D.faults g v self.new.stage }
         ensures sound { IsFaultOfWorker result }
     {
         let (stage, result) = mem::replace(&mut self.stage, Stage::Moved).created();
@@ -146,7 +145,6 @@ impl<D: Disk> Node<Watched<D>> {
     ghost use Rattle.ken_store.specs.declared.disks.Disks.{Disks as Has};
     ghost use Rattle.ken_node.specs.Down.{IsDown, MayRestart};
     ghost use Rattle.ken_node.specs.Faults.{IsFaultOfWorker};
-    ghost use Rattle.ken_node.specs.NodeCalls.{UnlessMemory};
     ghost use Rattle.ken_node.specs.Restarts.{IsUpAgain, RestartsBy};
     ghost use Rattle.ken_node.specs.Stages.{HasDisks, emissions_in};
     ghost use Rattle.ken_node.specs.Synced.{IsSynced};
@@ -159,7 +157,7 @@ impl<D: Disk> Node<Watched<D>> {
         requires { MayRestart ⟦<Watched<D> as Disk>⟧.told self.old.stage }
         ensures up { (g : Game) (v : ℕ) (given : List Packet) (n : Stood) (doubt : Doubt) → IsDown ⟦<Watched<D> as Disk>⟧.told g v given n doubt self.old.stage → IfOk result (λ turns. IsUpAgain ⟦<Watched<D> as Disk>⟧.told ⟦<Watched<D> as Disk>⟧.size g v given n doubt turns self.new.stage) }
         ensures down { (g : Game) (v : ℕ) (given : List Packet) (n : Stood) (doubt : Doubt) → IsDown ⟦<Watched<D> as Disk>⟧.told g v given n doubt self.old.stage → OnErr result (IsDown ⟦<Watched<D> as Disk>⟧.told g v given n doubt self.new.stage) }
-        ensures synced { (g : Game) (v : ℕ) (given : List Packet) (n : Stood) (doubt : Doubt) → IsDown ⟦<Watched<D> as Disk>⟧.told g v given n doubt self.old.stage → IsSynced ⟦<Watched<D> as Disk>⟧.told ⟦<Watched<D> as Disk>⟧.faults g v self.old.stage → UnlessMemory result (IsSynced ⟦<Watched<D> as Disk>⟧.told ⟦<Watched<D> as Disk>⟧.faults g v self.new.stage) }
+        ensures synced { (g : Game) (v : ℕ) (given : List Packet) (n : Stood) (doubt : Doubt) → IsDown ⟦<Watched<D> as Disk>⟧.told g v given n doubt self.old.stage → IsSynced ⟦<Watched<D> as Disk>⟧.told ⟦<Watched<D> as Disk>⟧.faults g v self.old.stage → IsSynced ⟦<Watched<D> as Disk>⟧.told ⟦<Watched<D> as Disk>⟧.faults g v self.new.stage }
         ensures sound { IsFaultOfWorker result }
         ensures emissions { emissions_in self.new.stage ≡ emissions_in self.old.stage }
         ensures disks { (old new : Has (Watched D)) → HasDisks old self.old.stage → HasDisks new self.new.stage → RestartsBy ⟦<Watched<D> as Disk>⟧.told ⟦<Watched<D> as Disk>⟧.faults ⟦<Watched<D> as Disk>⟧.fate result old new }

@@ -15,7 +15,6 @@ ghost use Rattle.ken_node.specs.Down.{AreReady, AreTold, IsDown, IsOfNode, MayRe
 ghost use Rattle.ken_node.specs.Faults.{IsFaultOfWorker};
 ghost use Rattle.ken_node.specs.Meeting.{AreJoined};
 ghost use Rattle.ken_node.specs.News.{AreInputs};
-ghost use Rattle.ken_node.specs.NodeCalls.{UnlessMemory};
 ghost use Rattle.ken_node.specs.Restarting.{GoesOn, HaveCounts, IsCreatedAnew, IsPutBack, LeaveLess, RecoversBy, none_made, stage_of};
 ghost use Rattle.ken_node.specs.Restarts.{IsUpAgain, RestartsBy, WereRestarted};
 ghost use Rattle.ken_node.specs.Stages.{HasDisks, IsUncreated, MayBeCreated, emissions_in, turns_in};
@@ -52,7 +51,7 @@ impl<D: Disk> Stage<Watched<D>> {
         requires { MayRestart ⟦<Watched<D> as Disk>⟧.told self }
         ensures up { (g : Game) (v : ℕ) (given : List Packet) (n : Stood) (doubt : Doubt) → IsDown ⟦<Watched<D> as Disk>⟧.told g v given n doubt self → IfOk result.1 (λ turns. IsUpAgain ⟦<Watched<D> as Disk>⟧.told ⟦<Watched<D> as Disk>⟧.size g v given n doubt turns result.0) }
         ensures down { (g : Game) (v : ℕ) (given : List Packet) (n : Stood) (doubt : Doubt) → IsDown ⟦<Watched<D> as Disk>⟧.told g v given n doubt self → OnErr result.1 (IsDown ⟦<Watched<D> as Disk>⟧.told g v given n doubt result.0) }
-        ensures synced { (g : Game) (v : ℕ) (given : List Packet) (n : Stood) (doubt : Doubt) → IsDown ⟦<Watched<D> as Disk>⟧.told g v given n doubt self → IsSynced ⟦<Watched<D> as Disk>⟧.told ⟦<Watched<D> as Disk>⟧.faults g v self → UnlessMemory result.1 (IsSynced ⟦<Watched<D> as Disk>⟧.told ⟦<Watched<D> as Disk>⟧.faults g v result.0) }
+        ensures synced { (g : Game) (v : ℕ) (given : List Packet) (n : Stood) (doubt : Doubt) → IsDown ⟦<Watched<D> as Disk>⟧.told g v given n doubt self → IsSynced ⟦<Watched<D> as Disk>⟧.told ⟦<Watched<D> as Disk>⟧.faults g v self → IsSynced ⟦<Watched<D> as Disk>⟧.told ⟦<Watched<D> as Disk>⟧.faults g v result.0 }
         ensures here { result.0 ≡ Stage.Moved → ⊥ }
         ensures sound { IsFaultOfWorker result.1 }
         ensures emissions { emissions_in result.0 ≡ emissions_in self }
@@ -124,7 +123,7 @@ fn up_again<D: Disk>(
     requires { MayRestart D.told (Stage.Uncreated disks parts) }
     ensures up { (g : Game) (v : ℕ) (given : List Packet) (n : Stood) (doubt : Doubt) → IsDown D.told g v given n doubt (Stage.Uncreated disks parts) → IfOk result.1 (λ turns. IsUpAgain D.told D.size g v given n doubt turns result.0) }
     ensures down { (g : Game) (v : ℕ) (given : List Packet) (n : Stood) (doubt : Doubt) → IsDown D.told g v given n doubt (Stage.Uncreated disks parts) → OnErr result.1 (IsDown D.told g v given n doubt result.0) }
-    ensures synced { (g : Game) (v : ℕ) (given : List Packet) (n : Stood) (doubt : Doubt) → IsDown D.told g v given n doubt (Stage.Uncreated disks parts) → LeavesSynced D.told D.faults g v disks → UnlessMemory result.1 (IsSynced D.told D.faults g v result.0) }
+    ensures synced { (g : Game) (v : ℕ) (given : List Packet) (n : Stood) (doubt : Doubt) → IsDown D.told g v given n doubt (Stage.Uncreated disks parts) → LeavesSynced D.told D.faults g v disks → IsSynced D.told D.faults g v result.0 }
     ensures here { result.0 ≡ Stage.Moved → ⊥ }
     ensures sound { IsFaultOfWorker result.1 }
     ensures emissions { emissions_in result.0 ≡ (part_of parts.sends).emissions }
@@ -142,7 +141,7 @@ fn recovered<D: Disk>(disks: Disks<D>, parts: Parts) -> (Stage<D>, Result<u64, N
     requires down { MayRestart D.told (Stage.Uncreated disks parts) }
     ensures up { (g : Game) (v : ℕ) (given : List Packet) (n : Stood) (doubt : Doubt) → IsDown D.told g v given n doubt (Stage.Uncreated disks parts) → IfOk result.1 (λ turns. IsUpAgain D.told D.size g v given n doubt turns result.0) }
     ensures down { (g : Game) (v : ℕ) (given : List Packet) (n : Stood) (doubt : Doubt) → IsDown D.told g v given n doubt (Stage.Uncreated disks parts) → OnErr result.1 (IsDown D.told g v given n doubt result.0) }
-    ensures synced { (g : Game) (v : ℕ) (given : List Packet) (n : Stood) (doubt : Doubt) → IsDown D.told g v given n doubt (Stage.Uncreated disks parts) → LeavesSynced D.told D.faults g v disks → UnlessMemory result.1 (IsSynced D.told D.faults g v result.0) }
+    ensures synced { (g : Game) (v : ℕ) (given : List Packet) (n : Stood) (doubt : Doubt) → IsDown D.told g v given n doubt (Stage.Uncreated disks parts) → LeavesSynced D.told D.faults g v disks → IsSynced D.told D.faults g v result.0 }
     ensures here { result.0 ≡ Stage.Moved → ⊥ }
     ensures sound { IsFaultOfWorker result.1 }
     ensures emissions { emissions_in result.0 ≡ (part_of parts.sends).emissions }
@@ -171,7 +170,7 @@ fn none_made(answer: Result<(), NodeFault>) -> Result<u64, NodeFault>
 fn created_anew<D: Disk>(stage: Stage<D>) -> (Stage<D>, Result<u64, NodeFault>)
     requires { MayBeCreated D.told stage }
     ensures creation { (g : Game) (v : ℕ) (disks : Has D) → IsUncreated g v disks stage → IsCreatedAnew D.told D.size D.faults D.fate g v result.1 disks result.0 }
-    ensures synced { (g : Game) (v : ℕ) (disks : Has D) → IsUncreated g v disks stage → AreTold D.told disks → UnlessMemory result.1 (IsSynced D.told D.faults g v result.0) }
+    ensures synced { (g : Game) (v : ℕ) (disks : Has D) → IsUncreated g v disks stage → AreTold D.told disks → IsSynced D.told D.faults g v result.0 }
     ensures here { result.0 ≡ Stage.Moved → ⊥ }
     ensures sound { IsFaultOfWorker result.1 }
 {

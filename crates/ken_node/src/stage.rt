@@ -4,7 +4,6 @@ ghost use Rattle.ken_model.specs.Game.{Game};
 ghost use Rattle.ken_node.specs.Created.{IsCreation};
 ghost use Rattle.ken_node.specs.Down.{AreTold};
 ghost use Rattle.ken_node.specs.Faults.{IsFaultOfWorker};
-ghost use Rattle.ken_node.specs.NodeCalls.{UnlessMemory};
 ghost use Rattle.ken_node.specs.Stages.{IsUncreated, MayBeCreated};
 ghost use Rattle.ken_node.specs.Synced.{IsSynced};
 
@@ -30,7 +29,7 @@ impl<D: Disk> Stage<D> {
     pub(crate) fn created(self) -> (Stage<D>, Result<(), NodeFault>)
         requires { MayBeCreated D.told self }
         ensures creation { (g : Game) (v : ℕ) (disks : Disks D) → IsUncreated g v disks self → IsCreation D.told D.size D.faults D.fate g v result.1 disks result.0 }
-        ensures synced { (g : Game) (v : ℕ) (disks : Disks D) → IsUncreated g v disks self → AreTold D.told disks → UnlessMemory result.1 (IsSynced D.told D.faults g v result.0) }
+        ensures synced { (g : Game) (v : ℕ) (disks : Disks D) → IsUncreated g v disks self → AreTold D.told disks → IsSynced D.told D.faults g v result.0 }
         ensures here { result.0 ≡ Stage.Moved → ⊥ }
         ensures sound { IsFaultOfWorker result.1 }
     {

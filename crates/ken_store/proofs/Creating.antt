@@ -1,6 +1,6 @@
 -- A store is created.
 use Rattle.std.proofs.Common.{◌≡◌, ℕ, zero, suc, ◌+◌, ◌-◌, ◌*◌, ◌≤◌, inl, inr, ⊎_elim, List, [], ◌++◌, length, take, drop, replicate, Bool, true, false, ◌==◌, refl, sym, ap, subst, ◌∙◌, arith, eq-eqb, Option, Some, None, Result, Ok, Err}
-use Rattle.std.specs.Prelude.{if◌then◌else◌, OnOk, IsSome}
+use Rattle.std.specs.Prelude.{if◌then◌else◌, OnOk, IsErrOf, IsSome}
 use Rattle.std.specs.List.{flat_map, range_with_len}
 use Rattle.std.proofs.Math.Seq.{drop-append-add}
 use Rattle.std.proofs.lemmas.Bool.{ne_eqb}
@@ -8,7 +8,7 @@ use Rattle.std.proofs.lemmas.List.{replicate-append-replicate, drop-replicate, t
 use Rattle.std.proofs.lemmas.List.Concat.{flat_map-cons}
 use Rattle.ken_disk.specs.Story.{DiskState, Story, Follows, IsImage, IsAtRest, Leaves}
 use Rattle.ken_disk.proofs.Images.{image_at_rest}
-use Rattle.ken_disk.proofs.Since.{stays}
+use Rattle.ken_disk.proofs.Since.{leaves_now, stays}
 use Rattle.ken_disk.proofs.Told.{some_is, told_both}
 use Rattle.ken_model.specs.Layout.{first_bytes, first_heap}
 use Rattle.ken_model.specs.Network.{empty_heap}
@@ -24,6 +24,7 @@ use Rattle.ken_image.specs.Pages.{first_page, first_image}
 use Rattle.ken_image.specs.Whole.{Keeps}
 use Rattle.ken_store.specs.declared.owner.Owner.{Owner}
 use Rattle.ken_store.specs.declared.faults.StoreFault.{StoreFault}
+use Rattle.ken_store.specs.declared.faults.StoreFault.TheVariants as store
 use Rattle.ken_store.specs.declared.heads.Front.{Front}
 use Rattle.ken_store.specs.declared.heads.Front.TheVariants.{Absent, Begins}
 use Rattle.ken_store.specs.declared.disks.Which.TheVariants.{First}
@@ -113,6 +114,7 @@ module _ (o : Owner) (log second : Story) (log_rests : IsAtRest log.now) (second
     order = inl refl;
     logs = stays (MountsAsEither mounts.Unformatted (mounts.Whole (first_header o) None [])) log (λ b is. inl (none_on log log_rests log_none b is));
     any_moment = λ l i s may now other. inl (before l i s ((stays (IsImage log.now) log (λ l is. is)).each l may) other);
+    memory = λ is l left. none_on log log_rests log_none l left;
     ok = tt;
   }
 
@@ -129,12 +131,13 @@ module _ (o : Owner) (log second : Story) (log_rests : IsAtRest log.now) (second
     made_on : (l i s : List ℕ) → mount_of l ≡ mounts.Whole (first_header o) None [] → IsImage image2.now i → IsImage second.now s → recovered o l i s ≡ created o
     made_on l i s whole now other = made o l i s some most whole (none_on second second_rests second_none s other) (holds i now)
 
-    pub creates_err : (U : Type 0) (fault : StoreFault) → Creates {T = U} o (Err fault) log image second log2 image2
-    creates_err U fault = record {
+    pub creates_err : (U : Type 0) (fault : StoreFault) → (fault ≡ store.Memory → IsErrOf q Memory) → Creates {T = U} o (Err fault) log image second log2 image2
+    creates_err U fault memory = record {
       before = before;
       order = inr holds;
       logs = record { on = replaces.any_moment.on; each = λ l may. logs_on l (replaces.any_moment.each l may) };
       any_moment = λ l i s may now other. found_on l i s (replaces.any_moment.each l may) now other;
+      memory = λ is l left. ⊎_elim (λ was. was ∙ log_none) (λ none. none) (leaves_now (MountsAsEither (mount_of log.now.seen) mounts.Unformatted) log log2 (replaces.memory (memory is)) l left);
       ok = tt;
     }
 
@@ -144,6 +147,7 @@ module _ (o : Owner) (log second : Story) (log_rests : IsAtRest log.now) (second
       order = inr holds;
       logs = record { on = replaces.any_moment.on; each = λ l may. logs_on l (replaces.any_moment.each l may) };
       any_moment = λ l i s may now other. found_on l i s (replaces.any_moment.each l may) now other;
+      memory = tt;
       ok = λ l i s is now other. made_on l i s (after l is) now other;
     }
       where
@@ -183,3 +187,8 @@ module _ {A B : Type 0} (o : Owner) (h s : Story) where
 pub cause_err : (A B : Type 0) (f : SealFault) (old new : ℕ) → HasLogCause {T = A} old new (Err f) → HasLogCause {T = B} old new (log_answer (Err (of_seal f)))
 cause_err A B Disk old new cause = cause
 cause_err A B Memory old new cause = cause
+
+-- and want of memory is the log's
+pub memory_err : (A : Type 0) (f : SealFault) → of_seal f ≡ store.Memory → IsErrOf {T = A} (Err f) Memory
+memory_err A Disk is = absurd (let none : ⊥ = cc is in none)
+memory_err A Memory is = refl

@@ -1,5 +1,5 @@
 -- A store is created: the image first, and then the log, whose gate is the moment of creation.
-use Rattle.std.specs.Prelude.{◌≡◌, ℕ, ◌+◌, ◌*◌, ◌≤◌, ◌⊎◌, List, [], length, take, Option, None, Result, Ok, Err, OnOk, IsErrOf, IsSome}
+use Rattle.std.specs.Prelude.{◌≡◌, ℕ, ◌+◌, ◌*◌, ◌≤◌, ◌⊎◌, List, [], length, take, Option, None, Result, Ok, Err, OnOk, IfErr, IsErrOf, IsSome}
 use Rattle.ken_disk.specs.declared.faults.DiskFault.TheVariants as disk
 use Rattle.ken_disk.specs.Causes.{HasCause}
 use Rattle.ken_disk.specs.Fates.{Fate, Suffers}
@@ -11,7 +11,7 @@ use Rattle.ken_record.specs.declared.header.Header.{Header}
 use Rattle.ken_log.specs.Calls.{MadeAfterRead, log_writes}
 use Rattle.ken_log.specs.Mounts.{mount_of}
 use Rattle.ken_log.specs.Mounts as mounts
-use Rattle.ken_log.specs.Seals.{HasLogCause, MountsAsEither, as_disk}
+use Rattle.ken_log.specs.Seals.{HasLogCause, MountsAs, MountsAsEither, as_disk}
 use Rattle.ken_store.specs.declared.owner.Owner.{Owner}
 use Rattle.ken_store.specs.declared.disks.Disks.{Disks}
 use Rattle.ken_store.specs.declared.faults.StoreFault.{StoreFault}
@@ -60,6 +60,8 @@ pub record Creates {T : Type 0} (o : Owner) (result : Result T StoreFault) (log 
   pub logs : Through (MountsAsEither mounts.Unformatted (mounts.Whole (first_header o) None [])) log log2
   -- from then on a crash at any moment leaves disks on which nothing is found, or the new store
   pub any_moment : (l i s : List ℕ) → MayLeave log log2 l → IsImage image2.now i → IsImage second.now s → FreshOrCreated o (recovered o l i s)
+  -- after Memory it leaves no log
+  pub memory : IfErr result (λ fault. fault ≡ store.Memory → Leaves (MountsAs mounts.Unformatted) log2.now)
   -- and after Ok the new store
   pub ok : OnOk result ((l i s : List ℕ) → IsImage log2.now l → IsImage image2.now i → IsImage second.now s → recovered o l i s ≡ created o)
 

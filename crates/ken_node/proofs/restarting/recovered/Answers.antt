@@ -1,4 +1,4 @@
-use Rattle.ken_node.proofs.RestartSynced.{less-synced, read-work, same-tell, stage-synced, unless-any}
+use Rattle.ken_node.proofs.RestartSynced.{less-synced, read-work, same-tell, stage-synced}
 use Rattle.std.proofs.Common.{◌≡◌, ℕ, List, Result, Ok, Err, refl, subst, sym}
 use Rattle.ken_node.specs.declared.stage.Stage.TheVariants.{Uncreated}
 use Rattle.std.specs.Prelude.{OnOk}
@@ -125,12 +125,11 @@ returns-in-Ok-Whole-clause-synced g c = λ game v given n doubt d before.
     let is : c.in-Ok-Whole.field-0 ≡ found.Whole store c.in-Ok-Whole.state c.in-Ok-Whole.records = cc in
     let f = subst (IsFound g.D.Disk.told g.D.Disk.size g.D.Disk.faults g.D.Disk.fate c.args.disks c.args.parts) is (record { answers = e.answers; records = e.records; ready = e.ready; reads = e.reads }) in
     let read = read-work g.D.Disk.told g.D.Disk.faults g.D.Disk.fate (Ok (found.Whole store c.in-Ok-Whole.state c.in-Ok-Whole.records)) c.args.disks (disks_in store) f.reads in
-    unless-any c.gone_on.result.1 _
-    (stage-synced g.D.Disk.told g.D.Disk.faults game v (disks_in store) c.gone_on.result.0 c.gone_on.ensures.disks (less-synced g.D.Disk.told g.D.Disk.faults game v c.args.disks (disks_in store) read before))
+    stage-synced g.D.Disk.told g.D.Disk.faults game v (disks_in store) c.gone_on.result.0 c.gone_on.ensures.disks (less-synced g.D.Disk.told g.D.Disk.faults game v c.args.disks (disks_in store) read before)
 
 pub returns-in-Err-clause-synced : goal.returns-in-Err-clause-synced
 returns-in-Err-clause-synced g c = λ game v given n doubt d before.
     let old = c.args.disks in
     let new = c.in-Err.disks in
     let read = read-work g.D.Disk.told g.D.Disk.faults g.D.Disk.fate {T = Recovered g.row.D.Denot} (Err c.in-Err.fault) old new c.in-Err.ensures.reads in
-    unless-any c.answered.result _ (stage-synced g.D.Disk.told g.D.Disk.faults game v new (Uncreated new c.args.parts) refl (less-synced g.D.Disk.told g.D.Disk.faults game v old new read before))
+    stage-synced g.D.Disk.told g.D.Disk.faults game v new (Uncreated new c.args.parts) refl (less-synced g.D.Disk.told g.D.Disk.faults game v old new read before)

@@ -1,4 +1,6 @@
-use Rattle.ken_node.proofs.RestartSynced.{less-synced, restarted-work}
+use Rattle.std.proofs.Common.{refl}
+use Rattle.ken_node.specs.declared.stage.Stage.TheVariants.{Uncreated}
+use Rattle.ken_node.proofs.RestartSynced.{less-synced, restarted-work, stage-synced}
 use Rattle.ken_node.proofs.Restarted.{down-on, restarts-by}
 use Rattle.ken_node.proofs.restarting.up_again.Goals as goal
 
@@ -34,4 +36,11 @@ returns-in-Ok-clause-synced g c = λ game v given n doubt d before.
     let all = c.restart_all.ensures in
     let new = c.restart_all.new.disks in
     c.recovered.ensures.synced game v given n doubt (down-on g.D.Disk.told game v given n doubt c.args.disks new c.args.parts all.leave d)
+    (less-synced g.D.Disk.told g.D.Disk.faults game v c.args.disks new (restarted-work g.D.Disk.told g.D.Disk.faults c.args.disks new all.leave all.counts all.syncs) before)
+
+pub returns-in-Err-clause-synced : goal.returns-in-Err-clause-synced
+returns-in-Err-clause-synced g c = λ game v given n doubt d before.
+    let all = c.restart_all.ensures in
+    let new = c.restart_all.new.disks in
+    stage-synced g.D.Disk.told g.D.Disk.faults game v new (Uncreated new c.args.parts) refl
     (less-synced g.D.Disk.told g.D.Disk.faults game v c.args.disks new (restarted-work g.D.Disk.told g.D.Disk.faults c.args.disks new all.leave all.counts all.syncs) before)

@@ -15,7 +15,7 @@ use Rattle.ken_store.specs.Logs.{is_owned}
 use Rattle.ken_store.specs.Turning.{Turning, IsPassed, live_layers, log_answer, sealed_bytes, turn_pages}
 use Rattle.ken_store.proofs.Mounted.{front_none}
 use Rattle.ken_store.proofs.First.{length-first_heap, first_stands}
-use Rattle.std.proofs.Common.{◌≡◌, ◌∙◌, ◌*◌, inl, inr, length, [], ap, sym, subst, refl, Some, None, Ok, Err, true}
+use Rattle.std.proofs.Common.{◌≡◌, ◌∙◌, ◌*◌, inr, length, [], ap, sym, subst, refl, Some, None, Ok, Err, true}
 use Rattle.ken_disk.specs.Story.{Story, IsAtRest}
 use Rattle.ken_disk.proofs.Told.{some_is}
 use Rattle.ken_log.specs.Formats.{Replaces}
@@ -28,7 +28,7 @@ use Rattle.ken_log.specs.Calls.{MadeAfterRead, log_writes}
 use Rattle.ken_log.specs.Seals.{HasLogCause, as_disk}
 use Rattle.ken_store.specs.declared.faults.StoreFault.{StoreFault}
 use Rattle.ken_store.specs.Creations.{Creates, MayFormat, first_header}
-use Rattle.ken_store.proofs.Creating.{cause_err, first_image-heap, owned, creates_not, creates_err, creates_ok, follows_at, follows_both, formats_err, formats_ok, holds_first, follows_still, unformatted_still}
+use Rattle.ken_store.proofs.Creating.{cause_err, first_image-heap, owned, creates_not, creates_err, creates_ok, follows_at, follows_both, formats_err, formats_ok, holds_first, memory_err, follows_still, unformatted_still}
 use Rattle.ken_store.proofs.creation.create.Goals as goal
 
 pub returns-in-Err-clause-creates : goal.returns-in-Err-clause-creates
@@ -60,7 +60,7 @@ returns-in-Err-format-2-clause-creates g c = λ l tl i ti s ts l2 tl2 i2 ti2.
     let keeps = rw c.in-Ok-format.ensures.count at (c.in-Ok-format.ensures.whole.keeps i2 told) in
     let holds = holds_first c.args.pages _ i2.now c.requires.some c.in-Ok.ensures.page made.0 keeps made.1 in
     let replaces = follows_at (λ (h n : Story). IsAtRest h.now → Replaces (mount_of h.now.seen) (mounts.Whole (first_header o) None []) (Err c.in-Err-format-2.fault) h n) l l2 _ _ c.in-Err-format-2.ensures.story tl tl2 (c.requires.rests.log l tl) in
-    creates_err o l s (c.requires.rests.log l tl) (c.requires.rests.second s ts) (c.requires.none l tl s ts).0 (c.requires.none l tl s ts).1 c.requires.some c.requires.most i l2 i2 holds (Err c.in-Err-format-2.fault) replaces (Store g.row.D.Denot) c.from-in-Err-format-2.result
+    creates_err o l s (c.requires.rests.log l tl) (c.requires.rests.second s ts) (c.requires.none l tl s ts).0 (c.requires.none l tl s ts).1 c.requires.some c.requires.most i l2 i2 holds (Err c.in-Err-format-2.fault) replaces (Store g.row.D.Denot) c.from-in-Err-format-2.result (λ is. memory_err _ c.in-Err-format-2.fault (sym c.from-in-Err-format-2.ensures ∙ is))
 
 pub returns-in-Ok-format-2-clause-ready : goal.returns-in-Ok-format-2-clause-ready
 returns-in-Ok-format-2-clause-ready g c =

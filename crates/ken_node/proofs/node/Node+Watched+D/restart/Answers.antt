@@ -1,5 +1,4 @@
 use Rattle.ken_node.specs.Synced.{IsSynced}
-use Rattle.ken_node.specs.NodeCalls.{UnlessMemory}
 use Rattle.std.proofs.Common.{subst, sym}
 use Rattle.std.specs.Prelude.{IfOk, OnErr}
 use Rattle.ken_node.specs.declared.stage.Stage.{Stage}
@@ -33,5 +32,5 @@ pub returns-clause-synced : goal.returns-clause-synced
 returns-clause-synced g c = λ game v given n doubt d before.
     let told = λ (w : Watched g.row.D.Denot). g.D.Disk.told w.disk in
     let faults = λ (w : Watched g.row.D.Denot). g.D.Disk.faults w.disk in
-    subst (λ (s : Stage (Watched g.row.D.Denot)). UnlessMemory c.restarted-stage.result.1 (IsSynced told faults game v s)) (sym c.replace-2.ensures.after)
+    subst (IsSynced told faults game v) (sym c.replace-2.ensures.after)
     (c.restarted-stage.ensures.synced game v given n doubt (subst (IsDown told game v given n doubt) (sym c.replace.ensures.value) d) (subst (IsSynced told faults game v) (sym c.replace.ensures.value) before))

@@ -1,6 +1,4 @@
-use Rattle.ken_node.specs.declared.stage.Stage.{Stage}
 use Rattle.ken_node.specs.Synced.{IsSynced}
-use Rattle.ken_node.specs.NodeCalls.{UnlessMemory}
 use Rattle.std.proofs.Common.{◌∙◌, sym, subst}
 use Rattle.ken_node.specs.Created.{IsCreation}
 use Rattle.ken_node.specs.Stages.{IsUncreated}
@@ -16,5 +14,5 @@ returns-clause-creation g c = λ game v disks u.
 
 pub returns-clause-synced : goal.returns-clause-synced
 returns-clause-synced g c = λ game v disks u tell.
-    subst (λ (s : Stage g.row.D.Denot). UnlessMemory c.created-stage.result.1 (IsSynced g.D.Disk.told g.D.Disk.faults game v s)) (sym c.replace-2.ensures.after)
+    subst (IsSynced g.D.Disk.told g.D.Disk.faults game v) (sym c.replace-2.ensures.after)
     (c.created-stage.ensures.synced game v disks (subst (IsUncreated game v disks) (sym c.replace.ensures.value) u) tell)

@@ -1,3 +1,4 @@
+use Rattle.ken_node.proofs.RestartSynced.{stage-synced}
 use Rattle.ken_store.specs.declared.disks.Disks.{Disks}
 use Rattle.ken_node.specs.declared.watched.Watched.{Watched}
 use Rattle.ken_node.specs.Synced.{LeavesSynced}
@@ -35,3 +36,9 @@ returns-in-Ok-clause-synced g c = λ game v given n doubt d before.
     let faults = λ (w : Watched g.row.D.Denot). g.D.Disk.faults w.disk in
     let same = c.in-Ok.ensures.disks d.disks d.has in
     c.up_again.ensures.synced game v given n doubt (c.in-Ok.ensures.down game v given n doubt d) (subst (λ (x : Disks (Watched g.row.D.Denot)). LeavesSynced told faults game v x) same (before d.disks d.has))
+
+pub returns-in-Err-clause-synced : goal.returns-in-Err-clause-synced
+returns-in-Err-clause-synced g c = λ game v given n doubt d before.
+    let told = λ (w : Watched g.row.D.Denot). g.D.Disk.told w.disk in
+    let faults = λ (w : Watched g.row.D.Denot). g.D.Disk.faults w.disk in
+    stage-synced told faults game v d.disks c.in-Err.stage (c.in-Err.ensures.disks d.disks d.has) (before d.disks d.has)

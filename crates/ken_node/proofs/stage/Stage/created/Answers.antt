@@ -1,6 +1,4 @@
-use Rattle.ken_node.proofs.RestartSynced.{created-synced, over-disks, stage-synced, uncreated-synced, unless-with}
-use Rattle.ken_node.specs.Synced.{IsSynced}
-use Rattle.ken_node.specs.NodeCalls.{UnlessMemory}
+use Rattle.ken_node.proofs.RestartSynced.{created-synced, over-disks, stage-synced, uncreated-synced}
 use Rattle.ken_node.specs.Down.{AreTold}
 use Rattle.ken_store.specs.Answers.{AreAtRest, AreUnformatted, disks_in}
 use Rattle.std.proofs.Common.{◌≡◌, ℕ, Ok, Err, Result, refl, sym, subst}
@@ -79,9 +77,7 @@ returns-in-Err-clause-synced g c = λ game v disks u tell.
     let same : old ≡ disks = cc in
     let mine : c.requires.disks ≡ old = cc in
     let e = c.in-Err.ensures in
-    let answer : Result (Unit {0}) StoreFault = Err c.in-Err.fault in
-    subst (λ (r : Result (Unit {0}) NodeFault). UnlessMemory r (IsSynced g.D.Disk.told g.D.Disk.faults game v (Uncreated c.in-Err.disks x))) (sym c.answered.ensures)
-    (unless-with (node_answer answer) _ _ (stage-synced g.D.Disk.told g.D.Disk.faults game v c.in-Err.disks (Uncreated c.in-Err.disks x) refl)
+    stage-synced g.D.Disk.told g.D.Disk.faults game v c.in-Err.disks (Uncreated c.in-Err.disks x) refl
     (uncreated-synced g.D.Disk.told g.D.Disk.faults game v x (subst (AreFirst game v) parts u.first) old c.in-Err.disks
     (subst (AreAtRest g.D.Disk.told) mine c.requires.rests) (subst (AreUnformatted g.D.Disk.told) mine c.requires.none) (subst (AreTold g.D.Disk.told) (sym same) tell)
-    g.D.Disk.fate c.in-Err.fault e.creates e.tells.1 e.second e.log e.faults))
+    g.D.Disk.fate c.in-Err.fault e.creates e.tells.1 e.second e.log e.faults)
