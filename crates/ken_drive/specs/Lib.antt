@@ -1,3 +1,7 @@
 pub mod Worlds
 pub mod Oracles
 pub mod Outlets
+pub mod Ends
+pub mod Stations
+pub mod Running
+pub mod Left

@@ -1,14 +1,18 @@
-//! The drive of a run: what a run meets beside its script.
+//! The drive of a run: what a run meets beside its script, and the passes over its nodes.
 #![tactic(auto)]
 
+mod faults;
+mod inboxes;
 mod memory;
 mod oracle;
 mod outlet;
-#[cfg(test)]
-mod tests;
+mod run;
+mod station;
 mod world;
 
+pub use faults::RunFault;
 pub use memory::{Kept, MemWorld};
 pub use oracle::MemOracle;
 pub use outlet::MemOutlet;
+pub use run::Run;
 pub use world::{DISKS, World};

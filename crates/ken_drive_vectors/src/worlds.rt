@@ -1,6 +1,6 @@
-use crate::{DISKS, MemWorld, World};
 use ken_app::Oracle;
 use ken_disk::{Disk, DiskFault};
+use ken_drive::{DISKS, MemWorld, World};
 use ken_memdisk::Cut;
 use ken_ship::{OutFault, Outlet};
 use ken_store::Disks;

@@ -1,0 +1,28 @@
+-- An output of one node is emitted.
+use Rattle.std.proofs.Common.{◌≡◌, ◌∙◌, ◌<◌, slice_index_or, slice_set, refl, sym, ap, subst}
+use Rattle.std.specs.Vec.{with_item}
+use Rattle.ken_drive.specs.Left.{outputs_left}
+use Rattle.ken_drive.proofs.Leaving.{emit-fewer, emit-leaves, fewer-at, may-call, up-before}
+use Rattle.ken_drive.proofs.run.Run.emit.Goals as goal
+
+pub emit-requires : goal.emit-requires
+emit-requires g c =
+    let is : slice_index_or c.args.self.now.stations.items c.args.node c.index_mut.result.now ≡ c.index_mut.result.now = sym (c.index_mut.ensures.value ∙ ap (λ k. slice_index_or c.args.self.now.stations.items k c.index_mut.result.now) c.from.ensures) in
+    may-call (λ w. g.D.Disk.told w.disk) (λ w. g.D.Disk.size w.disk) g.U.Outlet.took c.requires.game c.requires.made c.args.self.now c.args.node c.index_mut.result.now c.requires.running c.requires.known is
+
+pub returns-clause-leaves : goal.returns-clause-leaves
+returns-clause-leaves g c = λ game made running low.
+    let is : slice_index_or c.args.self.now.stations.items c.args.node c.index_mut.result.now ≡ c.index_mut.result.now = sym (c.index_mut.ensures.value ∙ ap (λ k. slice_index_or c.args.self.now.stations.items k c.index_mut.result.now) c.from.ensures) in
+    let up = up-before (λ w. g.D.Disk.told w.disk) (λ w. g.D.Disk.size w.disk) g.U.Outlet.took game made c.args.self.now c.args.node c.index_mut.result.now running low is in
+    emit-leaves (λ w. g.D.Disk.told w.disk) (λ w. g.D.Disk.size w.disk) g.U.Outlet.took game made c.args.self.now (record c.args.self.now { stations = with_item c.args.self.now.stations c.from.result c.emit.new.self }) c.args.node c.index_mut.result.now c.emit.new.self running low is (refl, refl) (ap (λ k. slice_set c.args.self.now.stations.items k c.emit.new.self) c.from.ensures)
+    c.emit.ensures.rest refl c.emit.result (c.emit.ensures.steps game c.args.node (running.nodes c.args.node) up)
+
+pub returns-clause-fewer : goal.returns-clause-fewer
+returns-clause-fewer g c = λ number was.
+    let game = c.requires.game in
+    let running = c.requires.running in
+    let is : slice_index_or c.args.self.now.stations.items c.args.node c.index_mut.result.now ≡ c.index_mut.result.now = sym (c.index_mut.ensures.value ∙ ap (λ k. slice_index_or c.args.self.now.stations.items k c.index_mut.result.now) c.from.ensures) in
+    let up = up-before (λ w. g.D.Disk.told w.disk) (λ w. g.D.Disk.size w.disk) g.U.Outlet.took game c.requires.made c.args.self.now c.args.node c.index_mut.result.now running c.requires.known is in
+    fewer-at outputs_left c.args.self.now.stations.items c.from.result c.args.node c.index_mut.result.now c.emit.new.self c.from.ensures (subst (λ n. c.args.node < n) (sym running.stands.width) c.requires.known) is
+    (emit-fewer (λ w. g.D.Disk.told w.disk) (λ w. g.D.Disk.size w.disk) g.U.Outlet.took game c.requires.made c.args.self.now (record c.args.self.now { stations = with_item c.args.self.now.stations c.from.result c.emit.new.self }) c.args.node c.index_mut.result.now c.emit.new.self running c.requires.known is (refl, refl) (ap (λ k. slice_set c.args.self.now.stations.items k c.emit.new.self) c.from.ensures)
+    c.emit.ensures.rest refl c.emit.result number was (c.emit.ensures.steps game c.args.node (running.nodes c.args.node) up))

@@ -1,0 +1,21 @@
+-- One node takes acknowledgements.
+use Rattle.std.proofs.Common.{◌≡◌, ◌∙◌, slice_index_or, slice_set, refl, sym, ap}
+use Rattle.std.specs.Vec.{with_item}
+use Rattle.ken_drive.proofs.Leaving.{may-call-on, hear-leaves, own-station, up-before}
+use Rattle.ken_drive.proofs.run.Run.hear.Goals as goal
+
+pub hear-requires-clause-may : goal.hear-requires-clause-may
+hear-requires-clause-may g c =
+    let is : slice_index_or c.args.self.now.stations.items c.args.node c.index_mut.result.now ≡ c.index_mut.result.now = sym (c.index_mut.ensures.value ∙ ap (λ k. slice_index_or c.args.self.now.stations.items k c.index_mut.result.now) c.from.ensures) in
+    may-call-on (λ w. g.D.Disk.told w.disk) (λ w. g.D.Disk.size w.disk) g.U.Outlet.took c.requires.game c.requires.made c.args.self.now c.args.node c.index_mut.result.now c.requires.running c.requires.known is
+
+pub returns : goal.returns
+returns g c = record {
+  leaves = λ game made running low.
+      let is : slice_index_or c.args.self.now.stations.items c.args.node c.index_mut.result.now ≡ c.index_mut.result.now = sym (c.index_mut.ensures.value ∙ ap (λ k. slice_index_or c.args.self.now.stations.items k c.index_mut.result.now) c.from.ensures) in
+      let own = own-station (λ w. g.D.Disk.told w.disk) (λ w. g.D.Disk.size w.disk) g.U.Outlet.took game made c.args.self.now c.args.node c.index_mut.result.now running low is in
+      let up = up-before (λ w. g.D.Disk.told w.disk) (λ w. g.D.Disk.size w.disk) g.U.Outlet.took game made c.args.self.now c.args.node c.index_mut.result.now running low is in
+      let steps = c.in_ok-hear.ensures.steps game c.args.node (running.nodes c.args.node) up (sym own.mail.from) in
+      hear-leaves (λ w. g.D.Disk.told w.disk) (λ w. g.D.Disk.size w.disk) g.U.Outlet.took game made c.args.self.now (record c.args.self.now { stations = with_item c.args.self.now.stations c.from.result c.hear.new.self; waiting = c.hear.new.waiting }) c.args.node c.index_mut.result.now c.hear.new.self running low is (refl, refl) (ap (λ k. slice_set c.args.self.now.stations.items k c.hear.new.self) c.from.ensures)
+      c.in_ok-hear.ensures.emissions steps.0 c.in_ok-hear.ensures.put c.in_ok-hear.ensures.rest steps.1;
+}

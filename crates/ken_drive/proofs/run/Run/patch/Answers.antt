@@ -1,0 +1,29 @@
+-- A page of one node is written.
+use Rattle.std.proofs.Common.{◌≡◌, ◌∙◌, ◌<◌, slice_index_or, slice_set, refl, sym, ap, subst}
+use Rattle.std.specs.Vec.{with_item}
+use Rattle.ken_drive.specs.Left.{pages_left}
+use Rattle.ken_drive.proofs.Leaving.{fewer-at, may-call, patch-fewer, patch-leaves, up-before}
+use Rattle.ken_drive.proofs.run.Run.patch.Goals as goal
+
+pub patch-requires : goal.patch-requires
+patch-requires g c =
+    let is : slice_index_or c.args.self.now.stations.items c.args.node c.index_mut.result.now ≡ c.index_mut.result.now = sym (c.index_mut.ensures.value ∙ ap (λ k. slice_index_or c.args.self.now.stations.items k c.index_mut.result.now) c.from.ensures) in
+    may-call (λ w. g.D.Disk.told w.disk) (λ w. g.D.Disk.size w.disk) g.U.Outlet.took c.requires.game c.requires.made c.args.self.now c.args.node c.index_mut.result.now c.requires.running c.requires.known is
+
+pub returns-clause-leaves : goal.returns-clause-leaves
+returns-clause-leaves g c = λ game made running low.
+    let is : slice_index_or c.args.self.now.stations.items c.args.node c.index_mut.result.now ≡ c.index_mut.result.now = sym (c.index_mut.ensures.value ∙ ap (λ k. slice_index_or c.args.self.now.stations.items k c.index_mut.result.now) c.from.ensures) in
+    let up = up-before (λ w. g.D.Disk.told w.disk) (λ w. g.D.Disk.size w.disk) g.U.Outlet.took game made c.args.self.now c.args.node c.index_mut.result.now running low is in
+    patch-leaves (λ w. g.D.Disk.told w.disk) (λ w. g.D.Disk.size w.disk) g.U.Outlet.took game made c.args.self.now (record c.args.self.now { stations = with_item c.args.self.now.stations c.from.result (record c.index_mut.result.now { node = c.patch.new.self }) }) c.args.node c.index_mut.result.now (record c.index_mut.result.now { node = c.patch.new.self }) running low is (refl, refl) (ap (λ k. slice_set c.args.self.now.stations.items k (record c.index_mut.result.now { node = c.patch.new.self })) c.from.ensures)
+    refl c.patch.ensures.emissions refl c.patch.result (c.patch.ensures.steps game c.args.node (running.nodes c.args.node) up)
+
+pub returns-clause-fewer : goal.returns-clause-fewer
+returns-clause-fewer g c = λ was.
+    let game = c.requires.game in
+    let running = c.requires.running in
+    let is : slice_index_or c.args.self.now.stations.items c.args.node c.index_mut.result.now ≡ c.index_mut.result.now = sym (c.index_mut.ensures.value ∙ ap (λ k. slice_index_or c.args.self.now.stations.items k c.index_mut.result.now) c.from.ensures) in
+    let up = up-before (λ w. g.D.Disk.told w.disk) (λ w. g.D.Disk.size w.disk) g.U.Outlet.took game c.requires.made c.args.self.now c.args.node c.index_mut.result.now running c.requires.known is in
+    let new = record c.index_mut.result.now { node = c.patch.new.self } in
+    fewer-at pages_left c.args.self.now.stations.items c.from.result c.args.node c.index_mut.result.now new c.from.ensures (subst (λ n. c.args.node < n) (sym running.stands.width) c.requires.known) is
+    (patch-fewer (λ w. g.D.Disk.told w.disk) (λ w. g.D.Disk.size w.disk) g.U.Outlet.took game c.requires.made c.args.self.now (record c.args.self.now { stations = with_item c.args.self.now.stations c.from.result new }) c.args.node c.index_mut.result.now new running c.requires.known is (refl, refl) (ap (λ k. slice_set c.args.self.now.stations.items k (record c.index_mut.result.now { node = c.patch.new.self })) c.from.ensures)
+    refl c.patch.ensures.emissions refl c.patch.result was (c.patch.ensures.steps game c.args.node (running.nodes c.args.node) up))

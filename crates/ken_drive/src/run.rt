@@ -1,0 +1,185 @@
+// A run of nodes: one after the other on one thread.
+ghost use Rattle.std.specs.Prelude.{◌≡◌, ◌<◌, ◌+◌, ℕ, true, length, IsErrOf};
+ghost use Rattle.ken_model.specs.Game.{Game};
+ghost use Rattle.ken_ship.specs.declared.emit.Emit.TheVariants.{Done};
+ghost use Rattle.ken_drive.specs.Left.{left_at, outputs_left, pages_left, tries_at, turns_left};
+ghost use Rattle.ken_drive.specs.Running.{IsRunning, IsStopped, LeavesBy, LeavesRunBy, MayBeRestarted, MayGoOn, MayWork};
+
+use crate::faults::RunFault;
+use crate::inboxes::Waiting;
+use crate::station::Station;
+use ken_app::Oracle;
+use ken_apps::KindApp;
+use ken_disk::Disk;
+use ken_node::{Took, Watched};
+use ken_ship::{Emit, NodeFault, Outlet};
+use std::alloc::Global;
+
+/// The nodes of a run with their devices, and what is on its way between them.
+#[derive(Drop)]
+pub struct Run<D, O, U> {
+    pub(crate) alloc: Global,
+    pub(crate) nodes: u8,
+    pub(crate) app: KindApp,
+    /// How often a node may be restarted.
+    pub(crate) restarts: u64,
+    pub(crate) stations: Vec<Station<D, O, U>>,
+    pub(crate) waiting: Waiting,
+}
+
+impl<D: Disk, O: Oracle, U: Outlet> Run<D, O, U> {
+    /// A turn of a node.
+    fn turn(&mut self, node: u8) -> Result<Took, NodeFault>
+        requires { MayWork ⟦<Watched<D> as Disk>⟧.told ⟦<Watched<D> as Disk>⟧.size U.took node self.old }
+        ensures leaves { (g : Game) (made : ℕ) → IsRunning ⟦<Watched<D> as Disk>⟧.told ⟦<Watched<D> as Disk>⟧.size U.took g made self.old → node < made → LeavesBy ⟦<Watched<D> as Disk>⟧.told ⟦<Watched<D> as Disk>⟧.size U.took result g made node self.new }
+        ensures fewer { result ≡ Ok Took.Turn → left_at turns_left self.new.stations.items node < left_at turns_left self.old.stations.items node }
+    {
+        self.stations[usize::from(node)].turn(self.alloc, &self.app, &mut self.waiting)
+    }
+
+    /// A page of a node is written to its image.
+    fn patch(&mut self, node: u8) -> Result<bool, NodeFault>
+        requires { MayWork ⟦<Watched<D> as Disk>⟧.told ⟦<Watched<D> as Disk>⟧.size U.took node self.old }
+        ensures leaves { (g : Game) (made : ℕ) → IsRunning ⟦<Watched<D> as Disk>⟧.told ⟦<Watched<D> as Disk>⟧.size U.took g made self.old → node < made → LeavesBy ⟦<Watched<D> as Disk>⟧.told ⟦<Watched<D> as Disk>⟧.size U.took result g made node self.new }
+        ensures fewer { result ≡ Ok true → left_at pages_left self.new.stations.items node < left_at pages_left self.old.stations.items node }
+    {
+        self.stations[usize::from(node)].node.patch()
+    }
+
+    /// The image of a node is synced.
+    fn settle(&mut self, node: u8) -> Result<(), NodeFault>
+        requires { MayWork ⟦<Watched<D> as Disk>⟧.told ⟦<Watched<D> as Disk>⟧.size U.took node self.old }
+        ensures leaves { (g : Game) (made : ℕ) → IsRunning ⟦<Watched<D> as Disk>⟧.told ⟦<Watched<D> as Disk>⟧.size U.took g made self.old → node < made → LeavesBy ⟦<Watched<D> as Disk>⟧.told ⟦<Watched<D> as Disk>⟧.size U.took result g made node self.new }
+    {
+        self.stations[usize::from(node)].node.settle()
+    }
+
+    /// A node sends what is due.
+    fn send(&mut self, node: u8) -> Result<(), NodeFault>
+        requires { MayWork ⟦<Watched<D> as Disk>⟧.told ⟦<Watched<D> as Disk>⟧.size U.took node self.old }
+        ensures leaves { (g : Game) (made : ℕ) → IsRunning ⟦<Watched<D> as Disk>⟧.told ⟦<Watched<D> as Disk>⟧.size U.took g made self.old → node < made → LeavesBy ⟦<Watched<D> as Disk>⟧.told ⟦<Watched<D> as Disk>⟧.size U.took result g made node self.new }
+    {
+        self.stations[usize::from(node)].send(self.alloc, &mut self.waiting)?;
+        Ok(())
+    }
+
+    /// A node takes acknowledgements.
+    fn hear(&mut self, node: u8) -> Result<(), NodeFault>
+        requires { MayWork ⟦<Watched<D> as Disk>⟧.told ⟦<Watched<D> as Disk>⟧.size U.took node self.old }
+        ensures leaves { (g : Game) (made : ℕ) → IsRunning ⟦<Watched<D> as Disk>⟧.told ⟦<Watched<D> as Disk>⟧.size U.took g made self.old → node < made → LeavesBy ⟦<Watched<D> as Disk>⟧.told ⟦<Watched<D> as Disk>⟧.size U.took result g made node self.new }
+    {
+        self.stations[usize::from(node)].hear(self.alloc, &mut self.waiting)?;
+        Ok(())
+    }
+
+    /// A node emits the output that is due.
+    fn emit(&mut self, node: u8) -> Result<Emit, NodeFault>
+        requires { MayWork ⟦<Watched<D> as Disk>⟧.told ⟦<Watched<D> as Disk>⟧.size U.took node self.old }
+        ensures leaves { (g : Game) (made : ℕ) → IsRunning ⟦<Watched<D> as Disk>⟧.told ⟦<Watched<D> as Disk>⟧.size U.took g made self.old → node < made → LeavesBy ⟦<Watched<D> as Disk>⟧.told ⟦<Watched<D> as Disk>⟧.size U.took result g made node self.new }
+        ensures fewer { (number : ℕ) → result ≡ Ok (Done number) → left_at outputs_left self.new.stations.items node < left_at outputs_left self.old.stations.items node }
+    {
+        self.stations[usize::from(node)].emit()
+    }
+
+    /// All turns that a node can make.
+    fn turns(&mut self, node: u8) -> Result<(), NodeFault>
+        requires { MayWork ⟦<Watched<D> as Disk>⟧.told ⟦<Watched<D> as Disk>⟧.size U.took node self.old }
+        ensures leaves { (g : Game) (made : ℕ) → IsRunning ⟦<Watched<D> as Disk>⟧.told ⟦<Watched<D> as Disk>⟧.size U.took g made self.old → node < made → LeavesBy ⟦<Watched<D> as Disk>⟧.told ⟦<Watched<D> as Disk>⟧.size U.took result g made node self.new }
+    {
+        'turns: while let Took::Turn = self.turn(node)? {}
+        Ok(())
+    }
+
+    /// All pages that a node has to write.
+    fn pages(&mut self, node: u8) -> Result<(), NodeFault>
+        requires { MayWork ⟦<Watched<D> as Disk>⟧.told ⟦<Watched<D> as Disk>⟧.size U.took node self.old }
+        ensures leaves { (g : Game) (made : ℕ) → IsRunning ⟦<Watched<D> as Disk>⟧.told ⟦<Watched<D> as Disk>⟧.size U.took g made self.old → node < made → LeavesBy ⟦<Watched<D> as Disk>⟧.told ⟦<Watched<D> as Disk>⟧.size U.took result g made node self.new }
+    {
+        'pages: while self.patch(node)? {}
+        Ok(())
+    }
+
+    /// All outputs that a node has to emit, until its outlet refuses one.
+    fn outputs(&mut self, node: u8) -> Result<(), NodeFault>
+        requires { MayWork ⟦<Watched<D> as Disk>⟧.told ⟦<Watched<D> as Disk>⟧.size U.took node self.old }
+        ensures leaves { (g : Game) (made : ℕ) → IsRunning ⟦<Watched<D> as Disk>⟧.told ⟦<Watched<D> as Disk>⟧.size U.took g made self.old → node < made → LeavesBy ⟦<Watched<D> as Disk>⟧.told ⟦<Watched<D> as Disk>⟧.size U.took result g made node self.new }
+    {
+        'outputs: while let Emit::Done(_) = self.emit(node)? {}
+        Ok(())
+    }
+
+    /// All calls of a node in a visit.
+    fn work(&mut self, node: u8) -> Result<(), NodeFault>
+        requires { MayWork ⟦<Watched<D> as Disk>⟧.told ⟦<Watched<D> as Disk>⟧.size U.took node self.old }
+        ensures leaves { (g : Game) (made : ℕ) → IsRunning ⟦<Watched<D> as Disk>⟧.told ⟦<Watched<D> as Disk>⟧.size U.took g made self.old → node < made → LeavesBy ⟦<Watched<D> as Disk>⟧.told ⟦<Watched<D> as Disk>⟧.size U.took result g made node self.new }
+    {
+        self.turns(node)?;
+        self.pages(node)?;
+        self.settle(node)?;
+        self.send(node)?;
+        self.hear(node)?;
+        self.outputs(node)
+    }
+
+    /// Restarts a node once. It was restarted less often than it may be.
+    fn restart_once(&mut self, node: u8, most: u64) -> Result<(), NodeFault>
+        requires may { MayBeRestarted ⟦<Watched<D> as Disk>⟧.told ⟦<Watched<D> as Disk>⟧.size U.took node self.old }
+        requires left { tries_at self.old.stations.items node < most }
+        ensures leaves { (g : Game) (made : ℕ) → IsStopped ⟦<Watched<D> as Disk>⟧.told ⟦<Watched<D> as Disk>⟧.size U.took g made node self.old → LeavesBy ⟦<Watched<D> as Disk>⟧.told ⟦<Watched<D> as Disk>⟧.size U.took result g made node self.new }
+        ensures tried { IsErrOf result NodeFault.Disk → tries_at self.new.stations.items node ≡ tries_at self.old.stations.items node + 1 }
+        ensures same { self.new.restarts ≡ self.old.restarts }
+    {
+        self.stations[usize::from(node)].restart()
+    }
+
+    /// How often a node was restarted.
+    fn tries(&self, node: u8) -> u64
+        requires { node < length self.now.stations.items }
+        ensures { result ≡ tries_at self.now.stations.items node }
+    {
+        self.stations[usize::from(node)].restarts
+    }
+
+    /// Restarts a node, and again where a disk fails in the restart.
+    fn restart(&mut self, node: u8) -> Result<(), RunFault>
+        requires { MayBeRestarted ⟦<Watched<D> as Disk>⟧.told ⟦<Watched<D> as Disk>⟧.size U.took node self.old }
+        ensures { (g : Game) (made : ℕ) → IsStopped ⟦<Watched<D> as Disk>⟧.told ⟦<Watched<D> as Disk>⟧.size U.took g made node self.old → LeavesRunBy ⟦<Watched<D> as Disk>⟧.told ⟦<Watched<D> as Disk>⟧.size U.took result g made self.new }
+    {
+        let most = self.restarts;
+        'tries: while self.tries(node) < most {
+            match self.restart_once(node, most) {
+                Ok(()) => return Ok(()),
+                Err(NodeFault::Disk) => (),
+                Err(_) => return Err(RunFault::Memory),
+            }
+        }
+        Err(RunFault::Down { node })
+    }
+
+    /// Visits a node: it does what there is to do, and is restarted where a disk of it failed.
+    fn visit(&mut self, node: u8) -> Result<(), RunFault>
+        requires { MayWork ⟦<Watched<D> as Disk>⟧.told ⟦<Watched<D> as Disk>⟧.size U.took node self.old }
+        ensures { (g : Game) (made : ℕ) → IsRunning ⟦<Watched<D> as Disk>⟧.told ⟦<Watched<D> as Disk>⟧.size U.took g made self.old → node < made → LeavesRunBy ⟦<Watched<D> as Disk>⟧.told ⟦<Watched<D> as Disk>⟧.size U.took result g made self.new }
+    {
+        match self.work(node) {
+            Ok(()) => Ok(()),
+            Err(NodeFault::Disk) => self.restart(node),
+            Err(NodeFault::Outlet) => Err(RunFault::Down { node }),
+            Err(_) => Err(RunFault::Memory),
+        }
+    }
+
+    /// Visits each node once, in rising order: it makes all its turns, writes all its pages, syncs its image, sends what is due,
+    /// takes acknowledgements, and emits its outputs until one is refused. A node whose disk fails is restarted, until a restart
+    /// answers, and the pass goes on with the next one. `Down`: a disk of that node failed and it has no restart left, or its outlet
+    /// refused one output 65 times running; the run may not go on. After `Memory` nothing is known of the run.
+    pub fn pass(&mut self) -> Result<(), RunFault>
+        requires { MayGoOn ⟦<Watched<D> as Disk>⟧.told ⟦<Watched<D> as Disk>⟧.size U.took self.old }
+        ensures { (g : Game) (made : ℕ) → IsRunning ⟦<Watched<D> as Disk>⟧.told ⟦<Watched<D> as Disk>⟧.size U.took g made self.old → LeavesRunBy ⟦<Watched<D> as Disk>⟧.told ⟦<Watched<D> as Disk>⟧.size U.took result g made self.new }
+    {
+        for node in 0..self.nodes {
+            self.visit(node)?;
+        }
+        Ok(())
+    }
+}
