@@ -5,3 +5,4 @@ pub mod Quiet
 pub mod Calls
 pub mod Fewer
 pub mod Leaving
+pub mod Recovering

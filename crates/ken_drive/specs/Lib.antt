@@ -5,3 +5,4 @@ pub mod Ends
 pub mod Stations
 pub mod Running
 pub mod Left
+pub mod Recovering

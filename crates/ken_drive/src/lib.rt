@@ -3,6 +3,7 @@
 
 mod faults;
 mod inboxes;
+mod laws;
 mod memory;
 mod oracle;
 mod outlet;
@@ -11,6 +12,7 @@ mod station;
 mod world;
 
 pub use faults::RunFault;
+pub use laws::a_node_is_recovered;
 pub use memory::{Kept, MemWorld};
 pub use oracle::MemOracle;
 pub use outlet::MemOutlet;

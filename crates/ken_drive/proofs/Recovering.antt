@@ -1,0 +1,96 @@
+-- A node that is up is recovered at its place of the network.
+use Rattle.std.proofs.Common.{arith, ◌≡◌, ◌≢◌, ◌∙◌, ℕ, ◌<◌, ◌≤◌, inl, inr, ⊎_elim, List, length, drop, slice_index, Option, Some, sym, ap, subst, refl}
+use Rattle.ken_disk.specs.Story.{Story}
+use Rattle.ken_model.specs.declared.messages.Out.{Out}
+use Rattle.ken_model.specs.declared.reports.Emission.{Emission}
+use Rattle.ken_model.specs.declared.reports.TurnLine.{TurnLine}
+use Rattle.ken_model.specs.Game.{Game}
+use Rattle.ken_model.specs.Laws.{steps_of}
+use Rattle.ken_model.specs.Limits.{IsWithinLimits}
+use Rattle.ken_model.specs.History.{consumed}
+use Rattle.ken_model.specs.Network.{Network, Turn, outside}
+use Rattle.ken_model.specs.Reading.{read_value}
+use Rattle.ken_model.specs.Schedule.{play}
+use Rattle.ken_core.specs.Accord.{Accord}
+use Rattle.ken_core.specs.Laws.{IsPlayedBy}
+use Rattle.ken_core.specs.Nodes.{Node}
+use Rattle.ken_core.specs.Turns.{consumed_from, mails_to, outs_of, sealed}
+use Rattle.ken_core.proofs.Numbers.{consumed-sealed, length-outputs_from}
+use Rattle.ken_order.specs.Consumed.{IsSender, place}
+use Rattle.ken_store.specs.declared.disks.Disks.{Disks}
+use Rattle.ken_store.specs.declared.owner.Owner.{Owner}
+use Rattle.ken_store.specs.Apart.{ApartRecovers, disks_apart}
+use Rattle.ken_store.specs.Recovered.{Whole}
+use Rattle.ken_store.specs.Standing.{RecoversTo}
+use Rattle.ken_store.specs.Turning.{state_in, turn_pages}
+use Rattle.ken_node.specs.declared.patcher.PatchWorker.{PatchWorker}
+use Rattle.ken_node.specs.declared.stage.Stage.{Stage}
+use Rattle.ken_node.specs.declared.stage.Stage.TheVariants.{Created}
+use Rattle.ken_node.specs.declared.worker.TurnWorker.{TurnWorker}
+use Rattle.ken_node.specs.Created.{owner_of}
+use Rattle.ken_node.specs.Patches.{waits_of}
+use Rattle.ken_node.specs.Stages.{HasDisks}
+use Rattle.ken_node.specs.Up.{IsUp}
+use Rattle.ken_node.proofs.GoesDown.{owner-is}
+use Rattle.ken_flow.specs.Groups.{group_of}
+use Rattle.ken_drive.specs.Recovering.{IsStateAt, KeepsWaiting, RecoversAt}
+
+-- what a node has consumed is counted by its turns as it keeps them
+taken-of : (u v : ℕ) (n : Node) (ts : List Turn) → n.turning.turns ≡ sealed v ts → consumed_from u n.turning.turns ≡ length (consumed u ts)
+taken-of u v n ts are = ap (consumed_from u) are ∙ consumed-sealed u v ts
+
+module _ {D : Type 0} (told : D → Option Story) (size : D → ℕ) (g : Game) (v : ℕ) (nodes : ℕ → Node) (emissions : List Emission) (lines : List TurnLine) (stage : Stage D)
+    (accord : Accord g (group_of g nodes emissions)) (played : IsPlayedBy g (group_of g nodes emissions) lines) (up : IsUp told size g v (nodes v) stage)
+    (apart : ApartRecovers told size) where
+  abbrev w : Network
+  w = play g (steps_of lines)
+
+  abbrev n : Node
+  n = nodes v
+
+  no-outside : v ≢ outside
+  no-outside same = let few = up.limits.few_nodes in let known = up.known in omega (arith, same, few, known)
+
+  -- what the log tells is the node's place
+  waits : (u : ℕ) → u < g.nodes → KeepsWaiting g v u w (state_in up.handler.side)
+  waits u low =
+      let here = accord.made.nodes v in
+      let there = accord.made.nodes u in
+      let most : slice_index n.turning.retired u ≤ length (consumed v (accord.history u)) = here.retired.most u in
+      let count : ((w.link v u).taken ≡ length (consumed v (accord.history u))) = sym (played.taken v u) ∙ taken-of v u (nodes u) (accord.history u) there.turns in
+      record {
+        retired = slice_index n.turning.retired u;
+        consumed = omega (arith, most, count);
+        messages = up.whole.workers.log.state.messages u low ∙ ap (drop (slice_index n.turning.retired u)) (played.sent v u no-outside);
+      }
+
+  is-state : IsStateAt g v w (state_in up.handler.side)
+  is-state =
+      let counted = up.whole.workers.turns.counted in
+      let at = played.place v in
+      record {
+        turns = counted.turns ∙ at.turns;
+        stamp = counted.stamp ∙ at.stamp;
+        consumed = λ u is. counted.consumed u is ∙ played.taken u v;
+        sent = λ u low. up.whole.workers.log.state.sent u low ∙ ap length (played.sent v u no-outside);
+        outputs = counted.outputs ∙ ap length at.outs ∙ length-outputs_from 0 (w.place v).outs;
+        waits = waits;
+        retired_outs = n.turning.retired_outs;
+        outs = up.whole.workers.log.state.outs ∙ ap (drop n.turning.retired_outs) at.outs;
+      }
+
+  -- the value of the node's heap is that of its place
+  reads : read_value (turn_pages up.handler.side).heap ≡ Some (w.place v).value
+  reads = ap (λ pages. read_value pages.heap) (sym up.whole.pages.turning) ∙ played.value v
+
+  pub up-recovers : (disks : Disks D) → HasDisks disks stage → RecoversAt told g v w disks
+  up-recovers disks has =
+      let pages = up.whole.pages in
+      let are : disks ≡ disks_apart up.handler.side up.patcher.side = subst (λ (s : Stage D). HasDisks disks s) up.stage_is has in
+      let owner = owner-is told size g v n up.handler up.patcher up.sender up.whole.workers pages.turning in
+      let recovers = apart up.handler.side up.patcher.side (waits_of pages.queue) pages.image (w.place v).value pages.apart reads in
+      record {
+        state = state_in up.handler.side;
+        recovers = subst (λ (ds : Disks D). RecoversTo told (owner_of g v) ds (Whole (state_in up.handler.side) (w.place v).value)) (sym are) (subst (λ (o : Owner). RecoversTo told o (disks_apart up.handler.side up.patcher.side) (Whole (state_in up.handler.side) (w.place v).value)) owner recovers);
+        is = is-state;
+      }
