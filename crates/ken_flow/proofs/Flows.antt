@@ -15,6 +15,7 @@ use Rattle.ken_net.proofs.Origins.{comes_from, was_there}
 use Rattle.ken_core.specs.Clusters.{Cluster, WasPut}
 use Rattle.ken_ship.specs.Laws.{packet_from, packets_from}
 use Rattle.ken_flow.specs.Flows.{IsKnown, AreKnown, KeepKnown, PutsAreKnown}
+use Rattle.ken_flow.proofs.Lists.{set_cases}
 use Rattle.ken_flow.specs.Laws.{KnownStays, GivenAreKnown, PassedAreKnown, FirstAreKnown, SpelledAreKnown}
 
 -- ---- lists
@@ -28,17 +29,6 @@ module _ {X : Type 0} (P : X → Type 0) where
 
   right : (xs ys : List X) → All P (xs ++ ys) → All P ys
   right xs ys all = each ys (λ x one. All-contains P (xs ++ ys) x all (Contains-append_right xs ys x one))
-
--- a list after one write: the element that was written, or what was there
-set_cases : {A : Type 0} (xs : List A) (i : ℕ) (y : A) (j : ℕ) (d : A) → ((i ≡ j) × (slice_index_or (slice_set xs i y) j d ≡ y)) ⊎ (slice_index_or (slice_set xs i y) j d ≡ slice_index_or xs j d)
-set_cases [] i y j d = inr refl
-set_cases (x ∷ xs) zero y zero d = inl (refl, refl)
-set_cases (x ∷ xs) zero y (suc j) d = inr refl
-set_cases (x ∷ xs) (suc i) y zero d = inr refl
-set_cases (x ∷ xs) (suc i) y (suc j) d = elim (set_cases xs i y j d) [
-  | inl same ↦ inl (ap (λ (n : ℕ). suc n) same.0, same.1)
-  | inr other ↦ inr other
-]
 
 -- each element of a list of one element over and over is that, and so is what is past it
 all_same : {A : Type 0} (x : A) (n v : ℕ) → slice_index_or (replicate n x) v x ≡ x

@@ -1,3 +1,7 @@
+pub mod Lists
+pub mod Flows
 pub mod Groups
 pub mod Puts
-pub mod Flows
+pub mod Links
+pub mod Filing
+pub mod Visits

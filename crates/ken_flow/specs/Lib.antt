@@ -1,3 +1,5 @@
 pub mod Groups
 pub mod Flows
 pub mod Laws
+pub mod Standstill
+pub mod StandstillLaws

@@ -1,6 +1,7 @@
 // What holds of the group of a run's nodes, and of what is on its way between them. Each law is the contract of a function
 // that does nothing.
 ghost use Rattle.ken_flow.specs.Laws.{FirstIsInAccord, CallKeepsGroup, PutStaysPut, PutsArePut, AcksGoNoFurther, KnownStays, GivenAreKnown, PassedAreKnown, FirstAreKnown, SpelledAreKnown};
+ghost use Rattle.ken_flow.specs.StandstillLaws.{NeverMoreOpen};
 
 /// The group of nodes at the start is in accord.
 pub fn first_is_in_accord()
@@ -52,4 +53,9 @@ pub fn first_are_known()
 /// Bytes that spell a packet that was put are known.
 pub fn spelled_are_known()
     ensures { SpelledAreKnown }
+{}
+
+/// Nothing is more open after a visit in which a node made no turn, nor after a pass of such visits.
+pub fn never_more_open()
+    ensures { NeverMoreOpen }
 {}
