@@ -5,3 +5,4 @@ pub mod Puts
 pub mod Links
 pub mod Filing
 pub mod Visits
+pub mod Calls
