@@ -6,3 +6,5 @@ pub mod Links
 pub mod Filing
 pub mod Visits
 pub mod Calls
+pub mod Coming
+pub mod Ending
