@@ -197,7 +197,7 @@ module _ (g : Game) (ts : ℕ → List Effects) (m : Message) (aim : IsAim g ts 
           (λ other. omega (arith, more_acks other, have.room_made (omega (arith, before, other)), before, other))
           (cases_eq m.from y);
       room_ahead = λ more later. omega (arith, more_acks (λ same. absurd (omega (arith, same, later))), have.room_ahead more (omega (arith, later)));
-      made = λ order done sent. 
+      made = λ order done sent.
           let other : m.from ≢ y = λ same. absurd (omega (arith, same, order, done)) in
           ⊎_elim
           (λ (to : m.to ≡ y). rested_on other (own_answer to (inr (omega (arith, to, order))) (omega (arith, have.room_made (omega (arith, to, order)), to, order, low, aim.few_nodes))))
@@ -215,9 +215,9 @@ module _ (g : Game) (ts : ℕ → List Effects) (m : Message) (aim : IsAim g ts 
     pub answered : m.from ≡ y → Answers (Unit {0}) y f → consumed ≤ m.number - 1
     answered from have =
         let waits : Waits g.nodes x.rested.acks m.from (Answer answer) = ⊎_elim
-            (λ (to : m.to ≡ y). own_answer to (inl (omega (arith, to, from))) (omega (arith, have.room_ahead tt (omega (arith, from)), from, low, aim.few_nodes)))
-            (λ elsewhere. acks_stay g y f f2 x low places back m.from (Answer answer) (have.ahead tt (omega (arith, from)) (order elsewhere)))
-            (cases_eq m.to y) in
+        (λ (to : m.to ≡ y). own_answer to (inl (omega (arith, to, from))) (omega (arith, have.room_ahead tt (omega (arith, from)), from, low, aim.few_nodes)))
+        (λ elsewhere. acks_stay g y f f2 x low places back m.from (Answer answer) (have.ahead tt (omega (arith, from)) (order elsewhere)))
+        (cases_eq m.to y) in
         let h = stays_oldest f x.heard (to_heard g y f f2 x low places back) (after_hears g y f f2 x low places back) is in
         let taken = takes g y f f2 x low places back answer from (subst (λ (k : ℕ). Waits g.nodes x.rested.acks k (Answer answer)) from waits) in
         omega (arith, taken, ap (λ (k : ℕ). slice_index (x.heard.nodes k).sending.acked m.to) from, h.acked)

@@ -8,3 +8,5 @@ pub mod Visits
 pub mod Calls
 pub mod Coming
 pub mod Ending
+pub mod Turns
+pub mod Stamps

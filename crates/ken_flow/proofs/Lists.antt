@@ -1,6 +1,6 @@
 -- Sums over lists, and what stands in lists.
-use Rattle.std.proofs.Common.{◌≡◌, ℕ, zero, suc, ◌+◌, ◌<◌, ◌≤◌, ◌⊎◌, inl, inr, Bool, true, false, List, [], ◌∷◌, ◌++◌, length, Contains, sum_by, refl, sym, ap, ◌∙◌, subst, ⊎_elim, arith, zero-add, slice_index_or, slice_set, if◌then◌else◌}
-use Rattle.std.specs.List.{range_with_len, filter}
+use Rattle.std.proofs.Common.{◌≡◌, ℕ, zero, suc, ◌+◌, ◌<◌, ◌≤◌, ◌⊎◌, inl, inr, Bool, true, false, List, [], ◌∷◌, ◌++◌, length, Contains, map, sum_by, refl, sym, ap, ◌∙◌, subst, ⊎_elim, arith, zero-add, slice_index_or, slice_set, if◌then◌else◌}
+use Rattle.std.specs.List.{AllByRecursion, range_with_len, filter}
 use Rattle.std.proofs.lemmas.List.Elements.{Contains-get_or}
 use Rattle.std.proofs.lemmas.List.FromFn.{length-range_with_len, get_or-range_with_len}
 use Rattle.std.proofs.lemmas.List.Sums.{sum_by-cons}
@@ -27,6 +27,25 @@ module _ {X : Type 0} (f h : X → ℕ) where
       (λ (is : y ≡ x). subst (λ (z : X). h z ≤ f z) is first)
       (λ there. sum_stays ys (λ z on. each z (later_in y ys z on)) later x there)
       (in_front y ys x one)
+
+-- what is so of each element is so of all
+pub by_each : {X : Type 0} (P : X → Type 0) (xs : List X) → ((x : X) → Contains xs x → P x) → AllByRecursion P xs
+by_each P [] each = tt
+by_each P (x ∷ xs) each = (each x (first_in x xs), by_each P xs (λ y one. each y (later_in x xs y one)))
+
+pub map_in : {X Y : Type 0} (f : X → Y) (xs : List X) (x : X) → Contains xs x → Contains (map f xs) (f x)
+map_in f [] x (k, low, is) = absurd (omega (arith, low))
+map_in f (y ∷ ys) x one = ⊎_elim
+    (λ (is : y ≡ x). subst (λ z. Contains (f y ∷ map f ys) z) (ap f is) (first_in (f y) (map f ys)))
+    (λ on. later_in (f y) (map f ys) (f x) (map_in f ys x on))
+    (in_front y ys x one)
+
+pub in_map : {X Y : Type 0} (f : X → Y) (xs : List X) (y : Y) → Contains (map f xs) y → (x : X) × Contains xs x × (f x ≡ y)
+in_map f [] y (k, low, is) = absurd (omega (arith, low))
+in_map f (x ∷ xs) y there = elim (in_front (f x) (map f xs) y there) [
+  | inl is ↦ (x, first_in x xs, is)
+  | inr on ↦ let found = in_map f xs y on in (found.0, later_in x xs found.0 found.1, found.2)
+]
 
 -- the numbers below n
 pub is_below : (n x : ℕ) → Contains (range_with_len 0 n) x → x < n

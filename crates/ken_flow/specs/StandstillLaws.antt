@@ -1,10 +1,12 @@
 -- What holds of visits in which no node makes a turn.
-use Rattle.std.specs.Prelude.{◌≡◌, ℕ, ◌^◌, ◌<◌, ◌≤◌, List}
+use Rattle.std.specs.Prelude.{ℕ, ◌*◌, ◌^◌, ◌<◌, ◌≤◌, List, length}
 use Rattle.std.specs.List.{AllByRecursion}
 use Rattle.ken_model.specs.declared.messages.Message.{Message}
+use Rattle.ken_model.specs.declared.facts.TheConstants.{MAX_NODES, MAX_TURNS}
 use Rattle.ken_model.specs.declared.reports.Emission.{Emission}
 use Rattle.ken_model.specs.Game.{Game}
 use Rattle.ken_model.specs.Limits.{IsWithinLimits}
+use Rattle.ken_record.specs.declared.effects.Effects.{Effects}
 use Rattle.ken_core.specs.Accord.{Accord}
 use Rattle.ken_core.specs.Nodes.{Node}
 use Rattle.ken_core.specs.Turns.{mails_to}
@@ -30,6 +32,15 @@ NeverMoreOpen = (g : Game) (f : Flow) → HasPlaces g f → StaysSo g f
 -- no stamp of a message that a node of the run has sealed comes near the last stamp
 abbrev pub AreLow : Game → (ℕ → Node) → Type 0
 AreLow g nodes = (u v : ℕ) → u < g.nodes → AllByRecursion (λ (m : Message). m.stamp < 2 ^ 63) (mails_to u v (nodes u).turning.turns)
+
+-- no node makes more turns than it may, and no stamp is past the number of all turns
+pub record AreEarly (g : Game) (nodes : ℕ → Node) : Type 0 where
+  pub turns : (v : ℕ) → length (nodes v).turning.turns ≤ g.turns
+  pub stamps : (v : ℕ) → AllByRecursion (λ (e : Effects). e.stamp ≤ MAX_NODES * MAX_TURNS) (nodes v).turning.turns
+  pub mails : AreLow g nodes
+
+abbrev pub StampsAreLow : Type 0
+StampsAreLow = (g : Game) (nodes : ℕ → Node) (emissions : List Emission) → IsWithinLimits g → Accord g (group_of g nodes emissions) → AreEarly g nodes
 
 -- three passes in which nothing that is open fell
 pub record Stands (g : Game) (f a b c : Flow) : Type 0 where

@@ -1,7 +1,7 @@
 // What holds of the group of a run's nodes, and of what is on its way between them. Each law is the contract of a function
 // that does nothing.
 ghost use Rattle.ken_flow.specs.Laws.{FirstIsInAccord, CallKeepsGroup, PutStaysPut, PutsArePut, AcksGoNoFurther, KnownStays, GivenAreKnown, PassedAreKnown, FirstAreKnown, SpelledAreKnown};
-ghost use Rattle.ken_flow.specs.StandstillLaws.{NeverMoreOpen};
+ghost use Rattle.ken_flow.specs.StandstillLaws.{NeverMoreOpen, StampsAreLow, StandstillEnds};
 
 /// The group of nodes at the start is in accord.
 pub fn first_is_in_accord()
@@ -58,4 +58,14 @@ pub fn spelled_are_known()
 /// Nothing is more open after a visit in which a node made no turn, nor after a pass of such visits.
 pub fn never_more_open()
     ensures { NeverMoreOpen }
+{}
+
+/// In accord, no node makes more turns than it may, and no stamp is past the number of all turns.
+pub fn stamps_are_low()
+    ensures { StampsAreLow }
+{}
+
+/// Where three passes leave as much open as they found, the run has ended.
+pub fn standstill_ends()
+    ensures { StandstillEnds }
 {}
