@@ -6,3 +6,5 @@ pub mod Calls
 pub mod Fewer
 pub mod Leaving
 pub mod Recovering
+pub mod Texts
+pub mod EndingPlayed

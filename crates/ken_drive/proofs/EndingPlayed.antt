@@ -1,0 +1,167 @@
+-- Of a plain run of a kind whatever a schedule makes can be printed: heaps, outputs and draws.
+use Rattle.std.proofs.Common.{◌≡◌, ℕ, zero, suc, ◌+◌, ◌<◌, ◌≤◌, ◌^◌, max, List, [], ◌∷◌, ◌++◌, length, slice_get, Bool, ◌==◌, ◌&&◌, true, false, if◌then◌else◌, nat_lt, Option, Some, None, option_map, option_and_then, refl, sym, ap, subst, arith, ltb-true}
+use Rattle.std.specs.List.{AllByRecursion}
+use Rattle.ken_model.specs.declared.facts.Input.{Input}
+use Rattle.ken_model.specs.declared.kinds.Kind.{Kind}
+use Rattle.ken_model.specs.declared.messages.Message.{Message}
+use Rattle.ken_model.specs.declared.messages.Send.{Send}
+use Rattle.ken_model.specs.declared.messages.Step.{Step}
+use Rattle.ken_model.specs.declared.reports.TurnLine.{TurnLine}
+use Rattle.ken_model.specs.declared.values.Block.{Block}
+use Rattle.ken_model.specs.declared.values.Value.{Value}
+use Rattle.ken_model.specs.Effects.{Effect}
+use Rattle.ken_model.specs.Game.{Game}
+use Rattle.ken_model.specs.Handler.{Handler}
+use Rattle.ken_model.specs.Heap.{IsHeap}
+use Rattle.ken_model.specs.Kinds.{handler_of}
+use Rattle.ken_model.specs.Limits.{IsWithinLimits, IsPlainRun, ArePlain}
+use Rattle.ken_model.specs.Network.{Network, Place, Link, Turn, outside, inputs_from, start, numbered, are_words, handled, turn_at, turn_of, place_after, link_after, applied, applied_or_same, stepped}
+use Rattle.ken_model.specs.Report.{IsOneLine}
+use Rattle.ken_model.specs.Schedule.{IsLegalFrom, played}
+use Rattle.ken_model.specs.Spelling.{IsWord, IsPrintableHeap}
+use Rattle.ken_model.proofs.Heaps.{heap_after, blocks-within}
+use Rattle.ken_drive.proofs.Texts.{HoldsTexts, IsText, text_after}
+
+all_append : {A : Type 0} (P : A → Type 0) (xs ys : List A) → AllByRecursion P xs → AllByRecursion P ys → AllByRecursion P (xs ++ ys)
+all_append P [] ys all more = more
+all_append P (x ∷ xs) ys all more = (all.0, all_append P xs ys all.1 more)
+
+all_at : {A : Type 0} (P : A → Type 0) (xs : List A) (k : ℕ) (x : A) → AllByRecursion P xs → slice_get xs k ≡ Some x → P x
+all_at P [] k x all is = absurd cc
+all_at P (y ∷ xs) zero x all is = let same : y ≡ x = cc in subst P same all.0
+all_at P (y ∷ xs) (suc k) x all is = all_at P xs k x all.1 is
+
+-- what holds of both holds of one
+either : {A : Type 0} (P : A → Type 0) (c : Bool) (x y : A) → P x → P y → P (if c then x else y)
+either P true x y px py = px
+either P false x y px py = py
+
+-- ---- the turn of a step
+
+words_of : (draws : List ℕ) → are_words draws ≡ true → AllByRecursion IsWord draws
+words_of [] words = tt
+words_of (d ∷ ds) words = one (nat_lt d (2 ^ 64)) refl words (words_of ds)
+  where
+    one : (b : Bool) → nat_lt d (2 ^ 64) ≡ b → (b && are_words ds) ≡ true → (are_words ds ≡ true → AllByRecursion IsWord ds) → IsWord d × AllByRecursion IsWord ds
+    one true is all more = (ltb-true d (2 ^ 64) is, more all)
+    one false is all more = absurd cc
+
+-- its message comes next, its draws are words, and its effect is the handler's
+pub record IsTurnOf (g : Game) (w : Network) (s : Step) (t : Turn) : Type 0 where
+  pub next : slice_get (w.link s.from s.node).sent (w.link s.from s.node).taken ≡ Some t.message
+  pub words : AllByRecursion IsWord s.draws
+  pub effect : g.handler.after s.node g.nodes (w.place s.node).value t.message s.draws ≡ Some t.effect
+
+-- what a handler makes of draws that are words
+record IsHandled (h : Option Effect) (draws : List ℕ) (e : Effect) : Type 0 where
+  words : AllByRecursion IsWord draws
+  effect : h ≡ Some e
+
+handled_by : (h : Option Effect) (draws : List ℕ) (e : Effect) → (if are_words draws then h else None) ≡ Some e → IsHandled h draws e
+handled_by h draws e is = by (are_words draws) refl is
+  where
+    by : (b : Bool) → are_words draws ≡ b → (if b then h else None) ≡ Some e → IsHandled h draws e
+    by true words same = record { words = words_of draws words; effect = same }
+    by false words same = absurd cc
+
+effect_of : (p : Place) (draws : List ℕ) (m : Message) (o : Option Effect) (t : Turn) → option_map (λ (e : Effect). record { message = m; draws = draws; stamp = max p.stamp m.stamp + 1; effect = e }) o ≡ Some t → (m ≡ t.message) × (o ≡ Some t.effect)
+effect_of p draws m None t is = absurd cc
+effect_of p draws m (Some e) t is =
+    let same : record { message = m; draws = draws; stamp = max p.stamp m.stamp + 1; effect = e } ≡ t = cc in
+    (ap (λ (x : Turn). x.message) same, ap (λ (x : Turn). Some x.effect) same)
+
+pub turn_is : (g : Game) (w : Network) (s : Step) (t : Turn) → turn_of g w s ≡ Some t → IsTurnOf g w s t
+unfolding turn_at
+turn_is g w s t is = few (nat_lt (w.place s.node).turns g.turns) is
+  where
+    at : (o : Option Message) → slice_get (w.link s.from s.node).sent (w.link s.from s.node).taken ≡ o → option_and_then (turn_at g s.node (w.place s.node) s.draws) o ≡ Some t → IsTurnOf g w s t
+    at None next made = absurd cc
+    at (Some m) next made =
+        let parts = effect_of (w.place s.node) s.draws m (handled g s.node (w.place s.node).value m s.draws) t made in
+        let handled = handled_by (g.handler.after s.node g.nodes (w.place s.node).value m s.draws) s.draws t.effect parts.1 in
+        subst (λ (x : Message). slice_get (w.link s.from s.node).sent (w.link s.from s.node).taken ≡ Some x → g.handler.after s.node g.nodes (w.place s.node).value x s.draws ≡ Some t.effect → IsTurnOf g w s t) (sym parts.0)
+        (λ n e. record { next = n; words = handled.words; effect = e }) next handled.effect
+
+    few : (b : Bool) → (if b then option_and_then (turn_at g s.node (w.place s.node) s.draws) (slice_get (w.link s.from s.node).sent (w.link s.from s.node).taken) else None) ≡ Some t → IsTurnOf g w s t
+    few true made = at (slice_get (w.link s.from s.node).sent (w.link s.from s.node).taken) refl made
+    few false made = absurd cc
+
+-- ---- what a plain run of a kind keeps
+
+-- heaps are heaps, and nothing that is kept, sent or output holds a line feed
+pub record IsTidy (w : Network) : Type 0 where
+  pub heaps : (v : ℕ) → IsHeap (w.place v).value
+  pub texts : (v : ℕ) → HoldsTexts (w.place v).value
+  pub outs : (v : ℕ) → AllByRecursion IsOneLine (w.place v).outs
+  pub mail : (u v : ℕ) → AllByRecursion (λ (m : Message). IsOneLine m.bytes) (w.link u v).sent
+
+numbered_lines : (u v n stamp : ℕ) (ss : List Send) → AllByRecursion (λ (s : Send). IsOneLine s.bytes) ss → AllByRecursion (λ (m : Message). IsOneLine m.bytes) (numbered u v n stamp ss)
+numbered_lines u v n stamp [] lines = tt
+numbered_lines u v n stamp (s ∷ ss) lines =
+    let one : Message = record { from = u; to = v; number = n + 1; stamp = stamp; bytes = s.bytes } in
+    either (AllByRecursion (λ (m : Message). IsOneLine m.bytes)) (s.to == v) (one ∷ numbered u v (n + 1) stamp ss) (numbered u v n stamp ss) (lines.0, numbered_lines u v (n + 1) stamp ss lines.1) (numbered_lines u v n stamp ss lines.1)
+
+plain_line : (bytes : List ℕ) → ArePlain bytes → IsOneLine bytes
+plain_line [] plain = tt
+plain_line (b ∷ bs) plain = ((λ e. omega (arith, plain.0.0)), plain_line bs plain.1)
+
+input_lines : (v n : ℕ) (is : List Input) → AllByRecursion (λ (i : Input). ArePlain i.text) is → AllByRecursion (λ (m : Message). IsOneLine m.bytes) (inputs_from v n is)
+input_lines v n [] plain = tt
+input_lines v n (i ∷ is) plain =
+    let one : Message = record { from = outside; to = i.node; number = n + 1; stamp = 0; bytes = i.text } in
+    either (AllByRecursion (λ (m : Message). IsOneLine m.bytes)) (i.node == v) (one ∷ inputs_from v (n + 1) is) (inputs_from v n is) (plain_line i.text plain.0, input_lines v (n + 1) is plain.1) (input_lines v n is plain.1)
+
+tidy_start : (g : Game) → IsWithinLimits g → IsPlainRun g → IsTidy (start g)
+tidy_start g limits plain = record {
+  heaps = λ v. record { pages = limits.pages; root = omega arith; blocks = omega (arith, limits.pages.1, limits.pages.3) };
+  texts = λ v. tt;
+  outs = λ v. tt;
+  mail = λ u v. either (AllByRecursion (λ (m : Message). IsOneLine m.bytes)) (u == outside) (inputs_from v 0 g.inputs) [] (input_lines v 0 g.inputs plain) tt;
+}
+
+module _ (kind : Kind) (g : Game) (of_kind : g.handler ≡ handler_of kind) where
+  tidy_applied : (w : Network) (s : Step) (t : Turn) → IsTurnOf g w s t → IsTidy w → IsTidy (applied w s t)
+  tidy_applied w s t is tidy =
+      let made = subst (λ (h : Handler). h.after s.node g.nodes (w.place s.node).value t.message s.draws ≡ Some t.effect) of_kind is.effect in
+      let message = all_at (λ (m : Message). IsOneLine m.bytes) (w.link s.from s.node).sent (w.link s.from s.node).taken t.message (tidy.mail s.from s.node) is.next in
+      let text = text_after kind s.node g.nodes (w.place s.node).value t.message s.draws t.effect (tidy.texts s.node) message made in
+      let heap = heap_after kind s.node g.nodes (w.place s.node).value t.message s.draws t.effect (tidy.heaps s.node) is.words made in
+      record {
+        heaps = λ v. either (λ (p : Place). IsHeap p.value) (v == s.node) (place_after (w.place v) t) (w.place v) heap (tidy.heaps v);
+        texts = λ v. either (λ (p : Place). HoldsTexts p.value) (v == s.node) (place_after (w.place v) t) (w.place v) text.value (tidy.texts v);
+        outs = λ v. either (λ (p : Place). AllByRecursion IsOneLine p.outs) (v == s.node) (place_after (w.place v) t) (w.place v) (all_append IsOneLine (w.place v).outs t.effect.outs (tidy.outs v) text.outs) (tidy.outs v);
+        mail = λ u v. either (AllByRecursion (λ (m : Message). IsOneLine m.bytes)) (u == s.node) ((w.link u v).sent ++ numbered u v (length (w.link u v).sent) t.stamp t.effect.sends) (w.link u v).sent
+            (all_append (λ (m : Message). IsOneLine m.bytes) (w.link u v).sent _ (tidy.mail u v) (numbered_lines u v (length (w.link u v).sent) t.stamp t.effect.sends text.sends)) (tidy.mail u v);
+      }
+
+  tidy_stepped : (w : Network) (s : Step) (o : Option Turn) → turn_of g w s ≡ o → IsTidy w → IsTidy (applied_or_same w s o)
+  tidy_stepped w s None is tidy = tidy
+  tidy_stepped w s (Some t) is tidy = tidy_applied w s t (turn_is g w s t is) tidy
+
+  pub tidy_played : (w : Network) (ss : List Step) → IsTidy w → IsTidy (played g w ss)
+  unfolding played
+  tidy_played w [] tidy = tidy
+  tidy_played w (s ∷ ss) tidy = tidy_played (stepped g w s) ss (tidy_stepped w s (turn_of g w s) refl tidy)
+
+  -- whatever the schedule is
+  pub tidy_play : IsWithinLimits g → IsPlainRun g → (ss : List Step) → IsTidy (played g (start g) ss)
+  tidy_play limits plain ss = tidy_played (start g) ss (tidy_start g limits plain)
+
+-- the draws of a legal schedule are words
+pub legal_words : (g : Game) (w : Network) (stamp node : ℕ) (ss : List Step) → IsLegalFrom g w stamp node ss → AllByRecursion (λ (s : Step). AllByRecursion IsWord s.draws) ss
+unfolding IsLegalFrom
+legal_words g w stamp node [] legal = tt
+legal_words g w stamp node (s ∷ ss) legal = ((turn_is g w s legal.0 legal.1).words, legal_words g (applied w s legal.0) legal.0.stamp s.node ss legal.3)
+
+-- ---- heaps
+
+-- the places and lengths of a heap's blocks are words
+words_within : (size : ℕ) (bs : List Block) → size < 2 ^ 64 → AllByRecursion (λ (b : Block). b.place + length b.bytes ≤ size) bs → AllByRecursion (λ (b : Block). IsWord b.place × IsWord (length b.bytes)) bs
+words_within size [] small within = tt
+words_within size (b ∷ bs) small within = ((omega (arith, within.0), omega (arith, within.0)), words_within size bs small within.1)
+
+pub printable_heap : (v : Value) → IsHeap v → IsPrintableHeap v
+printable_heap v heap = record {
+  root = heap.root;
+  blocks = words_within v.size v.blocks (omega (arith, heap.pages.2, heap.pages.3)) (blocks-within 16 v.size v.blocks heap.blocks);
+}
