@@ -22,17 +22,17 @@ use Rattle.ken_model.specs.Spelling.{IsWord, IsPrintableHeap}
 use Rattle.ken_model.proofs.Heaps.{heap_after, blocks-within}
 use Rattle.ken_drive.proofs.Texts.{HoldsTexts, IsText, text_after}
 
-all_append : {A : Type 0} (P : A → Type 0) (xs ys : List A) → AllByRecursion P xs → AllByRecursion P ys → AllByRecursion P (xs ++ ys)
+pub all_append : {A : Type 0} (P : A → Type 0) (xs ys : List A) → AllByRecursion P xs → AllByRecursion P ys → AllByRecursion P (xs ++ ys)
 all_append P [] ys all more = more
 all_append P (x ∷ xs) ys all more = (all.0, all_append P xs ys all.1 more)
 
-all_at : {A : Type 0} (P : A → Type 0) (xs : List A) (k : ℕ) (x : A) → AllByRecursion P xs → slice_get xs k ≡ Some x → P x
+pub all_at : {A : Type 0} (P : A → Type 0) (xs : List A) (k : ℕ) (x : A) → AllByRecursion P xs → slice_get xs k ≡ Some x → P x
 all_at P [] k x all is = absurd cc
 all_at P (y ∷ xs) zero x all is = let same : y ≡ x = cc in subst P same all.0
 all_at P (y ∷ xs) (suc k) x all is = all_at P xs k x all.1 is
 
 -- what holds of both holds of one
-either : {A : Type 0} (P : A → Type 0) (c : Bool) (x y : A) → P x → P y → P (if c then x else y)
+pub either : {A : Type 0} (P : A → Type 0) (c : Bool) (x y : A) → P x → P y → P (if c then x else y)
 either P true x y px py = px
 either P false x y px py = py
 
@@ -46,8 +46,10 @@ words_of (d ∷ ds) words = one (nat_lt d (2 ^ 64)) refl words (words_of ds)
     one true is all more = (ltb-true d (2 ^ 64) is, more all)
     one false is all more = absurd cc
 
--- its message comes next, its draws are words, and its effect is the handler's
+-- the node makes more turns, the turn's message comes next, its draws are words, and its effect is the handler's
 pub record IsTurnOf (g : Game) (w : Network) (s : Step) (t : Turn) : Type 0 where
+  pub more : (w.place s.node).turns < g.turns
+  pub stamp : t.stamp ≡ max (w.place s.node).stamp t.message.stamp + 1
   pub next : slice_get (w.link s.from s.node).sent (w.link s.from s.node).taken ≡ Some t.message
   pub words : AllByRecursion IsWord s.draws
   pub effect : g.handler.after s.node g.nodes (w.place s.node).value t.message s.draws ≡ Some t.effect
@@ -64,27 +66,27 @@ handled_by h draws e is = by (are_words draws) refl is
     by true words same = record { words = words_of draws words; effect = same }
     by false words same = absurd cc
 
-effect_of : (p : Place) (draws : List ℕ) (m : Message) (o : Option Effect) (t : Turn) → option_map (λ (e : Effect). record { message = m; draws = draws; stamp = max p.stamp m.stamp + 1; effect = e }) o ≡ Some t → (m ≡ t.message) × (o ≡ Some t.effect)
+effect_of : (p : Place) (draws : List ℕ) (m : Message) (o : Option Effect) (t : Turn) → option_map (λ (e : Effect). record { message = m; draws = draws; stamp = max p.stamp m.stamp + 1; effect = e }) o ≡ Some t → (m ≡ t.message) × (o ≡ Some t.effect) × (t.stamp ≡ max p.stamp m.stamp + 1)
 effect_of p draws m None t is = absurd cc
 effect_of p draws m (Some e) t is =
     let same : record { message = m; draws = draws; stamp = max p.stamp m.stamp + 1; effect = e } ≡ t = cc in
-    (ap (λ (x : Turn). x.message) same, ap (λ (x : Turn). Some x.effect) same)
+    (ap (λ (x : Turn). x.message) same, ap (λ (x : Turn). Some x.effect) same, sym (ap (λ (x : Turn). x.stamp) same))
 
 pub turn_is : (g : Game) (w : Network) (s : Step) (t : Turn) → turn_of g w s ≡ Some t → IsTurnOf g w s t
 unfolding turn_at
-turn_is g w s t is = few (nat_lt (w.place s.node).turns g.turns) is
+turn_is g w s t is = few (nat_lt (w.place s.node).turns g.turns) refl is
   where
-    at : (o : Option Message) → slice_get (w.link s.from s.node).sent (w.link s.from s.node).taken ≡ o → option_and_then (turn_at g s.node (w.place s.node) s.draws) o ≡ Some t → IsTurnOf g w s t
-    at None next made = absurd cc
-    at (Some m) next made =
+    at : (w.place s.node).turns < g.turns → (o : Option Message) → slice_get (w.link s.from s.node).sent (w.link s.from s.node).taken ≡ o → option_and_then (turn_at g s.node (w.place s.node) s.draws) o ≡ Some t → IsTurnOf g w s t
+    at more None next made = absurd cc
+    at more (Some m) next made =
         let parts = effect_of (w.place s.node) s.draws m (handled g s.node (w.place s.node).value m s.draws) t made in
         let handled = handled_by (g.handler.after s.node g.nodes (w.place s.node).value m s.draws) s.draws t.effect parts.1 in
-        subst (λ (x : Message). slice_get (w.link s.from s.node).sent (w.link s.from s.node).taken ≡ Some x → g.handler.after s.node g.nodes (w.place s.node).value x s.draws ≡ Some t.effect → IsTurnOf g w s t) (sym parts.0)
-        (λ n e. record { next = n; words = handled.words; effect = e }) next handled.effect
+        subst (λ (x : Message). slice_get (w.link s.from s.node).sent (w.link s.from s.node).taken ≡ Some x → g.handler.after s.node g.nodes (w.place s.node).value x s.draws ≡ Some t.effect → t.stamp ≡ max (w.place s.node).stamp x.stamp + 1 → IsTurnOf g w s t) (sym parts.0)
+        (λ n e stamp. record { more = more; stamp = stamp; next = n; words = handled.words; effect = e }) next handled.effect parts.2
 
-    few : (b : Bool) → (if b then option_and_then (turn_at g s.node (w.place s.node) s.draws) (slice_get (w.link s.from s.node).sent (w.link s.from s.node).taken) else None) ≡ Some t → IsTurnOf g w s t
-    few true made = at (slice_get (w.link s.from s.node).sent (w.link s.from s.node).taken) refl made
-    few false made = absurd cc
+    few : (b : Bool) → nat_lt (w.place s.node).turns g.turns ≡ b → (if b then option_and_then (turn_at g s.node (w.place s.node) s.draws) (slice_get (w.link s.from s.node).sent (w.link s.from s.node).taken) else None) ≡ Some t → IsTurnOf g w s t
+    few true more made = at (ltb-true (w.place s.node).turns g.turns more) (slice_get (w.link s.from s.node).sent (w.link s.from s.node).taken) refl made
+    few false more made = absurd cc
 
 -- ---- what a plain run of a kind keeps
 

@@ -8,3 +8,4 @@ pub mod Leaving
 pub mod Recovering
 pub mod Texts
 pub mod EndingPlayed
+pub mod EndingBounds
