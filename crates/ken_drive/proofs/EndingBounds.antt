@@ -1,7 +1,10 @@
 -- How far a schedule of a run with a handler that keeps the limits of a turn can come, and that its lines can be printed.
-use Rattle.std.proofs.Common.{◌≡◌, ◌≢◌, ℕ, zero, suc, ◌+◌, ◌-◌, ◌*◌, ◌<◌, ◌≤◌, ◌^◌, max, List, [], ◌∷◌, ◌++◌, map, length, slice_get, Bool, ◌==◌, ◌&&◌, true, false, if◌then◌else◌, Option, Some, None, IfSome, option_map, refl, sym, ap, subst, ◌∙◌, ⊎_elim, arith, length-append, eq-eqb, ne_eqb, eqb-true, add-zero}
-use Rattle.std.specs.List.{AllByRecursion}
+use Rattle.std.proofs.Common.{◌≡◌, ◌≢◌, ℕ, zero, suc, ◌+◌, ◌-◌, ◌*◌, ◌<◌, ◌≤◌, ◌^◌, max, List, [], ◌∷◌, ◌++◌, map, length, slice_get, slice_index_or, sum_by, All, Bool, ◌==◌, ◌&&◌, true, false, if◌then◌else◌, Option, Some, None, IfSome, option_map, refl, sym, ap, subst, ◌∙◌, ⊎_elim, arith, length-append, eq-eqb, ne_eqb, eqb-true, add-zero}
+use Rattle.std.specs.List.{AllByRecursion, range_with_len}
 use Rattle.std.proofs.lemmas.Bool.{cases_eq, cases_lt, cond_both}
+use Rattle.std.proofs.lemmas.List.Elements.{All-from_get_or}
+use Rattle.std.proofs.lemmas.List.FromFn.{length-range_with_len}
+use Rattle.std.proofs.lemmas.List.Sums.{sum_by-cons, sum_by-le}
 use Rattle.std.proofs.lemmas.Option.{slice_get_within}
 use Rattle.ken_model.specs.declared.facts.Input.{Input}
 use Rattle.ken_model.specs.declared.messages.Message.{Message}
@@ -9,6 +12,7 @@ use Rattle.ken_model.specs.declared.messages.Send.{Send}
 use Rattle.ken_model.specs.declared.messages.Step.{Step}
 use Rattle.ken_model.specs.declared.reports.TurnLine.{TurnLine}
 use Rattle.ken_model.specs.Effects.{Effect}
+use Rattle.ken_model.specs.Ending.{nodes_of}
 use Rattle.ken_model.specs.Game.{Game}
 use Rattle.ken_model.specs.Limits.{IsWithinLimits}
 use Rattle.ken_model.specs.Network.{Network, Place, Link, Turn, outside, inputs_from, inputs_for, start, numbered, turn_of, place_after, link_after, applied, applied_or_same, stepped}
@@ -16,6 +20,7 @@ use Rattle.ken_model.specs.Schedule.{IsLegalFrom, played, turn_line, turn_lines}
 use Rattle.ken_model.specs.Spelling.{IsWord, IsPrintableTurn}
 use Rattle.ken_app.specs.Turning.{IsAllowed, IsShortText}
 use Rattle.ken_node.specs.Workers.{ComesTo, KeepsShort}
+use Rattle.ken_drive.proofs.EndingCounts.{sum-one_more}
 use Rattle.ken_drive.proofs.EndingPlayed.{all_append, all_at, either, IsTurnOf, turn_is}
 
 -- a message that is short, and whose number and stamp are at most these
@@ -28,6 +33,7 @@ pub record IsSmall (most latest : ℕ) (m : Message) : Type 0 where
 pub record IsWithin (g : Game) (steps : ℕ) (w : Network) : Type 0 where
   pub comes : (v : ℕ) → ComesTo g.handler v g.nodes g.size (w.place v).value
   pub turns : (v : ℕ) → (w.place v).turns ≤ g.turns
+  pub count : steps ≡ sum_by (λ v. (w.place v).turns) (nodes_of g)
   pub stamps : (v : ℕ) → (w.place v).stamp ≤ steps
   pub outs : (v : ℕ) → length (w.place v).outs ≤ 16 * (w.place v).turns
   pub nowhere : (u v : ℕ) → g.nodes ≤ v → (w.link u v).sent ≡ []
@@ -83,10 +89,15 @@ inputs-small nodes v n (i ∷ is) known =
     either (λ (ms : List Message). AllByRecursion (IsSmall (n + length ms) 0) ms) (i.node == v) (one ∷ later) (inputs_from v n is)
     (record { short = known.0.1; number = omega arith; stamp = omega arith }, rest) (inputs-small nodes v n is known.1)
 
+sum-none : (a n : ℕ) → sum_by (λ v. 0) (range_with_len a n) ≡ 0
+sum-none a zero = refl
+sum-none a (suc n) = omega (arith, sum_by-cons (λ v. 0) a (range_with_len (a + 1) n), sum-none (a + 1) n)
+
 pub within_start : (g : Game) → IsWithinLimits g → IsWithin g 0 (start g)
 within_start g limits = record {
   comes = λ v. ComesTo.first;
   turns = λ v. omega arith;
+  count = sym (sum-none 0 g.nodes);
   stamps = λ v. omega arith;
   outs = λ v. omega arith;
   nowhere = λ u v past. either (λ (ms : List Message). ms ≡ []) (u == outside) (inputs_for g v) [] (inputs-nowhere g.nodes v 0 g.inputs past limits.inputs) refl;
@@ -144,6 +155,7 @@ module _ (g : Game) (limits : IsWithinLimits g) (keeps : KeepsShort g.nodes g.si
     turns = λ v. cond_both (v == s.node) (place_after (w.place v) t) (w.place v) (λ (p : Place). p.turns ≤ g.turns)
         (λ same. let e : v ≡ s.node = eqb-true v s.node same in let more = subst (λ k. (w.place k).turns < g.turns) (sym e) is.more in omega arith)
         (λ other. old.turns v);
+    count = omega (arith, old.count, sum-one_more (λ v. (w.place v).turns) (λ v. ((applied w s t).place v).turns) s.node 0 g.nodes (λ k ne. rw (ne_eqb k s.node ne) refl) (rw (eq-eqb s.node s.node refl) refl) (omega arith) (omega (arith, known)));
     stamps = λ v. either (λ (p : Place). p.stamp ≤ steps + 1) (v == s.node) (place_after (w.place v) t) (w.place v) stamp_at_most (omega (arith, old.stamps v));
     outs = λ v. either (λ (p : Place). length p.outs ≤ 16 * p.turns) (v == s.node) (place_after (w.place v) t) (w.place v) (omega (arith, length-append (w.place v).outs t.effect.outs, old.outs v, allowed.few_outs)) (old.outs v);
     nowhere = λ u v past. either (λ (ms : List Message). ms ≡ []) (u == s.node) ((w.link u v).sent ++ numbered u v (length (w.link u v).sent) t.stamp t.effect.sends) (w.link u v).sent
@@ -178,7 +190,13 @@ module _ (g : Game) (limits : IsWithinLimits g) (keeps : KeepsShort g.nodes g.si
       let count : steps + 1 + length ss ≡ steps + suc (length ss) = omega arith in
       rw legal.1 (subst (λ k. IsWithin g k (played g (applied w s t) ss)) count (within_played (steps + 1) (applied w s t) t.stamp s.node ss legal.3 next))
 
-  -- and its lines
+  -- it has few steps
+  pub few_steps : (steps : ℕ) (w : Network) → IsWithin g steps w → steps ≤ 800000
+  few_steps steps w within =
+      let each : All (λ v. (w.place v).turns ≤ 100000) (nodes_of g) = All-from_get_or (λ v. (w.place v).turns ≤ 100000) (nodes_of g) 0 (λ i lt. omega (arith, within.turns (slice_index_or (nodes_of g) i 0), limits.few_turns)) in
+      omega (arith, within.count, sum_by-le (λ v. (w.place v).turns) 100000 (nodes_of g) each, length-range_with_len 0 g.nodes, limits.few_nodes)
+
+  -- and its lines can be printed
   pub printable_lines : (steps : ℕ) (w : Network) (stamp node : ℕ) (ss : List Step) → IsLegalFrom g w stamp node ss → IsWithin g steps w → steps + length ss < 2 ^ 64 → AllByRecursion IsPrintableTurn (turn_lines g w ss)
   unfolding IsLegalFrom turn_lines
   printable_lines steps w stamp node [] legal within small = tt

@@ -8,4 +8,6 @@ pub mod Leaving
 pub mod Recovering
 pub mod Texts
 pub mod EndingPlayed
+pub mod EndingCounts
 pub mod EndingBounds
+pub mod EndingTold

@@ -6,3 +6,4 @@ pub mod Stations
 pub mod Running
 pub mod Left
 pub mod Recovering
+pub mod Ended

@@ -1,0 +1,79 @@
+-- A run that has ended, and what it says then.
+use Rattle.std.specs.Prelude.{◌≡◌, ℕ, ◌+◌, ◌<◌, List, [], ◌∷◌, ◌++◌, map, length, ◌==◌, if◌then◌else◌, slice_index_or, sum_by, Option}
+use Rattle.ken_disk.specs.Story.{Story}
+use Rattle.ken_model.specs.declared.messages.Out.{Out}
+use Rattle.ken_model.specs.declared.reports.Emission.{Emission}
+use Rattle.ken_model.specs.declared.reports.Ending.{Ending}
+use Rattle.ken_model.specs.declared.reports.Ending.TheVariants.{Settled, Cut}
+use Rattle.ken_model.specs.declared.reports.Lines.{Lines}
+use Rattle.ken_model.specs.declared.reports.RestartLine.{RestartLine}
+use Rattle.ken_model.specs.Emissions.{AreByNode, AreLegalEmissions, emitted_by}
+use Rattle.ken_model.specs.Ending.{Ends, nodes_of}
+use Rattle.ken_model.specs.Game.{Game}
+use Rattle.ken_model.specs.Laws.{steps_of}
+use Rattle.ken_model.specs.Limits.{IsPlainRun}
+use Rattle.ken_model.specs.Network.{outside}
+use Rattle.ken_model.specs.Report.{lines_of}
+use Rattle.ken_model.specs.Schedule.{IsLegal, play}
+use Rattle.ken_model.specs.Spelling.{IsPrintable}
+use Rattle.ken_core.specs.Clusters.{IsHistoryOf}
+use Rattle.ken_core.specs.Nodes.{Node}
+use Rattle.ken_node.specs.declared.watched.Watched.{Watched}
+use Rattle.ken_node.specs.Stages.{emissions_in}
+use Rattle.ken_flow.specs.Groups.{group_of}
+use Rattle.ken_flow.specs.Standstill.{HasEnded, waits_on}
+use Rattle.ken_drive.specs.declared.run.Run.{Run}
+use Rattle.ken_drive.specs.declared.station.Station.{Station}
+use Rattle.ken_drive.specs.Running.{IsRunning}
+
+-- the lines are the report of a run: a legal schedule, what playing it shows, legal emissions, and its ending
+pub record IsRunOf (g : Game) (l : Lines) : Type 0 where
+  pub legal : IsLegal g (steps_of l.turns)
+  pub lines : l ≡ lines_of g (steps_of l.turns) l.emissions l.restarts l.ending
+  pub emissions : AreLegalEmissions g (play g (steps_of l.turns)) l.emissions
+  pub by_node : AreByNode 0 l.emissions
+  pub ends : Ends g (play g (steps_of l.turns)) l.emissions l.ending
+  pub printable : IsPrintable l
+
+-- how much waits for a node, and for all
+abbrev pub waits_for : Game → (ℕ → Node) → ℕ → ℕ
+waits_for g nodes v = sum_by (λ u. waits_on g nodes u v) (outside ∷ nodes_of g)
+
+abbrev pub waits_in : Game → (ℕ → Node) → ℕ
+waits_in g nodes = sum_by (waits_for g nodes) (nodes_of g)
+
+-- the ending of nodes for which so much waits
+abbrev pub ending_of : ℕ → Ending
+ending_of waiting = if waiting == 0 then Settled else Cut
+
+module _ {D O U : Type 0} where
+  -- what nodes have emitted, node by node
+  abbrev pub emissions_of : List (Station D O U) → List Emission
+  emissions_of [] = []
+  emissions_of (s ∷ ss) = emissions_in s.node.stage ++ emissions_of ss
+
+  -- a line for each restart that answered, node by node, from node v on
+  abbrev pub restarts_from : ℕ → List (Station D O U) → List RestartLine
+  restarts_from v [] = []
+  restarts_from v (s ∷ ss) = map (λ turns. record { node = v; turns = turns }) s.lines.items ++ restarts_from (v + 1) ss
+
+module _ {D O U : Type 0} (told : Watched D → Option Story) (size : Watched D → ℕ) (took : U → Option (List Out)) where
+  -- all nodes were made and are up, each output was emitted, and what waits is for nodes that have made all their turns
+  pub record IsEnded (g : Game) (r : Run D O U) : Type 0 where
+    pub made : ℕ
+    pub running : IsRunning told size took g made r
+    pub all : made ≡ g.nodes
+    pub ended : HasEnded g running.nodes
+
+  -- a run of some game has ended
+  pub record HasCome (r : Run D O U) : Type 0 where
+    pub game : Game
+    pub ended : IsEnded game r
+
+  -- the lines are a report, of the turns that the nodes have sealed, of what they have emitted and of their restarts
+  pub record IsReportOf (g : Game) (r : Run D O U) (e : IsEnded g r) (l : Lines) : Type 0 where
+    pub run : IsRunOf g l
+    pub history : IsHistoryOf (group_of g e.running.nodes e.running.emissions) l.turns
+    pub emissions : l.emissions ≡ emissions_of r.stations.items
+    pub emitted : (v : ℕ) → v < g.nodes → emitted_by v l.emissions ≡ emitted_by v e.running.emissions
+    pub restarts : l.restarts ≡ restarts_from 0 r.stations.items
