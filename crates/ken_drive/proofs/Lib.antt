@@ -11,3 +11,5 @@ pub mod EndingPlayed
 pub mod EndingCounts
 pub mod EndingBounds
 pub mod EndingTold
+pub mod EndingFew
+pub mod EndingLists

@@ -1,6 +1,7 @@
 //! The drive of a run: what a run meets beside its script, and the passes over its nodes.
 #![tactic(auto)]
 
+mod copies;
 mod faults;
 mod inboxes;
 mod laws;
@@ -9,6 +10,7 @@ mod oracle;
 mod outlet;
 mod run;
 mod station;
+mod timeline;
 mod world;
 
 pub use faults::RunFault;
