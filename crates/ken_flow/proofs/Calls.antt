@@ -1,6 +1,5 @@
 -- What one visit does to inboxes where no less is open after it.
-use Rattle.std.proofs.Common.{◌≡◌, ◌≢◌, ℕ, ◌+◌, ◌-◌, ◌*◌, ◌<◌, ◌≤◌, ◌⊎◌, inl, inr, List, [], ◌∷◌, ◌++◌, length, Contains, Some, slice_get, slice_index, slice_index_or, slice_set, refl, sym, ap, ◌∙◌, subst, ⊎_elim, arith, append-nil}
-use Rattle.std.proofs.lemmas.Bool.{cases_eq}
+use Rattle.std.proofs.Common.{◌≡◌, ◌≢◌, ℕ, ◌+◌, ◌<◌, ◌≤◌, List, [], ◌∷◌, ◌++◌, length, Contains, Some, slice_get, slice_index, slice_index_or, refl, sym, ap, ◌∙◌, subst, ⊎_elim, arith, append-nil}
 use Rattle.std.proofs.lemmas.List.{get_or-set_same}
 use Rattle.std.proofs.lemmas.List.Elements.{Contains-append_left, Contains-append_right}
 use Rattle.ken_model.specs.declared.messages.Message.{Message}
@@ -8,15 +7,14 @@ use Rattle.ken_model.specs.Game.{Game}
 use Rattle.ken_packet.specs.Reading.{packet_of}
 use Rattle.ken_net.specs.declared.inbox.TheConstants.{MAX_INBOX}
 use Rattle.ken_net.specs.History.{puts_for}
-use Rattle.ken_net.specs.Inboxes.{Gave, all_filed}
+use Rattle.ken_net.specs.Inboxes.{all_filed}
 use Rattle.ken_net.specs.Puts.{Put}
 use Rattle.ken_net.specs.Standings.{Standing, link_to, after_puts, all_passed}
 use Rattle.ken_net.proofs.Origins.{in_front}
-use Rattle.ken_core.specs.Nodes.{Node}
 use Rattle.ken_core.specs.Packets.{Packet, Mail, Answer, Receipt}
 use Rattle.ken_core.specs.Turns.{consumed_from, mails_to}
 use Rattle.ken_ship.specs.Laws.{packet_from, packets_from}
-use Rattle.ken_flow.specs.Standstill.{Flow, HasPlaces, left_on, unacked_to, IsGiven, IsIdle, IsOver, Visited, VisitedTo, none, then}
+use Rattle.ken_flow.specs.Standstill.{Flow, HasPlaces, left_on, unacked_to, IsGiven, IsIdle, IsOver, Visited}
 use Rattle.ken_flow.proofs.Filing.{box, all_filed_most, all_filed_stays, all_filed_has, among, no_more}
 use Rattle.ken_flow.proofs.Links.{all_passed_once}
 use Rattle.ken_flow.proofs.Visits.{Falls, falls_on, Calls, calls_on, InVisit, in_visit}

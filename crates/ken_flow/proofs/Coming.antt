@@ -1,17 +1,16 @@
 -- In passes after which no less is open, what waits for a node with turns to make is given to it again, and its answer comes back.
-use Rattle.std.proofs.Common.{◌≡◌, ◌≢◌, ℕ, ◌+◌, ◌-◌, ◌*◌, ◌<◌, ◌≤◌, ◌⊎◌, inl, inr, List, [], ◌∷◌, length, Some, Contains, slice_get, slice_index, slice_index_or, refl, sym, ap, ◌∙◌, subst, ⊎_elim, arith}
+use Rattle.std.proofs.Common.{◌≡◌, ◌≢◌, ℕ, ◌+◌, ◌-◌, ◌*◌, ◌<◌, ◌≤◌, ◌⊎◌, inl, inr, List, length, Some, Contains, slice_get, slice_index, sym, ap, ◌∙◌, subst, ⊎_elim, arith}
 use Rattle.std.proofs.lemmas.Bool.{cases_eq, cases_lt}
 use Rattle.ken_model.specs.declared.messages.Message.{Message}
 use Rattle.ken_model.specs.Game.{Game}
 use Rattle.ken_net.specs.declared.inbox.TheConstants.{MAX_INBOX}
 use Rattle.ken_record.specs.declared.effects.Effects.{Effects}
-use Rattle.ken_core.specs.Nodes.{Node}
-use Rattle.ken_core.specs.Packets.{Packet, Mail, Answer, Receipt}
+use Rattle.ken_core.specs.Packets.{Mail, Answer, Receipt}
 use Rattle.ken_core.specs.Turns.{consumed_from, mails_to}
-use Rattle.ken_flow.specs.Standstill.{Flow, HasPlaces, AreShort, unacked_to, IsIdle, Visited, VisitedTo, none, then}
-use Rattle.ken_flow.proofs.Calls.{Waits, after_rest, after_writes, after_hears, to_written, to_heard, mail_most, other_rested, other_waits, mail_waits, is_idle, answer_waits, acks_most, acks_stay, other_acks, own_acks, takes}
+use Rattle.ken_flow.specs.Standstill.{Flow, HasPlaces, unacked_to, IsIdle, Visited, VisitedTo, none, then}
+use Rattle.ken_flow.proofs.Calls.{Waits, after_writes, after_hears, to_written, to_heard, mail_most, other_rested, other_waits, mail_waits, is_idle, answer_waits, acks_most, acks_stay, other_acks, own_acks, takes}
 use Rattle.ken_flow.proofs.Filing.{box}
-use Rattle.ken_flow.proofs.Visits.{Falls, falls_on, Calls, calls_on, InVisit, in_visit, visited, visits}
+use Rattle.ken_flow.proofs.Visits.{Falls, falls_on, Calls, visited, visits}
 
 -- ---- a pass, cut at one of its visits
 

@@ -1,11 +1,10 @@
 -- Where nothing that is open falls in three passes, the run has ended.
-use Rattle.std.proofs.Common.{◌≡◌, ◌≢◌, ℕ, zero, suc, ◌+◌, ◌-◌, ◌*◌, ◌^◌, ◌<◌, ◌≤◌, ◌⊎◌, inl, inr, ◌==◌, List, [], ◌∷◌, length, Some, Contains, slice_get, slice_index, slice_index_or, refl, sym, ap, ◌∙◌, subst, ⊎_elim, arith, eq-eqb, ne_eqb}
+use Rattle.std.proofs.Common.{◌≡◌, ◌≢◌, ℕ, zero, suc, ◌+◌, ◌-◌, ◌*◌, ◌^◌, ◌<◌, ◌≤◌, ◌⊎◌, inl, inr, ◌==◌, List, [], ◌∷◌, length, Some, slice_get, slice_index, refl, sym, ap, ◌∙◌, subst, ⊎_elim, arith, eq-eqb, ne_eqb}
 use Rattle.std.specs.List.{AllByRecursion}
-use Rattle.std.proofs.lemmas.Bool.{cases_eq, cases_lt}
+use Rattle.std.proofs.lemmas.Bool.{cases_lt}
 use Rattle.ken_model.specs.declared.messages.Message.{Message}
 use Rattle.ken_model.specs.declared.reports.Emission.{Emission}
 use Rattle.ken_model.specs.Game.{Game}
-use Rattle.ken_model.specs.History.{sent_by}
 use Rattle.ken_model.specs.Limits.{IsWithinLimits}
 use Rattle.ken_model.specs.Network.{Turn, inputs_for, outside}
 use Rattle.ken_net.specs.declared.inbox.TheConstants.{MAX_INBOX}
@@ -13,18 +12,17 @@ use Rattle.ken_record.specs.declared.effects.Effects.{Effects}
 use Rattle.ken_core.specs.Accord.{Accord}
 use Rattle.ken_core.specs.Clusters.{Cluster}
 use Rattle.ken_core.specs.Nodes.{Node}
-use Rattle.ken_core.specs.Packets.{Packet, Mail, Answer}
+use Rattle.ken_core.specs.Packets.{Mail}
 use Rattle.ken_core.specs.Turns.{consumed_from, mails_to, outs_of}
 use Rattle.ken_core.proofs.Sent.{IsOf, sent_at}
 use Rattle.ken_flow.specs.Groups.{group_of}
-use Rattle.ken_flow.specs.Standstill.{Flow, HasPlaces, AreShort, open_in, open_outs, Visited, VisitedTo, Passed, none, then, sent_on, waits_on, HasEnded}
+use Rattle.ken_flow.specs.Standstill.{Flow, HasPlaces, AreShort, Visited, VisitedTo, Passed, none, then, sent_on, waits_on, HasEnded}
 use Rattle.ken_flow.specs.StandstillLaws.{AreLow, Stands}
-use Rattle.ken_flow.proofs.Calls.{Waits, some_same, after_emits, is_idle, is_given}
+use Rattle.ken_flow.proofs.Calls.{some_same, after_emits, is_idle, is_given}
 use Rattle.ken_flow.proofs.Coming.{Cut, cut_at, IsAim, IsOldest, stays_oldest, walk, Rooms, keep_rooms, Comes, keep_coming, consumed, Answers, keep_answers, answered}
-use Rattle.ken_flow.proofs.Filing.{box}
 use Rattle.ken_flow.proofs.Groups.{sent_by_node, is_inside, consumed_by_node}
 use Rattle.ken_flow.proofs.Lists.{if_yes, if_no}
-use Rattle.ken_flow.proofs.Visits.{Falls, falls_on, nothing_falls, Calls, calls_on, visited, visits, in_visit}
+use Rattle.ken_flow.proofs.Visits.{Falls, falls_on, nothing_falls, Calls, visited, visits}
 
 -- ---- a message can't wait for a node with turns to make
 

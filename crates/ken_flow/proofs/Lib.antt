@@ -10,3 +10,4 @@ pub mod Coming
 pub mod Ending
 pub mod Turns
 pub mod Stamps
+pub mod Modest

@@ -1,12 +1,11 @@
 -- What a link still has to do falls with each put, until it passes each packet on once.
-use Rattle.std.proofs.Common.{◌≡◌, ℕ, zero, suc, ◌+◌, ◌-◌, ◌*◌, ◌^◌, ◌<◌, ◌≤◌, ◌==◌, min, max, ◌⊎◌, inl, inr, Bool, true, false, if◌then◌else◌, nat_le, List, [], ◌∷◌, ◌++◌, length, sum_by, slice_index_or, slice_set, Option, Some, None, refl, sym, ap, ◌∙◌, subst, ⊎_elim, arith, length-append, eq-eqb, ne_eqb}
+use Rattle.std.proofs.Common.{◌≡◌, ℕ, ◌+◌, ◌-◌, ◌*◌, ◌^◌, ◌<◌, ◌≤◌, ◌==◌, min, ◌⊎◌, inl, inr, Bool, true, false, if◌then◌else◌, nat_le, List, [], ◌∷◌, ◌++◌, length, sum_by, slice_set, Option, Some, None, refl, sym, ap, ◌∙◌, subst, ⊎_elim, arith, length-append}
 use Rattle.std.specs.Prelude.{map}
-use Rattle.std.specs.List.{filter}
 use Rattle.std.specs.Map.{lookup}
 use Rattle.std.specs.BTreeMap.{is_at}
 use Rattle.std.specs.Ordering.{nat_cmp}
 use Rattle.std.specs.Cmp.{Equal-is}
-use Rattle.std.proofs.lemmas.Bool.{cases_lt, leb-true, leb-false, eqb-true, eqb-false, cases_Bool}
+use Rattle.std.proofs.lemmas.Bool.{cases_lt, leb-false, eqb-true, cases_Bool}
 use Rattle.std.proofs.lemmas.Grind.{get_or-set_at}
 use Rattle.std.proofs.lemmas.List.{length-set}
 use Rattle.std.proofs.lemmas.List.Elements.{filter-append}
@@ -20,7 +19,6 @@ use Rattle.ken_net.specs.Counts.{risen}
 use Rattle.ken_net.specs.History.{puts_for}
 use Rattle.ken_net.specs.Puts.{Put, alone}
 use Rattle.ken_net.specs.Standings.{Standing, no_link, link_to, act_at, next_act, due, still, after_put, passed, after_puts, all_passed}
-use Rattle.ken_net.proofs.Turns.{still_append}
 use Rattle.ken_flow.proofs.Lists.{set_cases, filter_yes, filter_no}
 use Rattle.ken_flow.specs.Standstill.{AreModestActs, last_act, left_on}
 

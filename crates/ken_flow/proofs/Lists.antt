@@ -1,7 +1,6 @@
 -- Sums over lists, and what stands in lists.
-use Rattle.std.proofs.Common.{◌≡◌, ℕ, zero, suc, ◌+◌, ◌<◌, ◌≤◌, ◌⊎◌, inl, inr, Bool, true, false, List, [], ◌∷◌, ◌++◌, length, Contains, map, sum_by, refl, sym, ap, ◌∙◌, subst, ⊎_elim, arith, zero-add, slice_index_or, slice_set, if◌then◌else◌}
+use Rattle.std.proofs.Common.{◌≡◌, ℕ, zero, suc, ◌<◌, ◌≤◌, ◌⊎◌, inl, inr, Bool, true, false, List, [], ◌∷◌, Contains, map, sum_by, refl, ap, ◌∙◌, subst, ⊎_elim, arith, zero-add, slice_index_or, slice_set, if◌then◌else◌}
 use Rattle.std.specs.List.{AllByRecursion, range_with_len, filter}
-use Rattle.std.proofs.lemmas.List.Elements.{Contains-get_or}
 use Rattle.std.proofs.lemmas.List.FromFn.{length-range_with_len, get_or-range_with_len}
 use Rattle.std.proofs.lemmas.List.Sums.{sum_by-cons}
 use Rattle.ken_net.proofs.Origins.{first_in, later_in, in_front}
@@ -32,6 +31,10 @@ module _ {X : Type 0} (f h : X → ℕ) where
 pub by_each : {X : Type 0} (P : X → Type 0) (xs : List X) → ((x : X) → Contains xs x → P x) → AllByRecursion P xs
 by_each P [] each = tt
 by_each P (x ∷ xs) each = (each x (first_in x xs), by_each P xs (λ y one. each y (later_in x xs y one)))
+
+pub of_each : {X : Type 0} (P : X → Type 0) (xs : List X) → AllByRecursion P xs → (x : X) → Contains xs x → P x
+of_each P [] all x (k, low, is) = absurd (omega (arith, low))
+of_each P (y ∷ ys) all x one = ⊎_elim (λ (is : y ≡ x). subst P is all.0) (λ on. of_each P ys all.1 x on) (in_front y ys x one)
 
 pub map_in : {X Y : Type 0} (f : X → Y) (xs : List X) (x : X) → Contains xs x → Contains (map f xs) (f x)
 map_in f [] x (k, low, is) = absurd (omega (arith, low))

@@ -1,6 +1,6 @@
 -- No stamp of a turn is past the number of all turns: each stamp but the first has the one before it on another turn.
-use Rattle.std.proofs.Common.{◌≡◌, ℕ, zero, suc, ◌+◌, ◌-◌, ◌*◌, ◌^◌, ◌<◌, ◌≤◌, max, ◌⊎◌, inl, inr, Bool, true, false, nat_le, if◌then◌else◌, List, [], ◌∷◌, ◌++◌, map, length, Contains, refl, sym, ap, ◌∙◌, subst, ⊎_elim, arith, length-append}
-use Rattle.std.specs.List.{AllByRecursion, flat_map, range_with_len}
+use Rattle.std.proofs.Common.{◌≡◌, ℕ, zero, suc, ◌+◌, ◌*◌, ◌^◌, ◌<◌, ◌≤◌, max, ◌⊎◌, inl, inr, nat_le, if◌then◌else◌, List, [], ◌∷◌, ◌++◌, length, Contains, refl, sym, ap, ◌∙◌, subst, ⊎_elim, arith, length-append}
+use Rattle.std.specs.List.{flat_map}
 use Rattle.std.proofs.Math.Nat.{suc-mul}
 use Rattle.std.proofs.lemmas.Bool.{cases_eq, cases_lt}
 use Rattle.std.proofs.lemmas.Bool.Decides.{nat_tests}
@@ -9,26 +9,23 @@ use Rattle.std.proofs.lemmas.List.Elements.{Contains-append_left, Contains-appen
 use Rattle.std.proofs.lemmas.List.FromFn.{length-range_with_len}
 use Rattle.ken_model.specs.declared.facts.TheConstants.{MAX_NODES, MAX_TURNS}
 use Rattle.ken_model.specs.declared.messages.Message.{Message}
-use Rattle.ken_model.specs.declared.reports.Emission.{Emission}
 use Rattle.ken_model.specs.Ending.{nodes_of}
 use Rattle.ken_model.specs.Game.{Game}
-use Rattle.ken_model.specs.History.{AreTurns, sent_by}
+use Rattle.ken_model.specs.History.{AreTurns}
 use Rattle.ken_model.specs.Limits.{IsWithinLimits}
 use Rattle.ken_model.specs.Network.{Place, Turn, first_place, place_after}
 use Rattle.ken_record.specs.declared.effects.Effects.{Effects}
 use Rattle.ken_net.proofs.Origins.{first_in, later_in, in_front}
 use Rattle.ken_core.specs.Accord.{Accord}
 use Rattle.ken_core.specs.Clusters.{Cluster}
-use Rattle.ken_core.specs.Nodes.{Node}
-use Rattle.ken_core.specs.Turns.{mails_to, sealed}
+use Rattle.ken_core.specs.Turns.{mails_to}
 use Rattle.ken_core.proofs.Played.{turn_stamp}
 use Rattle.ken_flow.specs.Groups.{group_of}
-use Rattle.ken_flow.specs.Standstill.{Flow}
-use Rattle.ken_flow.specs.StandstillLaws.{AreLow, AreEarly, StampsAreLow, StandstillEnds}
+use Rattle.ken_flow.specs.StandstillLaws.{StampsAreLow, StandstillEnds}
 use Rattle.ken_flow.proofs.Groups.{sent_by_node}
 use Rattle.ken_flow.proofs.Ending.{has_ended}
 use Rattle.ken_flow.proofs.Lists.{by_each, map_in, in_map, below_is}
-use Rattle.ken_flow.proofs.Turns.{IsInput, IsSentIn, sent_in, taken_from, is_known, few_turns, stamps_of, effect_stamps, stamps_sealed, count_sealed}
+use Rattle.ken_flow.proofs.Turns.{sent_in, taken_from, is_known, few_turns, stamps_of, effect_stamps, stamps_sealed, count_sealed}
 
 -- ---- numbers that stand in a list
 

@@ -1,6 +1,5 @@
 -- Each message that a turn takes is an input, or a turn with its stamp sent it.
-use Rattle.std.proofs.Common.{◌≡◌, ℕ, zero, suc, ◌+◌, ◌<◌, ◌≤◌, max, ◌⊎◌, inl, inr, ◌==◌, Bool, true, false, if◌then◌else◌, List, [], ◌∷◌, ◌++◌, map, length, Some, Contains, refl, sym, ap, ◌∙◌, subst, ⊎_elim, arith, append_assoc, append-nil, eq-eqb, ne_eqb}
-use Rattle.std.specs.List.{AllByRecursion, filter}
+use Rattle.std.proofs.Common.{◌≡◌, ℕ, ◌+◌, ◌<◌, ◌≤◌, ◌⊎◌, inl, inr, ◌==◌, Bool, true, false, if◌then◌else◌, List, [], ◌∷◌, ◌++◌, map, length, Contains, sym, ap, ◌∙◌, subst, ⊎_elim, arith, append_assoc, append-nil, eq-eqb, ne_eqb}
 use Rattle.std.proofs.lemmas.Bool.{cases_eq, cases_lt, cases_Bool}
 use Rattle.std.proofs.lemmas.List.{map-append, length-map}
 use Rattle.std.proofs.lemmas.List.Elements.{Contains-append_left, Contains-append_cases}
@@ -8,14 +7,13 @@ use Rattle.ken_model.specs.declared.messages.Message.{Message}
 use Rattle.ken_model.specs.declared.messages.Send.{Send}
 use Rattle.ken_model.specs.declared.facts.Input.{Input}
 use Rattle.ken_model.specs.Game.{Game}
-use Rattle.ken_model.specs.Network.{Place, Turn, outside, inputs_from, inputs_for, numbered, first_place, place_after}
+use Rattle.ken_model.specs.Network.{Place, Turn, outside, inputs_from, inputs_for, numbered, place_after}
 use Rattle.ken_model.specs.History.{AreTurns, consumed, sent_by, messages}
 use Rattle.ken_record.specs.declared.effects.Effects.{Effects}
 use Rattle.ken_net.proofs.Origins.{first_in, later_in, in_front}
 use Rattle.ken_core.specs.Accord.{Accord}
 use Rattle.ken_core.specs.Clusters.{Cluster}
 use Rattle.ken_core.specs.Turns.{effects_of, sealed_after, sealed}
-use Rattle.ken_core.proofs.Sent.{messages-node}
 use Rattle.ken_flow.proofs.Lists.{filter_yes, filter_no, if_yes, if_no}
 
 -- ---- where messages come from

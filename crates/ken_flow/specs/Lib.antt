@@ -3,3 +3,4 @@ pub mod Flows
 pub mod Laws
 pub mod Standstill
 pub mod StandstillLaws
+pub mod Modest

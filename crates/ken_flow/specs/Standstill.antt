@@ -1,10 +1,9 @@
 -- Passes over the nodes of a run in which nothing happens: then the run has ended.
 use Rattle.std.specs.Prelude.{◌≡◌, ◌≢◌, ℕ, ◌+◌, ◌-◌, ◌*◌, ◌^◌, ◌<◌, ◌≤◌, ◌⊎◌, ◌==◌, if◌then◌else◌, max, min, List, [], ◌∷◌, length, slice_get, slice_index, slice_index_or, slice_set, Some, None, sum_by}
-use Rattle.std.specs.List.{All, AllByRecursion, Contains}
+use Rattle.std.specs.List.{Contains}
 use Rattle.ken_model.specs.declared.messages.Message.{Message}
 use Rattle.ken_model.specs.Ending.{nodes_of}
 use Rattle.ken_model.specs.Game.{Game}
-use Rattle.ken_model.specs.Limits.{IsWithinLimits}
 use Rattle.ken_model.specs.Network.{inputs_for, outside}
 use Rattle.ken_packet.specs.Reading.{packet_of}
 use Rattle.ken_net.specs.declared.act.Act.{Act}

@@ -1,6 +1,7 @@
 // What holds of the group of a run's nodes, and of what is on its way between them. Each law is the contract of a function
 // that does nothing.
 ghost use Rattle.ken_flow.specs.Laws.{FirstIsInAccord, CallKeepsGroup, PutStaysPut, PutsArePut, AcksGoNoFurther, KnownStays, GivenAreKnown, PassedAreKnown, FirstAreKnown, SpelledAreKnown};
+ghost use Rattle.ken_flow.specs.Modest.{TurnsAreModest};
 ghost use Rattle.ken_flow.specs.StandstillLaws.{NeverMoreOpen, StampsAreLow, StandstillEnds};
 
 /// The group of nodes at the start is in accord.
@@ -68,4 +69,9 @@ pub fn stamps_are_low()
 /// Where three passes leave as much open as they found, the run has ended.
 pub fn standstill_ends()
     ensures { StandstillEnds }
+{}
+
+/// In accord, where the handler keeps the limits of a turn, each sealed turn has few messages and outputs, and short ones.
+pub fn turns_are_modest()
+    ensures { TurnsAreModest }
 {}
