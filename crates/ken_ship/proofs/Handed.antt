@@ -11,6 +11,11 @@ pub with_turns-append : (v : ℕ) (ss ts : List Sealed) (w : Waiting) → with_t
 with_turns-append v [] ts w = refl
 with_turns-append v (s ∷ ss) ts w = with_turns-append v ss ts (with_turn v s w)
 
+-- no turn that is handed over changes which output was emitted last
+pub with_turns_emitted : (v : ℕ) (ss : List Sealed) (w : Waiting) → (with_turns v ss w).emitted ≡ w.emitted
+with_turns_emitted v [] w = refl
+with_turns_emitted v (s ∷ ss) w = with_turns_emitted v ss (with_turn v s w)
+
 -- so many were handed over so far
 pub record HandedSoFar (v count : ℕ) (popped popped2 : List Sealed) (old new : Waiting) : Type 0 where
   pub turns : List Sealed

@@ -91,6 +91,13 @@ impl SendWorker {
         self.emissions.as_slice()
     }
 
+    /// The number of the last output that was emitted, 0 for none. What was handed over later may be output still.
+    pub fn last_emitted(&self) -> u64
+        ensures { result ≡ (part_of self.now).due.emitted }
+    {
+        self.backlog.last_emitted()
+    }
+
     /// Takes over each turn that its ring holds, from the end of the ring at which its handler pushes: then 64 slots are known
     /// there to be free. After an error, which is want of memory, what is in the ring is there still.
     pub fn receive(&mut self, ring: &mut PushEnd<Sealed>) -> Result<(), AllocError>
