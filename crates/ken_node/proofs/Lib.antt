@@ -45,6 +45,9 @@ pub mod PatchSteps
 pub mod ShipSteps
 pub mod TurnDisks
 pub mod TurnSpelled
+pub mod Quietly
+pub mod Again
+pub mod UpNumbers
 pub mod TurnSteps
 pub mod GoesDown
 pub mod CreationDown

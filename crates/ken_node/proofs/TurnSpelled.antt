@@ -35,7 +35,7 @@ spelled-append nodes (p ∷ ps) qs [] ys one two = absurd one
 spelled-append nodes (p ∷ ps) qs (x ∷ xs) ys one two = (one.0, spelled-append nodes ps qs xs ys one.1 two)
 
 -- an acknowledgement is of some message of a node of the run
-abbrev OfRun : ℕ → Packet → Type 0
+abbrev pub OfRun : ℕ → Packet → Type 0
 OfRun nodes (Mail m) = Unit {0}
 OfRun nodes (Answer a) = (a.to < nodes) × (0 < a.through)
 
@@ -92,7 +92,7 @@ answer-from nodes v from through true e low = refl
 answer-from nodes v from through false e low = absurd (false≢true (sym e ∙ lt-ltb v nodes low))
 
 module _ (nodes v : ℕ) (n : Node) (c : Consumed) (few : nodes ≤ 8) (known : v < nodes) (counts : (u : ℕ) → u < nodes → consumed_from c u ≡ count_from u n.turning.turns) (short : length n.turning.turns < 2 ^ 64) where
-  ack-spelled : (from : ℕ) → OfRun nodes (Answer (receipt_of v from n)) → IsSpelled nodes (ack_put v c from) (put_by v from n (Answer (receipt_of v from n)))
+  pub ack-spelled : (from : ℕ) → OfRun nodes (Answer (receipt_of v from n)) → IsSpelled nodes (ack_put v c from) (put_by v from n (Answer (receipt_of v from n)))
   ack-spelled from is =
       let through : ℕ = count_from from n.turning.turns in
       let same : consumed_from c from ≡ through = counts from is.0 in

@@ -41,16 +41,18 @@ use Rattle.ken_node.specs.Capped.{IsCapped}
 use Rattle.ken_node.specs.Capped as caps
 use Rattle.ken_node.specs.Down.{AreTold}
 use Rattle.ken_node.specs.DownLaws.{SealIsDown, TurnoverIsDown}
-use Rattle.ken_node.specs.Hearing.{ArePassed, IsPassed, ack_put, heard, heard_mail}
+use Rattle.ken_node.specs.Hearing.{ArePassed, IsPassed, ack_put, again_puts, heard, heard_mail}
 use Rattle.ken_node.specs.Meeting.{AreEmpty, AreFronts, AreJoined, HaveMet}
 use Rattle.ken_node.specs.NodeCalls.{DisksFailBy}
-use Rattle.ken_node.specs.NodeTurns.{CappedSteps, HandlerSteps, IdleSteps, IsNotNext, SealFails, TurnSteps, TurnStepsBy, TurnoverFails}
+use Rattle.ken_node.specs.NodeTurns.{CappedSteps, HandlerSteps, IdleSteps, IsAnsweredIn, IsNotNext, SealFails, TurnSteps, TurnStepsBy, TurnoverFails}
 use Rattle.ken_node.specs.Sealing.{coming_pages, is_full}
 use Rattle.ken_node.specs.TurnLaws.{Drew, HandlerLeadsTo, acks_out, told_of}
 use Rattle.ken_node.specs.Whole.{IsWhole}
 use Rattle.ken_node.specs.Workers.{HearsNews, IsSameWorker}
+use Rattle.ken_node.proofs.Again.{again-answered, again-few}
 use Rattle.ken_node.proofs.MeetingDown.{meeting_stays_down}
 use Rattle.ken_node.proofs.OtherDisk.{other_stays}
+use Rattle.ken_node.proofs.Quietly.{idle_keeps_sending, idle_keeps_turns}
 use Rattle.ken_node.proofs.Rings.{ring-popped, ring-pushed}
 use Rattle.ken_node.proofs.TurnDisks.{disk-failed, turn-disks, turn-told}
 use Rattle.ken_node.proofs.TurnDown.{turn_goes_down}
@@ -215,12 +217,21 @@ module _ {D O N : Type 0} (told : D → Option Story) (size count : D → ℕ) (
       ap (λ (c : Consumed). slice_index c.consumed (place outside)) (sym order ∙ lead.whole.workers.working.order) ∙ lead.whole.workers.turns.counted.consumed outside (inr refl) in
       let inputs : mid.inputs.items ≡ inputs_for g v = ap (λ (w : TurnWorker D). w.inputs.items) news.rest ∙ up.whole.workers.of_run.inputs in
       let past = past-end mid.inputs.items (consumed_from mid.order outside) listens.no_input in
+      let heard_order : mid.order ≡ t.order = ap (λ (w : TurnWorker D). w.order) news.rest in
+      let before_counts : (u : ℕ) → u < g.nodes → consumed_from mid.order u ≡ count_from u n.turning.turns = λ u low. ap (λ (c : Consumed). consumed_from c u) heard_order ∙ order-counts told size g v n t p s up.whole u low in
+      let puts : again_puts v mid.order listened.passed ≡ map (ack_put v t.order) lead.before ++ map (ack_put v t1.order) lead.last =
+      listens.before_are ∙ ap (λ (c : Consumed). map (ack_put v c) lead.before) heard_order ∙ sym (append-nil (map (ack_put v t.order) lead.before)) ∙ ap (λ (senders : List ℕ). map (ack_put v t.order) lead.before ++ map (ack_put v t1.order) senders) (sym listens.last_are) in
       record {
         call = handler-steps (IsIdle v (is_full t.side)) lead (omega (arith, few)) (omega (arith, few, same_count)) (other-after Idle takes) (tell-after Idle takes);
         most = let most = listened.most in subst (λ (bs : List (List ℕ)). length bs ≤ 4096) (sym listens.given_is) most;
         until = subst (λ (bs : List (List ℕ)). (length bs ≡ 4096) ⊎ (risen nones ≤ nones2)) (sym given) listened.ends.1;
         none_next = subst (λ (bs : List (List ℕ)). AllByRecursion (IsNotNext v lead.after) (packets_from g.nodes bs)) (sym given) (all-passed g.nodes v lead.after mid.order nodes counts listened.passed listened.each);
         no_input = let all : length mid.inputs.items ≡ length (inputs_for g v) = ap length inputs in omega (arith, past, all, outside_count);
+        few = subst (λ (ps : List Put). length ps ≤ length lead.given) puts (subst (λ (bs : List (List ℕ)). length (again_puts v mid.order listened.passed) ≤ length bs) (sym given) (again-few v mid.order listened.passed));
+        again = λ m has to old. subst (λ (ps : List Put). IsAnsweredIn g v n ps m.from) puts
+            (again-answered g v n mid.order few-nodes up.known nodes before_counts (subst (λ (es : List Effects). length es < 2 ^ 64) up.whole.workers.turns.kept (omega (arith, few))) listened.passed m (subst (λ (bs : List (List ℕ)). Contains (packets_from g.nodes bs) (Mail m)) given has) to old);
+        same_turns = idle_keeps_turns g v (packets_from g.nodes lead.given) n lead.after (one_after_other (acks_out v n lead.before) (acks_out v lead.after lead.last)) (is_full t.side) lead.call;
+        same_sending = idle_keeps_sending g v (packets_from g.nodes lead.given) n lead.after (one_after_other (acks_out v n lead.before) (acks_out v lead.after lead.last)) (is_full t.side) lead.call;
       }
 
   capped-steps : Takes (Ok Capped) → CappedSteps told size g v n gave put t (Created t2 p2 s2)
@@ -238,6 +249,7 @@ module _ {D O N : Type 0} (told : D → Option Story) (size count : D → ℕ) (
           spelled = tt;
           up = met-up told size t1 t2 p p2 s s2 met g v lead.after up.limits up.known lead.whole (other-after Capped takes) (tell-after Capped takes) same joined empty;
         };
+        same = run.1;
         heard = mid;
         hears = news;
         capped = takes.capped;

@@ -558,16 +558,18 @@ module _ {D : Type 0} (told : D → Option Story) (size count : D → ℕ) (fate
 -- ---- an idle call
 
 module _ {D : Type 0} where
-  -- the packets that it was given are those that it listened to, and no input waits
-  pub record IdleListens (v : ℕ) (mid : TurnWorker D) (gave : List (List ℕ) → Type 0) (put : List Put → Type 0) (nones nones2 : ℕ) (given : List (List ℕ)) : Type 0 where
+  -- the packets that it was given are those that it listened to, what it put are the acknowledgements again, and no input waits
+  pub record IdleListens (v : ℕ) (mid : TurnWorker D) (gave : List (List ℕ) → Type 0) (put : List Put → Type 0) (nones nones2 : ℕ) (given : List (List ℕ)) (before last : List ℕ) : Type 0 where
     pub listened : Listened v mid.order gave put nones nones2 None
     pub given_is : given ≡ listened.passed ++ listened.last
+    pub before_are : again_puts v mid.order listened.passed ≡ map (ack_put v mid.order) before
+    pub last_are : last ≡ []
     pub no_input : slice_get mid.inputs.items (consumed_from mid.order outside) ≡ None
 
-  listens-by : (v : ℕ) (mid : TurnWorker D) (gave : List (List ℕ) → Type 0) (put : List Put → Type 0) (nones nones2 : ℕ) (given : List (List ℕ)) (found : Option Message) → chosen mid.inputs.items mid.order found ≡ None
-      → (listened : Listened v mid.order gave put nones nones2 found) → given ≡ listened.passed ++ listened.last → IdleListens v mid gave put nones nones2 given
-  listens-by v mid gave put nones nones2 given None is listened all = record { listened = listened; given_is = all; no_input = is }
-  listens-by v mid gave put nones nones2 given (Some m) is listened all = absurd cc
+  listens-by : (v : ℕ) (mid : TurnWorker D) (gave : List (List ℕ) → Type 0) (put : List Put → Type 0) (nones nones2 : ℕ) (given : List (List ℕ)) (before last : List ℕ) (found : Option Message) → chosen mid.inputs.items mid.order found ≡ None
+      → (listened : Listened v mid.order gave put nones nones2 found) → given ≡ listened.passed ++ listened.last → again_puts v mid.order listened.passed ≡ map (ack_put v mid.order) before → last ≡ [] → IdleListens v mid gave put nones nones2 given before last
+  listens-by v mid gave put nones nones2 given before last None is listened all puts none = record { listened = listened; given_is = all; before_are = puts; last_are = none; no_input = is }
+  listens-by v mid gave put nones nones2 given before last (Some m) is listened all puts none = absurd cc
 
 -- ---- a call of the handler
 
@@ -605,7 +607,7 @@ module _ {D O N : Type 0} (told : D → Option Story) (size count : D → ℕ) (
 
   pub idle_listens : (g : Game) (v : ℕ) (n : Node) (t mid t2 : TurnWorker D) (p : PatchWorker D) (s : SendWorker) (oracle oracle2 : O) (net net2 : N) (nones nones2 : ℕ) (whole : IsWhole told size g v n t p s) (same : IsSameWorker t t2) (news : HearsNews t mid)
       (takes : TakesTurn told size count fate g.handler (Drew clocks words g.handler oracle oracle2) (Ok Idle) mid t2 (given_between net net2) (put_between net net2) nones nones2) (fronts : AreFronts t2 p s)
-      → IdleListens v mid (given_between net net2) (put_between net net2) nones nones2 (turn_keeps_whole g v n t mid t2 p s oracle oracle2 net net2 (Ok Idle) nones nones2 whole same news takes fronts).given
+      → let lead = turn_keeps_whole g v n t mid t2 p s oracle oracle2 net net2 (Ok Idle) nones nones2 whole same news takes fronts in IdleListens v mid (given_between net net2) (put_between net net2) nones nones2 lead.given lead.before lead.last
   unfolding turn_keeps_whole took-from leads-from took-by idle-leads leads-by ready-by whole-heard heard-whole
   idle_listens g v n t mid t2 p s oracle oracle2 net net2 nones nones2 whole same news takes fronts =
       let drew : List ℕ → Type 0 = Drew clocks words g.handler oracle oracle2 in
@@ -620,5 +622,6 @@ module _ {D O N : Type 0} (told : D → Option Story) (size count : D → ℕ) (
       } in
       let heard_whole = whole-heard told size count fate drew g v p s n t mid whole news heard_fronts in
       let took = takes.came.took in
-      listens-by v mid gave put nones nones2 (turn_keeps_whole g v n t mid t2 p s oracle oracle2 net net2 (Ok Idle) nones nones2 whole same news takes fronts).given took.found took.chosen_is
-      (listened-by told size count fate drew g v p s gave n mid heard_whole put nones nones2 took.found took.listened) refl
+      let lead = turn_keeps_whole g v n t mid t2 p s oracle oracle2 net net2 (Ok Idle) nones nones2 whole same news takes fronts in
+      let listened = listened-by told size count fate drew g v p s gave n mid heard_whole put nones nones2 took.found took.listened in
+      listens-by v mid gave put nones nones2 lead.given lead.before lead.last took.found took.chosen_is listened refl (all-again v mid.order listened.passed).are refl

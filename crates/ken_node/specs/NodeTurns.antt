@@ -1,23 +1,25 @@
 -- What a turn of a node comes to, where its workers meet after it.
 use Rattle.std.specs.Prelude.{◌≡◌, ℕ, ◌+◌, ◌^◌, ◌≤◌, ◌⊎◌, List, [], ◌∷◌, ◌++◌, length, Option, Result, Ok, Err}
-use Rattle.std.specs.List.{AllByRecursion}
+use Rattle.std.specs.List.{AllByRecursion, Contains}
 use Rattle.ken_disk.specs.Story.{Story}
+use Rattle.ken_model.specs.declared.messages.Message.{Message}
 use Rattle.ken_model.specs.Game.{Game}
 use Rattle.ken_model.specs.Network.{inputs_for, outside}
 use Rattle.ken_record.specs.declared.effects.Effects.{Effects}
 use Rattle.ken_record.specs.declared.page.Page.{Page}
+use Rattle.ken_packet.specs.Reading.{packet_of}
 use Rattle.ken_net.specs.Counts.{risen}
 use Rattle.ken_net.specs.Puts.{Put}
 use Rattle.ken_core.specs.declared.events.Event.{Event}
 use Rattle.ken_core.specs.declared.events.Told.{Told}
 use Rattle.ken_core.specs.Calls.{IsIdle, IsNone, IsTurn, seal, turnover}
 use Rattle.ken_core.specs.Nodes.{Node}
-use Rattle.ken_core.specs.Packets.{Packet, Mail, Answer, Outgoing, nothing}
+use Rattle.ken_core.specs.Packets.{Packet, Mail, Answer, Outgoing, nothing, receipt_of}
 use Rattle.ken_core.specs.Turns.{consumed_from}
 use Rattle.ken_ship.specs.declared.faults.NodeFault.{NodeFault}
 use Rattle.ken_ship.specs.declared.faults.NodeFault.TheVariants.{Disk, Damaged, Outlet, Memory}
 use Rattle.ken_ship.specs.declared.hearing.TheConstants.{MOST_TAKEN}
-use Rattle.ken_ship.specs.Laws.{packets_from}
+use Rattle.ken_ship.specs.Laws.{packet_from, packets_from}
 use Rattle.ken_node.specs.declared.stage.Stage.{Stage}
 use Rattle.ken_node.specs.declared.took.Took.{Took}
 use Rattle.ken_node.specs.declared.took.Took.TheVariants.{Turn, Idle, Capped}
@@ -32,6 +34,13 @@ use Rattle.ken_node.specs.Workers.{HearsNews}
 abbrev pub IsNotNext : ℕ → Node → Packet → Type 0
 IsNotNext v n (Mail m) = m.to ≡ v → m.number ≡ consumed_from m.from n.turning.turns + 1 → 2 ^ 63 ≤ m.stamp
 IsNotNext v n (Answer a) = Unit {0}
+
+-- one of these puts acknowledges to a node all that node v, which is n now, has consumed of its messages
+pub record IsAnsweredIn (g : Game) (v : ℕ) (n : Node) (puts : List Put) (from : ℕ) : Type 0 where
+  pub put : Put
+  pub one : Contains puts put
+  pub packet : packet_from g.nodes (packet_of put.bytes) ≡ Answer (receipt_of v from n) ∷ []
+  pub to : put.to ≡ from
 
 module _ {D : Type 0} (told : D → Option Story) (size : D → ℕ) (g : Game) (v : ℕ) (n : Node) (gave : List (List ℕ) → Type 0) (put : List Put → Type 0) where
   -- a call of the handler: its events lead to a node that is up
@@ -51,19 +60,25 @@ module _ {D : Type 0} (told : D → Option Story) (size : D → ℕ) (g : Game) 
     pub drawn : drew turn.draws
 
   -- nothing waits: none of the packets is a next mail, they were taken until the count of those that weren't given rose or 4,096
-  -- were, and all inputs are consumed
+  -- were, and all inputs are consumed. Mail that was consumed before is acknowledged again, at most one put was made for each packet,
+  -- and the node has the same turns and has come as far with what it sent and output
   pub record IdleSteps (nones nones2 : ℕ) (handler : TurnWorker D) (stage : Stage D) : Type 0 where
     pub call : HandlerSteps (IsIdle v (is_full handler.side)) stage
     pub most : length call.given ≤ MOST_TAKEN
     pub until : (length call.given ≡ MOST_TAKEN) ⊎ (risen nones ≤ nones2)
     pub none_next : AllByRecursion (IsNotNext v call.steps.after) (packets_from g.nodes call.given)
     pub no_input : length (inputs_for g v) ≤ consumed_from outside call.steps.after.turning.turns
+    pub few : length call.puts ≤ length call.given
+    pub again : (m : Message) → Contains (packets_from g.nodes call.given) (Mail m) → m.to ≡ v → m.number ≤ consumed_from m.from n.turning.turns → IsAnsweredIn g v n call.puts m.from
+    pub same_turns : call.steps.after.turning.turns ≡ n.turning.turns
+    pub same_sending : call.steps.after.sending ≡ n.sending
 
   -- the node makes no more turns, as the handler finds with all that it was told
   pub record CappedSteps (handler : TurnWorker D) (stage : Stage D) : Type 0 where
     pub none_given : gave []
     pub none_put : put []
     pub steps : Steps told size g v n [] [] IsNone nothing stage
+    pub same : steps.after ≡ n
     pub heard : TurnWorker D
     pub hears : HearsNews handler heard
     pub capped : IsCapped heard

@@ -4,6 +4,7 @@
 mod calls;
 mod capped;
 mod effects;
+mod far;
 mod faults;
 mod hearing;
 mod inputs;
