@@ -25,3 +25,4 @@ pub mod Synced
 pub mod NodeCalls
 pub mod NodeTurns
 pub mod DownLaws
+pub mod Remaining

@@ -10,6 +10,7 @@ mod hearing;
 mod inputs;
 mod items;
 mod laws;
+mod left;
 mod listening;
 mod making;
 mod meeting;

@@ -23,7 +23,7 @@ impl<D: Disk> Node<D> {
     ghost use Rattle.ken_ship.specs.Outlets.{also_took};
     ghost use Rattle.ken_node.specs.NodeCalls.{DisksFailBy, EmitStepsBy, HearSteps, PatchStepsBy, SendSteps, SettleStepsBy, UnlessMemory};
     ghost use Rattle.ken_node.specs.NodeTurns.{TurnStepsBy};
-    ghost use Rattle.ken_node.specs.Stages.{HasDisks, emissions_in};
+    ghost use Rattle.ken_node.specs.Stages.{HasDisks, emissions_in, refusals_in};
     ghost use Rattle.ken_node.specs.Synced.{IsSynced};
     ghost use Rattle.ken_node.specs.Up.{IsUp, MayBeCalled, MayBeCalledOn, MayTakeTurns};
 
@@ -42,6 +42,7 @@ impl<D: Disk> Node<D> {
         ensures disks { (old new : Disks D) → HasDisks old self.old.stage → HasDisks new self.new.stage → DisksFailBy D.told D.faults D.fate result old new }
         ensures synced { (g : Game) (v : ℕ) (n : core.Node) → IsUp D.told D.size g v n self.old.stage → A.handler app.now ≡ g.handler → IsSynced D.told D.faults g v self.old.stage → UnlessMemory result (IsSynced D.told D.faults g v self.new.stage) }
         ensures emissions { emissions_in self.new.stage ≡ emissions_in self.old.stage }
+        ensures refusals { refusals_in self.new.stage ≡ refusals_in self.old.stage }
         ensures end { (N.node net.new ≡ N.node net.old) × (N.nodes net.new ≡ N.nodes net.old) }
         ensures clocks_go_on { HasAnswered (O.telling.clocks oracle.old) (O.telling.clocks oracle.new) }
         ensures words_go_on { HasAnswered (O.telling.words oracle.old) (O.telling.words oracle.new) }
@@ -64,6 +65,7 @@ impl<D: Disk> Node<D> {
         ensures disks { (old new : Disks D) → HasDisks old self.old.stage → HasDisks new self.new.stage → DisksFailBy D.told D.faults D.fate result old new }
         ensures synced { (g : Game) (v : ℕ) → IsSynced D.told D.faults g v self.old.stage → IsSynced D.told D.faults g v self.new.stage }
         ensures emissions { emissions_in self.new.stage ≡ emissions_in self.old.stage }
+        ensures refusals { refusals_in self.new.stage ≡ refusals_in self.old.stage }
     {
         match &mut self.stage {
             Stage::Created(turns, patches, sends) => together::patch(turns, patches, sends),
@@ -79,6 +81,7 @@ impl<D: Disk> Node<D> {
         ensures disks { (old new : Disks D) → HasDisks old self.old.stage → HasDisks new self.new.stage → DisksFailBy D.told D.faults D.fate result old new }
         ensures synced { (g : Game) (v : ℕ) → IsSynced D.told D.faults g v self.old.stage → IsSynced D.told D.faults g v self.new.stage }
         ensures emissions { emissions_in self.new.stage ≡ emissions_in self.old.stage }
+        ensures refusals { refusals_in self.new.stage ≡ refusals_in self.old.stage }
     {
         match &mut self.stage {
             Stage::Created(turns, patches, sends) => together::settle(turns, patches, sends),
@@ -94,6 +97,7 @@ impl<D: Disk> Node<D> {
         ensures disks { (old new : Disks D) → HasDisks old self.old.stage → HasDisks new self.new.stage → new ≡ old }
         ensures synced { (g : Game) (v : ℕ) → IsSynced D.told D.faults g v self.old.stage → IsSynced D.told D.faults g v self.new.stage }
         ensures emissions { emissions_in self.new.stage ≡ emissions_in self.old.stage }
+        ensures refusals { refusals_in self.new.stage ≡ refusals_in self.old.stage }
         ensures end { (N.node net.new ≡ N.node net.old) × (N.nodes net.new ≡ N.nodes net.old) }
         ensures given { N.given_between net.old net.new [] }
         ensures nones { N.nones net.new ≡ N.nones net.old }
@@ -112,6 +116,7 @@ impl<D: Disk> Node<D> {
         ensures disks { (old new : Disks D) → HasDisks old self.old.stage → HasDisks new self.new.stage → new ≡ old }
         ensures synced { (g : Game) (v : ℕ) → IsSynced D.told D.faults g v self.old.stage → IsSynced D.told D.faults g v self.new.stage }
         ensures emissions { OnOk result (emissions_in self.new.stage ≡ emissions_in self.old.stage) }
+        ensures refusals { OnOk result (refusals_in self.new.stage ≡ refusals_in self.old.stage) }
         ensures end { (N.node net.new ≡ N.node net.old) × (N.nodes net.new ≡ N.nodes net.old) }
         ensures put { N.put_between net.old net.new [] }
     {

@@ -37,6 +37,7 @@ pub(crate) fn patch<D: Disk>(
     ensures steps { (g : Game) (v : ℕ) (n : Node) → IsUp D.told D.size g v n (Created turns.old patches.old sends.old) → PatchStepsBy D.told D.size result g v n (Created turns.new patches.new sends.new) }
     ensures disks { DisksFailBy D.told D.faults D.fate result (disks_apart turns.old.side patches.old.side) (disks_apart turns.new.side patches.new.side) }
     ensures emissions { (part_of sends.new).emissions ≡ (part_of sends.old).emissions }
+    ensures refusals { (part_of sends.new).refusals ≡ (part_of sends.old).refusals }
 {
     let answer = patches.patch_once();
     meet(turns, patches, sends)?;
@@ -54,6 +55,7 @@ pub(crate) fn settle<D: Disk>(
     ensures steps { (g : Game) (v : ℕ) (n : Node) → IsUp D.told D.size g v n (Created turns.old patches.old sends.old) → SettleStepsBy D.told D.size result g v n (Created turns.new patches.new sends.new) }
     ensures disks { DisksFailBy D.told D.faults D.fate result (disks_apart turns.old.side patches.old.side) (disks_apart turns.new.side patches.new.side) }
     ensures emissions { (part_of sends.new).emissions ≡ (part_of sends.old).emissions }
+    ensures refusals { (part_of sends.new).refusals ≡ (part_of sends.old).refusals }
 {
     let answer = patches.settle();
     meet(turns, patches, sends)?;
@@ -71,6 +73,7 @@ pub(crate) fn send<D: Disk, N: Net>(
     ensures steps { (g : Game) (v : ℕ) (n : Node) → IsUp D.told D.size g v n (Created turns.old patches.old sends.old) → OnOk result (SendSteps D.told D.size g v n (N.put_between net.old net.new) (Created turns.new patches.new sends.new)) }
     ensures disks { disks_apart turns.new.side patches.new.side ≡ disks_apart turns.old.side patches.old.side }
     ensures emissions { (part_of sends.new).emissions ≡ (part_of sends.old).emissions }
+    ensures refusals { (part_of sends.new).refusals ≡ (part_of sends.old).refusals }
     ensures end { (N.node net.new ≡ N.node net.old) × (N.nodes net.new ≡ N.nodes net.old) }
     ensures given { N.given_between net.old net.new [] }
     ensures nones { N.nones net.new ≡ N.nones net.old }
@@ -91,6 +94,7 @@ pub(crate) fn hear<D: Disk, N: Net>(
     ensures steps { (g : Game) (v : ℕ) (n : Node) → IsUp D.told D.size g v n (Created turns.old patches.old sends.old) → OnOk result (HearSteps D.told D.size g v n (N.given_between net.old net.new) (N.nones net.old) (N.nones net.new) (Created turns.new patches.new sends.new)) }
     ensures disks { disks_apart turns.new.side patches.new.side ≡ disks_apart turns.old.side patches.old.side }
     ensures emissions { OnOk result ((part_of sends.new).emissions ≡ (part_of sends.old).emissions) }
+    ensures refusals { OnOk result ((part_of sends.new).refusals ≡ (part_of sends.old).refusals) }
     ensures end { (N.node net.new ≡ N.node net.old) × (N.nodes net.new ≡ N.nodes net.old) }
     ensures put { N.put_between net.old net.new [] }
 {
@@ -131,6 +135,7 @@ pub(crate) fn turn<D: Disk, N: Net, A: App, O: Oracle>(
     ensures disks { DisksFailBy D.told D.faults D.fate result (disks_apart turns.old.side patches.old.side) (disks_apart turns.new.side patches.new.side) }
     ensures synced { (g : Game) (v : ℕ) (n : Node) → IsUp D.told D.size g v n (Created turns.old patches.old sends.old) → A.handler app.now ≡ g.handler → LeavesSynced D.told D.faults g v (disks_apart turns.old.side patches.old.side) → UnlessMemory result (LeavesSynced D.told D.faults g v (disks_apart turns.new.side patches.new.side)) }
     ensures emissions { (part_of sends.new).emissions ≡ (part_of sends.old).emissions }
+    ensures refusals { (part_of sends.new).refusals ≡ (part_of sends.old).refusals }
     ensures end { (N.node net.new ≡ N.node net.old) × (N.nodes net.new ≡ N.nodes net.old) }
     ensures clocks_go_on { HasAnswered (O.telling.clocks oracle.old) (O.telling.clocks oracle.new) }
     ensures words_go_on { HasAnswered (O.telling.words oracle.old) (O.telling.words oracle.new) }
