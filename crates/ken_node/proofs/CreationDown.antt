@@ -35,6 +35,7 @@ use Rattle.ken_node.specs.Workers.{first}
 use Rattle.ken_node.proofs.Finding.{some_of}
 use Rattle.ken_node.proofs.InputsOf.{inputs_are}
 use Rattle.ken_node.proofs.NewWhole.{first-reads, first-sent, first-state, heap-sized, none-counted}
+use Rattle.ken_node.proofs.Paced.{paced-first}
 use Rattle.std.proofs.lemmas.List.{length-replicate}
 use Rattle.ken_links.specs.declared.push_end.PushEnd.{PushEnd}
 use Rattle.ken_links.specs.declared.pop_end.PopEnd.{PopEnd}
@@ -64,6 +65,7 @@ first-told g v = record {
   state = first-state g v;
   sent = first-sent g v;
   width = length-replicate {A = ℕ} g.nodes 0;
+  paced = paced-first (owner_of g v);
 }
 
 first-possible : (g : Game) (image : List ℕ) → IsWithinLimits g → HoldsFirst (heap_pages g) image → IsPossible (first_node g).patching (take g.size image)

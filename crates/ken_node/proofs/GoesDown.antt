@@ -201,6 +201,7 @@ module _ {D : Type 0} (told : D → Option Story) (size : D → ℕ) (g : Game) 
           state = subst (λ (k : ℕ). IsStateOf g v (recovered_node over) (state_of k t.side.numbers t.side.log.base t.side.records.items)) node state;
           sent = record { acked = w.log.sent.acked; emitted = w.log.sent.emitted };
           width = w.log.width;
+          paced = w.log.paced;
         }
 
     -- where nothing landed, the log tells the node as it was

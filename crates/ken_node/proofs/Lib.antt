@@ -30,6 +30,7 @@ pub mod EmissionsWhole
 pub mod MeetingWhole
 pub mod Runs
 pub mod NumbersAfter
+pub mod Paced
 pub mod StateAfter
 pub mod NextMails
 pub mod TurnoversWhole
@@ -48,6 +49,8 @@ pub mod TurnSpelled
 pub mod Quietly
 pub mod Again
 pub mod UpNumbers
+pub mod Bounds
+pub mod Over
 pub mod TurnSteps
 pub mod GoesDown
 pub mod CreationDown

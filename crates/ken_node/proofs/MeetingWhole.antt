@@ -51,7 +51,7 @@ module _ {D : Type 0} (told : D → Option Story) (size : D → ℕ) (g : Game) 
           joined = joined;
           working = subst (Working told size g.handler) (sym rest) (record { side = k.side; idle = k.idle; node = k.node; nodes = k.nodes; order = k.order; count = k.count; heap = k.heap });
           turns = subst (HasTurns v n) (sym rest) (record { kept = w.turns.kept; counted = w.turns.counted; reads = w.turns.reads });
-          log = subst (TellsState g v n) (sym rest) (record { state = w.log.state; sent = w.log.sent; width = w.log.width });
+          log = subst (TellsState g v n) (sym rest) (record { state = w.log.state; sent = w.log.sent; width = w.log.width; paced = w.log.paced });
           sends = due;
           settled = settled;
           progress = progress;

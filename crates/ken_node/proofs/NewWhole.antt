@@ -28,9 +28,10 @@ use Rattle.ken_ship.specs.Parts.{Part}
 use Rattle.ken_ship.proofs.Emissions.{nothing_is_due_first}
 use Rattle.ken_ship.proofs.Numbered.{drop_nothing}
 use Rattle.ken_node.specs.declared.items.Told.{Told}
-use Rattle.ken_node.specs.Created.{nothing_told}
+use Rattle.ken_node.specs.Created.{nothing_told, owner_of}
 use Rattle.ken_node.specs.NewLaws.{NewAreWhole}
 use Rattle.ken_node.specs.Whole.{AreNumbersOf, HasReached, IsSettledAt, WereTold}
+use Rattle.ken_node.proofs.Paced.{paced-new}
 
 -- zeros
 pub zero-at : (n u : ℕ) → slice_index (replicate n 0) u ≡ 0
@@ -107,6 +108,7 @@ module _ {D : Type 0} (told : D → Option Story) (size : D → ℕ) where
             state = subst (IsStateOf g v (recovered_node n)) (sym state) (first-state g v);
             sent = first-sent g v;
             width = length-replicate {A = ℕ} g.nodes 0;
+            paced = paced-new (owner_of g v) t.side new.new;
           };
           sends = record {
             queue = [];

@@ -52,6 +52,7 @@ module _ {D : Type 0} (told : D → Option Story) (size : D → ℕ) (g : Game) 
           state = record { width = tells.width; sent = tells.sent; messages = tells.messages; outputs = tells.outputs; outs = tells.outs };
           sent = record { acked = w.log.sent.acked; emitted = w.log.sent.emitted };
           width = w.log.width;
+          paced = w.log.paced;
         };
         sends = record {
           queue = w.sends.queue;

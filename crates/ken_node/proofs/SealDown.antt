@@ -53,6 +53,7 @@ use Rattle.ken_node.specs.TurnLaws.{turn_made}
 use Rattle.ken_node.specs.Whole.{IsWhole}
 use Rattle.ken_node.specs.Workers.{next}
 use Rattle.ken_node.proofs.GoesDown.{FoundLog, LeavesLogs, comes, finds-current, found-over, is-down, leaves-by, live-recounted, log-of, older-passed, owner-is, possible-now}
+use Rattle.ken_node.proofs.Paced.{paced-more}
 use Rattle.ken_node.proofs.PatchesWhole.{covers-node}
 use Rattle.ken_node.proofs.SealsWhole.{after, begun-heap, comes-of, coming, counted-after, handler-made, number-is, own-after, sent-after, stands-after, state-after, turn, turns-are}
 use Rattle.ken_node.proofs.ShortMails.{came-short}
@@ -108,8 +109,8 @@ module _ {D : Type 0} (told : D → Option Story) (size : D → ℕ) (g : Game) 
       ∙ sym (live_more head base turns t.side.records.items its) in
       ap (map recounted) live ∙ live-recounted head base turns (t.side.records.items ++ its ∷ []) whole.workers.working.side.turns
 
-  tells-then : TellsNode g v landed log-then
-  tells-then =
+  tells-then : length t.side.records.items < 32 → TellsNode g v landed log-then
+  tells-then room =
       let w = whole.workers in
       let owner : begun.owner ≡ owner_of g v = made.same.owner ∙ owner-is told size g v n t p s w whole.pages.turning in
       let before : numbers_of begun.owner t.side.log.header t.side.log.base t.side.records.items ≡ Ok begun.numbers =
@@ -123,10 +124,11 @@ module _ {D : Type 0} (told : D → Option Story) (size : D → ℕ) (g : Game) 
         state = state-after told size g v n t p s whole m e begun made may;
         sent = sent-after told size g v n t p s whole m e begun made may;
         width = w.log.width;
+        paced = paced-more t.side.log.header t.side.records.items its w.log.paced room;
       }
 
   -- what a crash leaves while the seal is in doubt: the log without the record or with it
-  module _ (count : D → ℕ) (fate : D → Option Fate) (given : List Packet) (short : IsShortText m.bytes) (sealable : MaySeal g (Contains given) v n m.from e.draws (coming_pages begun) (turn_made m e made.effect)) (new : TurnSide D)
+  module _ (count : D → ℕ) (fate : D → Option Fate) (given : List Packet) (room : length t.side.records.items < 32) (short : IsShortText m.bytes) (sealable : MaySeal g (Contains given) v n m.from e.draws (coming_pages begun) (turn_made m e made.effect)) (new : TurnSide D)
       (sealing : SealsTurn told size count fate {T = Unit {0}} (Err store.Disk) e begun new) (none_or_whole : IsNoneOrWhole told new.other) where
     abbrev doubt : Doubt
     doubt = seal m.from e.draws (coming_pages begun)
@@ -170,7 +172,7 @@ module _ {D : Type 0} (told : D → Option Story) (size : D → ℕ) (g : Game) 
           comes_out = (turn_made m e made.effect, (sealable, refl));
           last = (t.side.records.items, (its, (refl, turns-are told size g v n t p s whole m e begun made may)));
           sound = sound-then short;
-          tells = tells-then;
+          tells = tells-then room;
           finds = finds-current (owner_of g v) log-then passes.owned new.which log other (with_it ∙ ap (with_record its) mounted) older;
           possible = record { size = possible.size; same = possible.same };
         })
@@ -196,4 +198,4 @@ module _ {D O N : Type 0} (told : D → Option Story) (size count : D → ℕ) (
       let given : List Packet = packets_from g.nodes doubts.before.given in
       let may = subst (λ (x : Turn). MaySeal g (Contains given) v node m.from d.effects.draws (coming_pages d.begun) x) doubts.turn_is doubts.may in
       let short : IsShortText m.bytes = came-short g doubts.before.given v m limits may.came in
-      seal-down told size g v node mid p s whole m d.effects d.begun d.made d.seals.may count fate given short may t2.side d.seals none_or_whole t2 refl d.quiet limits known tell
+      seal-down told size g v node mid p s whole m d.effects d.begun d.made d.seals.may count fate given doubts.room short may t2.side d.seals none_or_whole t2 refl d.quiet limits known tell

@@ -57,6 +57,7 @@ use Rattle.ken_node.specs.TurnLaws.{turn_made}
 use Rattle.ken_node.specs.Whole.{AreNumbersOf, HasReached, IsSettledAt, IsWhole, WereTold}
 use Rattle.ken_node.specs.Workers.{Working}
 use Rattle.ken_node.proofs.NumbersAfter.{numbers-after, outs-push}
+use Rattle.ken_node.proofs.Paced.{paced-sealed}
 use Rattle.ken_node.proofs.Queued.{with_turns-append}
 use Rattle.ken_node.proofs.StateAfter.{messages-one, messages-push, state-outs-push}
 use Rattle.ken_node.proofs.Told.{all_by, told-by}
@@ -266,7 +267,7 @@ module _ {D : Type 0} (told : D → Option Story) (size : D → ℕ) (g : Game) 
 
   -- ---- and it was sealed
 
-  module _ (t2 : TurnWorker D) (is : IsSealed e begun (coming_turn begun) (coming_pages begun) t2.side) (owner : t2.side.owner ≡ begun.owner) (kept : IsKept (coming_turn begun) m e begun t t2) (working : Working told size g.handler t2) (joined : AreJoined t2 p s) where
+  module _ (t2 : TurnWorker D) (room : length t.side.records.items < 32) (is : IsSealed e begun (coming_turn begun) (coming_pages begun) t2.side) (owner : t2.side.owner ≡ begun.owner) (kept : IsKept (coming_turn begun) m e begun t t2) (working : Working told size g.handler t2) (joined : AreJoined t2 p s) where
     owner-is : t2.side.owner ≡ t.side.owner
     owner-is = owner ∙ made.same.owner
 
@@ -336,6 +337,7 @@ module _ {D : Type 0} (told : D → Option Story) (size : D → ℕ) (g : Game) 
               state = subst (IsStateOf g v (recovered_node after)) (sym state-then) state-after;
               sent = sent-after;
               width = w.log.width;
+              paced = paced-sealed t.side begun t2.side e (coming_pages begun) w.log.paced room made.same is;
             };
             sends = record {
               queue = w.sends.queue ++ kept.handed ∷ [];

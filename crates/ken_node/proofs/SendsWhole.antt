@@ -58,7 +58,7 @@ module _ {D : Type 0} (told : D → Option Story) (size : D → ℕ) (g : Game) 
           joined = joined-sender t p s s2 w.joined same;
           working = w.working;
           turns = record { kept = w.turns.kept; counted = w.turns.counted; reads = w.turns.reads };
-          log = record { state = w.log.state; sent = w.log.sent; width = w.log.width };
+          log = record { state = w.log.state; sent = w.log.sent; width = w.log.width; paced = w.log.paced };
           sends = due;
           settled = told-by (IsSettledAt n) (IsSettledAt n2) (pushed p.settled) (popped t.settled) t.told.settled (λ x is. record { made = is.made; clean = is.clean }) w.settled;
           progress = progress;

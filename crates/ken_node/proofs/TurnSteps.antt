@@ -52,12 +52,13 @@ use Rattle.ken_node.specs.Workers.{HearsNews, IsSameWorker}
 use Rattle.ken_node.proofs.Again.{again-answered, again-few}
 use Rattle.ken_node.proofs.MeetingDown.{meeting_stays_down}
 use Rattle.ken_node.proofs.OtherDisk.{other_stays}
+use Rattle.ken_node.proofs.Over.{capped_over}
 use Rattle.ken_node.proofs.Quietly.{idle_keeps_sending, idle_keeps_turns}
 use Rattle.ken_node.proofs.Rings.{ring-popped, ring-pushed}
 use Rattle.ken_node.proofs.TurnDisks.{disk-failed, turn-disks, turn-told}
 use Rattle.ken_node.proofs.TurnDown.{turn_goes_down}
 use Rattle.ken_node.proofs.TurnSpelled.{handler-spelled}
-use Rattle.ken_node.proofs.TurnsWhole.{idle_listens, turn_keeps_whole}
+use Rattle.ken_node.proofs.TurnsWhole.{heard-whole, idle_listens, turn_keeps_whole}
 use Rattle.ken_node.proofs.Up.{AreUp, met-disks, met-fronts, met-up}
 
 -- the workers are joined still, so they may meet
@@ -253,6 +254,7 @@ module _ {D O N : Type 0} (told : D → Option Story) (size count : D → ℕ) (
         heard = mid;
         hears = news;
         capped = takes.capped;
+        over = capped_over told size g v n mid p s (heard-whole told size count fate clocks words given_between put_between g v n t mid t1 p s oracle oracle2 net net2 (Ok Capped) nones nones2 up.whole news takes fronts) heard-tell takes.capped;
       }
 
   -- ---- one in which a disk failed

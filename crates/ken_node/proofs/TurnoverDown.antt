@@ -52,6 +52,7 @@ use Rattle.ken_node.specs.Sealing.{RenewsBy, TurnsOver, is_full}
 use Rattle.ken_node.specs.TurnLaws.{told_of}
 use Rattle.ken_node.specs.Whole.{IsWhole}
 use Rattle.ken_node.proofs.GoesDown.{FoundLog, LeavesLogs, comes, finds-current, finds-other, found-over, is-down, leaves-by, log-of, older-passed, owner-is, possible-now}
+use Rattle.ken_node.proofs.Paced.{paced-next}
 use Rattle.ken_node.proofs.PatchesWhole.{covers-node}
 use Rattle.ken_node.proofs.TurnoversWhole.{joined-side, of-run-side, raised-long, sent-turned, state-turned, turned}
 
@@ -111,8 +112,8 @@ module _ {D : Type 0} (told : D → Option Story) (size : D → ℕ) (g : Game) 
       ∙ ap (again (changes_kept t.side t.told.settled)) (sym turns-then)
       ∙ ap (λ (cs : List Change). record { turn = head.turns; changes = cs } ∷ []) (recount-kept head.turns (changes_kept t.side t.told.settled))
 
-  tells-then : TellsNode g v landed log-then
-  tells-then =
+  tells-then : is_full t.side ≡ true → TellsNode g v landed log-then
+  tells-then full =
       let w = whole.workers in
       let node : t.side.owner.node ≡ v = w.working.node ∙ w.of_run.node in
       let state : IsStateOf g v (recovered_node landed) (state_of t.side.owner.node t.side.numbers (Some base) []) =
@@ -125,10 +126,11 @@ module _ {D : Type 0} (told : D → Option Story) (size : D → ℕ) (g : Game) 
         state = subst (λ (k : ℕ). IsStateOf g v (recovered_node landed) (state_of k t.side.numbers (Some base) [])) node state;
         sent = sent-turned told size g v n t t p s whole;
         width = raised-long told size g v n.turning.retired (told_of g t).acked ∙ w.log.width;
+        paced = paced-next t.side base w.log.paced full;
       }
 
   -- what a crash leaves while the turnover is in doubt: the log that was, or the new one on the other disk
-  module _ (count : D → ℕ) (fate : D → Option Fate) (given : List Packet) (new : TurnSide D) (over : TurnsOver told size count fate {T = Unit {0}} (Err store.Disk) t new) (none_or_whole : IsNoneOrWhole told t.side.other) where
+  module _ (count : D → ℕ) (fate : D → Option Fate) (given : List Packet) (full : is_full t.side ≡ true) (new : TurnSide D) (over : TurnsOver told size count fate {T = Unit {0}} (Err store.Disk) t new) (none_or_whole : IsNoneOrWhole told t.side.other) where
     abbrev doubt : Doubt
     doubt = turnover (told_of g t)
 
@@ -168,7 +170,7 @@ module _ {D : Type 0} (told : D → Option Story) (size : D → ℕ) (g : Game) 
           comes_out = (may, refl);
           last = tt;
           sound = sound-then;
-          tells = tells-then;
+          tells = tells-then full;
           finds = finds-other (owner_of g v) log-then passes.owned new.which log other it (subst (IsOlder (owner_of g v) head) (sym mounted) (omega arith, passes.owned));
           possible = possible;
         })
@@ -179,15 +181,15 @@ module _ {D : Type 0} (told : D → Option Story) (size : D → ℕ) (g : Game) 
     turnover-leaves = leaves-by told g v given n doubt new.log.disk p.side.image.disk new.other new.which (λ l i o tl ti to a b c la ib oc. either-left l o i tl to ti a b c la ib oc)
 
   -- the log is only turned over where it is full
-  pub turnover-down : (count : D → ℕ) (fate : D → Option Fate) (given : List Packet) (full : Bool) (t2 : TurnWorker D) → t2 ≡ record t { side = t2.side } → RenewsBy told size count fate {T = Unit {0}} full (Err store.Disk) t t2.side
+  pub turnover-down : (count : D → ℕ) (fate : D → Option Fate) (given : List Packet) (full : Bool) (t2 : TurnWorker D) → is_full t.side ≡ full → t2 ≡ record t { side = t2.side } → RenewsBy told size count fate {T = Unit {0}} full (Err store.Disk) t t2.side
       → IsNoneOrWhole told t.side.other → IsWithinLimits g → v < g.nodes → AreTold told (disks_apart t2.side p.side) → IsDown told g v given n (turnover (told_of g t)) (Created t2 p s)
-  turnover-down count fate given false t2 rest renews none_or_whole limits known tell = absurd renews.0
-  turnover-down count fate given true t2 rest over none_or_whole limits known tell =
+  turnover-down count fate given false t2 is rest renews none_or_whole limits known tell = absurd renews.0
+  turnover-down count fate given true t2 is rest over none_or_whole limits known tell =
       let alone : t2 ≡ record t { side = t2.side; turns = t2.turns } = rest ∙ ap (λ (x : TurnWorker D). record t { side = t2.side; turns = x.turns }) (sym rest) in
       is-down told g v given n (turnover (told_of g t)) t2 p s limits known (of-run-side told size g v t t2 alone s over.unturned.owner whole.workers.of_run) (joined-side told size g v t t2 alone p s whole.workers.joined)
-      (ap (λ (x : TurnWorker D). x.turns.items) rest ∙ whole.workers.turns.kept) tell (turnover-leaves count fate given t2.side over none_or_whole)
+      (ap (λ (x : TurnWorker D). x.turns.items) rest ∙ whole.workers.turns.kept) tell (turnover-leaves count fate given is t2.side over none_or_whole)
 
 module _ {D O N : Type 0} (told : D → Option Story) (size count : D → ℕ) (fate : D → Option Fate) (clocks words : O → Option (List ℕ)) (given_between : N → N → List (List ℕ) → Type 0) (put_between : N → N → List Put → Type 0) where
   pub turnover_goes_down : TurnoverGoesDown told size count fate clocks words given_between put_between
   turnover_goes_down g v given n mid t2 p s oracle oracle2 net net2 limits known doubts in_doubt none_or_whole tell =
-      turnover-down told size g v n mid p s doubts.whole doubts.may count fate given (is_full mid.side) t2 in_doubt.rest in_doubt.renews none_or_whole limits known tell
+      turnover-down told size g v n mid p s doubts.whole doubts.may count fate given (is_full mid.side) t2 refl in_doubt.rest in_doubt.renews none_or_whole limits known tell

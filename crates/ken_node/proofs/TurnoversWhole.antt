@@ -1,5 +1,5 @@
 -- A whole node where its handler's side is as it was, and after a turnover.
-use Rattle.std.proofs.Common.{◌≡◌, ℕ, zero, suc, ◌+◌, ◌*◌, ◌<◌, ◌≤◌, max, List, [], ◌∷◌, ◌++◌, length, drop, slice_index, IsTrue, Option, Some, refl, sym, ap, subst, ◌∙◌, ⊎_elim, arith, zero-add}
+use Rattle.std.proofs.Common.{◌≡◌, ℕ, zero, suc, ◌+◌, ◌*◌, ◌<◌, ◌≤◌, max, List, [], ◌∷◌, ◌++◌, length, drop, slice_index, IsTrue, true, Option, Some, refl, sym, ap, subst, ◌∙◌, ⊎_elim, arith, zero-add}
 use Rattle.std.proofs.lemmas.Bool.{cases_lt}
 use Rattle.std.proofs.lemmas.List.{get_or_past}
 use Rattle.std.proofs.lemmas.List.FromFn.{get_or-map-range_with_len, length-map-range_with_len}
@@ -37,9 +37,11 @@ use Rattle.ken_node.specs.declared.worker.TurnWorker.{TurnWorker}
 use Rattle.ken_node.specs.Meeting.{AreJoined}
 use Rattle.ken_node.specs.Patches.{waits_of}
 use Rattle.ken_node.specs.TurnLaws.{told_of}
+use Rattle.ken_node.specs.Sealing.{is_full}
 use Rattle.ken_node.specs.Whole.{AreNumbersOf, AreOfRun, AreWorkersOf, HasReached, HasTurns, HavePages, IsSettledAt, IsWhole, TellsState, WereTold}
 use Rattle.ken_node.specs.Workers.{Working}
 use Rattle.ken_node.proofs.StateAfter.{outs-left, waiting-left}
+use Rattle.ken_node.proofs.Paced.{paced-still, paced-turned}
 use Rattle.ken_node.proofs.Told.{told-by}
 
 -- what a log tells depends on these alone
@@ -100,8 +102,8 @@ module _ {D : Type 0} (told : D → Option Story) (size : D → ℕ) (g : Game) 
 
     -- the side tells the same
     pub whole-still : (n : Node) (p : PatchWorker D) (s : SendWorker) → IsWhole told size g v n t p s → t2.turns.items ≡ t.turns.items → turn_pages t2.side ≡ turn_pages t.side → t2.side.objects.value ≡ t.side.objects.value → t2.side.owner ≡ t.side.owner
-        → t2.side.numbers ≡ t.side.numbers → t2.side.log.base ≡ t.side.log.base → t2.side.records.items ≡ t.side.records.items → Working told size g.handler t2 → IsWhole told size g v n t2 p s
-    whole-still n p s whole turns pages value owner numbers base records working =
+        → t2.side.numbers ≡ t.side.numbers → t2.side.log.header ≡ t.side.log.header → t2.side.log.base ≡ t.side.log.base → t2.side.records.items ≡ t.side.records.items → Working told size g.handler t2 → IsWhole told size g v n t2 p s
+    whole-still n p s whole turns pages value owner numbers head base records working =
         let w = whole.workers in
         let h = whole.pages in
         record {
@@ -111,7 +113,7 @@ module _ {D : Type 0} (told : D → Option Story) (size : D → ℕ) (g : Game) 
                 counted = subst (AreNumbersOf v n.turning.turns) (sym numbers) w.turns.counted;
                 reads = ap (λ (x : TurnPages). read_value x.heap) pages ∙ w.turns.reads ∙ ap (λ (x : Value). Some x) (sym value);
               })
-              (record { state = subst (IsStateOf g v (recovered_node n)) (sym (state-same t.side t2.side owner numbers base records)) w.log.state; sent = w.log.sent; width = w.log.width })
+              (record { state = subst (IsStateOf g v (recovered_node n)) (sym (state-same t.side t2.side owner numbers base records)) w.log.state; sent = w.log.sent; width = w.log.width; paced = paced-still t.side t2.side head records w.log.paced })
               (λ x is. is);
           pages = record {
             queue = h.queue;
@@ -201,8 +203,8 @@ module _ {D : Type 0} (told : D → Option Story) (size : D → ℕ) (g : Game) 
           emitted = let old = w.log.sent.emitted in let reached = w.progress.each.0.emitted in let most = w.sends.sent.emitted in omega (arith, old, reached, most);
         }
 
-    pub whole-turned : t2 ≡ record t { side = t2.side; turns = t2.turns } → t2.turns.items ≡ t.turns.items → IsTurned t.told.settled t.told.progress.acked t.told.progress.emitted t.side t2.side → Working told size g.handler t2 → IsWhole told size g v turned t2 p s
-    whole-turned rest kept is working =
+    pub whole-turned : is_full t.side ≡ true → t2 ≡ record t { side = t2.side; turns = t2.turns } → t2.turns.items ≡ t.turns.items → IsTurned t.told.settled t.told.progress.acked t.told.progress.emitted t.side t2.side → Working told size g.handler t2 → IsWhole told size g v turned t2 p s
+    whole-turned full rest kept is working =
         let w = whole.workers in
         let h = whole.pages in
         let count : heap_pages g ≡ t.side.owner.pages = let sized = w.of_run.size in omega (arith, sized) in
@@ -221,7 +223,7 @@ module _ {D : Type 0} (told : D → Option Story) (size : D → ℕ) (g : Game) 
                 counted = subst (AreNumbersOf v n.turning.turns) (sym is.numbers) w.turns.counted;
                 reads = ap (λ (x : TurnPages). read_value x.heap) is.live ∙ w.turns.reads ∙ ap (λ x. Some x.value) (sym is.objects);
               })
-              (record { state = subst (IsStateOf g v (recovered_node turned)) (sym is.state) state-turned; sent = sent-turned; width = raised-long n.turning.retired (told_of g t).acked ∙ w.log.width })
+              (record { state = subst (IsStateOf g v (recovered_node turned)) (sym is.state) state-turned; sent = sent-turned; width = raised-long n.turning.retired (told_of g t).acked ∙ w.log.width; paced = paced-turned t.side t2.side t.told.settled t.told.progress.acked t.told.progress.emitted w.log.paced full is })
               (λ x at. record { made = at.made; clean = turnover_keeps_settled (heap_pages g) t.told.settled (length n.turning.turns) x n.turning.pages n.patching at.clean });
           pages = record {
             queue = h.queue;

@@ -53,6 +53,7 @@ use Rattle.ken_node.specs.Workers.{HearsNews, IsSameWorker, Working}
 use Rattle.ken_node.proofs.MeetingWhole.{whole-handler}
 use Rattle.ken_node.proofs.NextMails.{AreAgain, WasConsumed, all-again, front-again, mail-given, next-mail}
 use Rattle.ken_node.proofs.NumbersAfter.{consumed-push}
+use Rattle.ken_node.proofs.Paced.{renewed-room}
 use Rattle.ken_node.proofs.Rings.{ring-popped, ring-pushed}
 use Rattle.ken_node.proofs.Runs.{MayAck, acks-each, acks-run, after-nothing, run-append}
 use Rattle.ken_node.proofs.SealsWhole.{IsNextOf, may-seal, whole-sealed}
@@ -153,9 +154,9 @@ module _ {D : Type 0} (told : D → Option Story) (size count : D → ℕ) (fate
   side-alone : (t mid : TurnWorker D) → mid ≡ record t { side = mid.side } → mid ≡ record t { side = mid.side; turns = mid.turns }
   side-alone t mid rest = rest ∙ ap (λ (x : TurnWorker D). record t { side = mid.side; turns = x.turns }) (sym rest)
 
-  renewed-by : (full : Bool) (n : Node) (t mid : TurnWorker D) → IsWhole told size g v n t p s → RenewsBy told size count fate {T = Unit {0}} full (Ok tt) t mid.side → mid ≡ record t { side = mid.side } → Working told size g.handler mid → HasRenewed full n mid
-  renewed-by true n t mid whole turns rest working =
-      let new = whole-turned told size g v n t mid p s whole (side-alone t mid rest) (ap (λ (x : TurnWorker D). x.turns.items) rest) turns.turned working in
+  renewed-by : (full : Bool) (n : Node) (t mid : TurnWorker D) → is_full t.side ≡ full → IsWhole told size g v n t p s → RenewsBy told size count fate {T = Unit {0}} full (Ok tt) t mid.side → mid ≡ record t { side = mid.side } → Working told size g.handler mid → HasRenewed full n mid
+  renewed-by true n t mid full whole turns rest working =
+      let new = whole-turned told size g v n t mid p s whole full (side-alone t mid rest) (ap (λ (x : TurnWorker D). x.turns.items) rest) turns.turned working in
       record {
         events = Turnover v Whole (told_of g t) ∷ [];
         is = (told_of g t, refl);
@@ -164,7 +165,7 @@ module _ {D : Type 0} (told : D → Option Story) (size count : D → ℕ) (fate
         same = refl;
         whole = new;
       }
-  renewed-by false n t mid whole none rest working =
+  renewed-by false n t mid full whole none rest working =
       let same : mid ≡ t = rest ∙ ap (λ (x : TurnSide D). record t { side = x }) none.1 in
       record { events = []; is = refl; after = n; run = λ put. (refl, refl); same = refl; whole = subst (λ (x : TurnWorker D). IsWhole told size g v n x p s) (sym same) whole }
 
@@ -268,8 +269,8 @@ module _ {D : Type 0} (told : D → Option Story) (size count : D → ℕ) (fate
       by true is = tt
       by false is = (⊎_elim (λ (low : from < g.nodes). (low, some)) (λ (out : from ≡ 255). absurd (false≢true (sym is ∙ eq-eqb from outside out))) sender, tt)
 
-  sealed-by : (n : Node) (mid t2 : TurnWorker D) (m : Message) (packets : List (List ℕ)) → IsWhole told size g v n mid p s → length n.turning.turns < g.turns → IsChosen n packets m → AreJoined t2 p s → RanTurn told size count fate g.handler drew m mid t2 → HasSealed n mid t2 m packets
-  sealed-by n mid t2 m packets whole few is joined ran =
+  sealed-by : (n : Node) (mid t2 : TurnWorker D) (m : Message) (packets : List (List ℕ)) → length mid.side.records.items < 32 → IsWhole told size g v n mid p s → length n.turning.turns < g.turns → IsChosen n packets m → AreJoined t2 p s → RanTurn told size count fate g.handler drew m mid t2 → HasSealed n mid t2 m packets
+  sealed-by n mid t2 m packets room whole few is joined ran =
       let put : Packet → Type 0 = Contains (packets_from g.nodes packets) in
       let e : Effects = ran.effects in
       let pages : List Page = coming_pages ran.begun in
@@ -282,7 +283,7 @@ module _ {D : Type 0} (told : D → Option Story) (size count : D → ℕ) (fate
         after = after;
         step = (made_turn, (may-seal told size g v n mid p s whole m e ran.begun ran.made ran.seals.may put few is.next, refl));
         last = last-may after m.from is.sender some;
-        whole = whole-sealed told size g v n mid p s whole m e ran.begun ran.made ran.seals.may t2 ran.seals.sealed ran.seals.others.owner ran.kept ran.working joined;
+        whole = whole-sealed told size g v n mid p s whole m e ran.begun ran.made ran.seals.may t2 room ran.seals.sealed ran.seals.others.owner ran.kept ran.working joined;
       }
 
   module _ (gave : List (List ℕ) → Type 0) (n : Node) (old : TurnWorker D) (whole : IsWhole told size g v n old p s) where
@@ -325,6 +326,7 @@ module _ {D : Type 0} (told : D → Option Story) (size count : D → ℕ) (fate
       was_put : put (map (ack_put v old.order) senders)
       idled : HasIdled (is_full old.side) n mid senders
       few : length idled.after.turning.turns < g.turns
+      room : length mid.side.records.items < 32
       takes : (m : Message) → message ≡ Some m → IsChosen idled.after packets m
 
     pub ready-by : (put : List Put → Type 0) (nones nones2 : ℕ) (mid : TurnWorker D) (message : Option Message) → Came told size count fate g.handler drew old mid gave put nones nones2 message → IsReady put mid message
@@ -332,7 +334,7 @@ module _ {D : Type 0} (told : D → Option Story) (size count : D → ℕ) (fate
         let listened = listened-by put nones nones2 came.took.found came.took.listened in
         let again = all-again v old.order listened.passed in
         let packets : List (List ℕ) = listened.passed ++ listened.last in
-        let before = idled-by (is_full old.side) n old mid again.senders whole (renewed-by (is_full old.side) n old mid whole came.renews came.rest came.working) again.each in
+        let before = idled-by (is_full old.side) n old mid again.senders whole (renewed-by (is_full old.side) n old mid refl whole came.renews came.rest came.working) again.each in
         record {
           packets = packets;
           given = listened.given;
@@ -340,6 +342,7 @@ module _ {D : Type 0} (told : D → Option Story) (size count : D → ℕ) (fate
           was_put = subst put again.are listened.acks;
           idled = before;
           few = let few = few-turns came.open_yet in let same = ap length before.same in omega (arith, few, same);
+          room = renewed-room told size count fate (is_full old.side) old mid.side refl whole.workers.working.side came.renews;
           takes = λ m is. chosen-same n before.after packets m before.same (chosen-next n old whole listened.passed listened.last nones nones2 (length listened.passed) came.took.found m listened.ends (came.took.chosen_is ∙ is));
         }
 
@@ -353,7 +356,7 @@ module _ {D : Type 0} (told : D → Option Story) (size count : D → ℕ) (fate
         → HandlerLeadsTo told size g v n (IsTurn v (is_full old.side)) gave put old t2 p s
     turn-leads put mid t2 m r joined ran =
         let given : Packet → Type 0 = Contains (packets_from g.nodes r.packets) in
-        let seal = sealed-by r.idled.after mid t2 m r.packets r.idled.whole r.few (r.takes m refl) joined ran in
+        let seal = sealed-by r.idled.after mid t2 m r.packets r.room r.idled.whole r.few (r.takes m refl) joined ran in
         let e : Event = Seal v m.from seal.draws seal.pages in
         let last : List ℕ = last_of m.from in
         let puts : answer_puts old.node t2.order m.from ≡ map (ack_put v t2.order) last = ap (λ (k : ℕ). answer_puts k t2.order m.from) node-is ∙ sym (last-puts v t2.order m.from) in
@@ -385,13 +388,13 @@ module _ {D : Type 0} (told : D → Option Story) (size count : D → ℕ) (fate
     }
 
     gave-up : (mid t2 : TurnWorker D) (n1 : Node) → IsWhole told size g v n1 mid p s → GaveUp told size count fate g.handler drew mid t2 → IsWhole told size g v n1 t2 p s
-    gave-up mid t2 n1 now up = whole-still told size g v mid t2 up.quiet.rest n1 p s now up.quiet.turns up.state.pages up.state.value up.state.node.owner up.state.numbers up.state.base up.state.records up.working
+    gave-up mid t2 n1 now up = whole-still told size g v mid t2 up.quiet.rest n1 p s now up.quiet.turns up.state.pages up.state.value up.state.node.owner up.state.numbers up.state.head up.state.base up.state.records up.working
 
     -- the turn was sealed, and its mail isn't acknowledged
     unacked-leads : (put : List Put → Type 0) (mid t2 : TurnWorker D) (m : Message) → IsReady put mid (Some m) → AreJoined t2 p s → RanTurn told size count fate g.handler drew m mid t2 → HandlerLeadsTo told size g v n (IsSomeOfTurn v (is_full old.side)) gave put old t2 p s
     unacked-leads put mid t2 m r joined ran =
         let given : Packet → Type 0 = Contains (packets_from g.nodes r.packets) in
-        let seal = sealed-by r.idled.after mid t2 m r.packets r.idled.whole r.few (r.takes m refl) joined ran in
+        let seal = sealed-by r.idled.after mid t2 m r.packets r.room r.idled.whole r.few (r.takes m refl) joined ran in
         let e : Event = Seal v m.from seal.draws seal.pages in
         let es : List Event = r.idled.events ++ e ∷ [] in
         let all : es ++ answer_to v m.from ≡ r.idled.events ++ e ∷ answer_to v m.from = append_assoc r.idled.events (e ∷ []) (answer_to v m.from) in
@@ -410,7 +413,7 @@ module _ {D : Type 0} (told : D → Option Story) (size count : D → ℕ) (fate
     some-leads : (put : List Put → Type 0) (t2 : TurnWorker D) (packets : List (List ℕ)) (puts : List Put) → gave packets → put puts → AreAgain v old.order puts → Renews told size count fate {T = Unit {0}} (Ok tt) old t2.side → t2 ≡ record old { side = t2.side }
         → Working told size g.handler t2 → HandlerLeadsTo told size g v n (IsSomeOfTurn v (is_full old.side)) gave put old t2 p s
     some-leads put t2 packets puts given was again renews rest working =
-        let before = idled-by (is_full old.side) n old t2 again.senders whole (renewed-by (is_full old.side) n old t2 whole renews rest working) again.each in
+        let before = idled-by (is_full old.side) n old t2 again.senders whole (renewed-by (is_full old.side) n old t2 refl whole renews rest working) again.each in
         leads-by put (IsSomeOfTurn v (is_full old.side)) t2 packets again.senders before.events before.after given (subst put again.are was) (some-of-turn (is_full old.side) before.events before.idle) (before.run (Contains (packets_from g.nodes packets))) before.whole
 
     -- a turnover that ran out of memory
@@ -418,7 +421,7 @@ module _ {D : Type 0} (told : D → Option Story) (size count : D → ℕ) (fate
         → HandlerLeadsTo told size g v n (IsSomeOfTurn v full) gave put old t2 p s
     unturned-leads put t2 true given was renews rest working =
         let is = renews.unturned in
-        let now = whole-still told size g v old t2 (side-alone old t2 rest) n p s whole (ap (λ (x : TurnWorker D). x.turns.items) rest) (unturned-pages old.side t2.side is) (ap (λ x. x.value) is.objects) is.owner is.numbers is.base is.records working in
+        let now = whole-still told size g v old t2 (side-alone old t2 rest) n p s whole (ap (λ (x : TurnWorker D). x.turns.items) rest) (unturned-pages old.side t2.side is) (ap (λ x. x.value) is.objects) is.owner is.numbers is.head is.base is.records working in
         let turn : List Event = Turnover v Whole (told_of g old) ∷ Seal v 0 [] [] ∷ answer_to v 0 in
         leads-by put (IsSomeOfTurn v true) t2 [] [] [] n given was
         (record {
@@ -464,6 +467,7 @@ module _ {D : Type 0} (told : D → Option Story) (size count : D → ℕ) (fate
       doubt = doubt;
       turn = turn_made m doubt.effects doubt.made.effect;
       turn_is = refl;
+      room = r.room;
       may = may-seal told size g v r.idled.after mid p s r.idled.whole m doubt.effects doubt.begun doubt.made doubt.seals.may (Contains (packets_from g.nodes r.packets)) r.few (r.takes m refl).next;
     }
 
@@ -506,6 +510,7 @@ module _ {D : Type 0} (told : D → Option Story) (size count : D → ℕ) (fate
     doubt = is.doubt;
     turn = is.turn;
     turn_is = is.turn_is;
+    room = is.room;
     may = is.may;
   }
 

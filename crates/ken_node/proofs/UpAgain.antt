@@ -59,6 +59,7 @@ use Rattle.ken_node.specs.declared.worker.TurnWorker.{TurnWorker}
 use Rattle.ken_node.specs.Created.{owner_of}
 use Rattle.ken_node.specs.Down.{IsOlder, Left, MountedLog}
 use Rattle.ken_node.specs.Meeting.{IsEmptied}
+use Rattle.ken_node.specs.Paced.{IsPaced}
 use Rattle.ken_node.specs.Restarts.{AreOfRestart, GoOnFrom, kept_turns}
 use Rattle.ken_node.specs.Whole.{AreNumbersOf, HasReached, IsSettledAt, IsWhole, WereTold}
 use Rattle.ken_node.specs.Workers.{ComesTo, Working}
@@ -330,6 +331,7 @@ module _ {D : Type 0} (told : D → Option Story) (size : D → ℕ) (g : Game) 
                 record { width = is.width; sent = is.sent; messages = is.messages; outputs = is.outputs; outs = is.outs };
             sent = record { acked = has-sent.acked; emitted = has-sent.emitted };
             width = left.tells.width;
+            paced = subst (λ (h : Header). IsPaced h t.side.records.items) (sym head-is) (subst (IsPaced k.head) (sym items-are) left.tells.paced);
           };
           sends = record {
             queue = [];

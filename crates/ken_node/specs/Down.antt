@@ -41,6 +41,7 @@ use Rattle.ken_node.specs.Created.{owner_of}
 use Rattle.ken_node.specs.First.{AreFirst}
 use Rattle.ken_node.specs.Meeting.{AreJoined, IsEmptied}
 use Rattle.ken_node.specs.News.{AreInputs}
+use Rattle.ken_node.specs.Paced.{IsPaced}
 use Rattle.ken_node.specs.Stages.{HasDisks, turns_in}
 use Rattle.ken_node.specs.Whole.{AreNumbersOf, AreOfRun}
 use Rattle.ken_node.specs.Workers.{ComesTo}
@@ -66,7 +67,8 @@ pub record Finds (o : Owner) (log second : List ℕ) (k : MountedLog) : Type 0 w
   pub owned : is_owned o k.head ≡ true
   pub other : IsOlder o k.head (mount_of (log_on (other_log which) log second))
 
--- the log tells node v: how far it has come, its live records, and all that it sent and output but for what is retired
+-- the log tells node v: how far it has come, its live records, and all that it sent and output but for what is retired. It holds few
+-- records, and as many turns were made as the logs before it take
 pub record TellsNode (g : Game) (v : ℕ) (n : Node) (k : MountedLog) : Type 0 where
   pub numbers : Numbers
   pub numbers_are : numbers_of (owner_of g v) k.head k.base k.records ≡ Ok numbers
@@ -75,6 +77,7 @@ pub record TellsNode (g : Game) (v : ℕ) (n : Node) (k : MountedLog) : Type 0 w
   pub state : IsStateOf g v (recovered_node n) (state_of v numbers k.base k.records)
   pub sent : HasSent g v (recovered_node n)
   pub width : length n.turning.retired ≡ g.nodes
+  pub paced : IsPaced k.head k.records
 
 -- node v, which is up, made its turns one after another, and its heap is covered and stands for a value that its handler comes to
 pub record IsSound (g : Game) (v : ℕ) (n : Node) : Type 0 where

@@ -15,6 +15,7 @@ pub mod Down
 pub mod Watching
 pub mod Restarts
 pub mod Restarting
+pub mod Paced
 pub mod Whole
 pub mod WholeLaws
 pub mod TurnLaws

@@ -15,7 +15,7 @@ use Rattle.ken_core.specs.declared.events.Told.{Told}
 use Rattle.ken_core.specs.Calls.{IsIdle, IsNone, IsTurn, seal, turnover}
 use Rattle.ken_core.specs.Nodes.{Node}
 use Rattle.ken_core.specs.Packets.{Packet, Mail, Answer, Outgoing, nothing, receipt_of}
-use Rattle.ken_core.specs.Turns.{consumed_from}
+use Rattle.ken_core.specs.Turns.{consumed_from, stamp_after}
 use Rattle.ken_ship.specs.declared.faults.NodeFault.{NodeFault}
 use Rattle.ken_ship.specs.declared.faults.NodeFault.TheVariants.{Disk, Damaged, Outlet, Memory}
 use Rattle.ken_ship.specs.declared.hearing.TheConstants.{MOST_TAKEN}
@@ -73,7 +73,8 @@ module _ {D : Type 0} (told : D → Option Story) (size : D → ℕ) (g : Game) 
     pub same_turns : call.steps.after.turning.turns ≡ n.turning.turns
     pub same_sending : call.steps.after.sending ≡ n.sending
 
-  -- the node makes no more turns, as the handler finds with all that it was told
+  -- the node makes no more turns, as the handler finds with all that it was told: it has made all its turns, or its stamp has used up
+  -- half of its range
   pub record CappedSteps (handler : TurnWorker D) (stage : Stage D) : Type 0 where
     pub none_given : gave []
     pub none_put : put []
@@ -82,6 +83,7 @@ module _ {D : Type 0} (told : D → Option Story) (size : D → ℕ) (g : Game) 
     pub heard : TurnWorker D
     pub hears : HearsNews handler heard
     pub capped : IsCapped heard
+    pub over : (g.turns ≤ length n.turning.turns) ⊎ (2 ^ 63 ≤ stamp_after 0 n.turning.turns)
 
   -- a turnover failed, which is in doubt
   pub record TurnoverFails (stage : Stage D) : Type 0 where

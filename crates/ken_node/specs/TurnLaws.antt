@@ -1,5 +1,5 @@
 -- What a call of a node's handler is as events of the node.
-use Rattle.std.specs.Prelude.{◌≡◌, ℕ, ◌⊎◌, List, [], ◌++◌, map, slice_index, Option, Result, Ok, Err}
+use Rattle.std.specs.Prelude.{◌≡◌, ℕ, ◌<◌, ◌⊎◌, List, [], ◌++◌, map, length, slice_index, Option, Result, Ok, Err}
 use Rattle.std.specs.List.{Contains, range_with_len}
 use Rattle.ken_disk.specs.Fates.{Fate}
 use Rattle.ken_disk.specs.Story.{Story}
@@ -22,6 +22,7 @@ use Rattle.ken_ship.specs.declared.faults.NodeFault.TheVariants.{Disk, Damaged, 
 use Rattle.ken_ship.specs.declared.worker.SendWorker.{SendWorker}
 use Rattle.ken_ship.specs.Laws.{packets_from}
 use Rattle.ken_node.specs.declared.patcher.PatchWorker.{PatchWorker}
+use Rattle.ken_node.specs.declared.renewing.TheConstants.{MOST_RECORDS}
 use Rattle.ken_node.specs.declared.took.Took.{Took}
 use Rattle.ken_node.specs.declared.took.Took.TheVariants.{Turn, Idle, Capped}
 use Rattle.ken_node.specs.declared.worker.TurnWorker.{TurnWorker}
@@ -69,7 +70,7 @@ module _ {D : Type 0} (told : D → Option Story) (size : D → ℕ) where
     pub may : MayTurn g n (told_of g mid)
 
   module _ (count : D → ℕ) (fate : D → Option Fate) (drew : List ℕ → Type 0) where
-    -- a seal is in doubt: the events before it lead to a node that the workers stood for, and at which the turn might be sealed
+    -- a seal is in doubt: the events before it lead to a node that the workers stood for, and at which the turn might be sealed, since the log has room for its record
     pub record DoubtsSeal (g : Game) (v : ℕ) (n : Node) (gave : List (List ℕ) → Type 0) (put : List Put → Type 0) (t t2 : TurnWorker D) (p : PatchWorker D) (s : SendWorker) : Type 0 where
       pub mid : TurnWorker D
       pub before : HandlerLeadsTo g v n (IsIdle v (is_full t.side)) gave put t mid p s
@@ -78,6 +79,7 @@ module _ {D : Type 0} (told : D → Option Story) (size : D → ℕ) where
       pub turn : Made
       pub turn_is : turn ≡ turn_made message doubt.effects doubt.made.effect
       pub may : MaySeal g (Contains (packets_from g.nodes before.given)) v before.after message.from doubt.effects.draws (coming_pages doubt.begun) turn
+      pub room : length mid.side.records.items < MOST_RECORDS
 
     -- by the answer
     abbrev pub TookBy : Result Took NodeFault → Game → ℕ → Node → (List (List ℕ) → Type 0) → (List Put → Type 0) → TurnWorker D → TurnWorker D → TurnWorker D → PatchWorker D → SendWorker → Type 0

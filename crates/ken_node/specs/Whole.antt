@@ -26,6 +26,7 @@ use Rattle.ken_node.specs.declared.items.Frozen.{Frozen}
 use Rattle.ken_node.specs.declared.patcher.PatchWorker.{PatchWorker}
 use Rattle.ken_node.specs.declared.worker.TurnWorker.{TurnWorker}
 use Rattle.ken_node.specs.Meeting.{AreJoined}
+use Rattle.ken_node.specs.Paced.{IsPaced}
 use Rattle.ken_node.specs.Patches.{waits_of}
 use Rattle.ken_node.specs.Workers.{Working}
 
@@ -55,11 +56,13 @@ pub record HasTurns {D : Type 0} (v : ℕ) (n : Node) (t : TurnWorker D) : Type 
   pub counted : AreNumbersOf v n.turning.turns t.side.numbers
   pub reads : read_value (turn_pages t.side).heap ≡ Some t.side.objects.value
 
--- the log tells a state with all that the node sent and output, but for what is retired: what a restart goes on with
+-- the log tells a state with all that the node sent and output, but for what is retired: what a restart goes on with. It holds few
+-- records, and as many turns were made as the logs before it take
 pub record TellsState {D : Type 0} (g : Game) (v : ℕ) (n : Node) (t : TurnWorker D) : Type 0 where
   pub state : IsStateOf g v (recovered_node n) (state_in t.side)
   pub sent : HasSent g v (recovered_node n)
   pub width : length n.turning.retired ≡ g.nodes
+  pub paced : IsPaced t.side.log.header t.side.records.items
 
 -- the store's two sides have the node's pages, where turns on their way to the patcher count as handed over
 pub record HavePages {D : Type 0} (told : D → Option Story) (size : D → ℕ) (n : Node) (t : TurnWorker D) (p : PatchWorker D) : Type 0 where
