@@ -38,7 +38,7 @@ use Rattle.ken_flow.specs.Groups.{group_of}
 use Rattle.ken_drive.specs.Left.{outputs_left, pages_left, turns_left}
 
 -- a ring that holds nothing has no queue
-no-queue : {T : Type 0} {all out queue : List T} → all ≡ out ++ queue → out ≡ all → queue ≡ []
+pub no-queue : {T : Type 0} {all out queue : List T} → all ≡ out ++ queue → out ≡ all → queue ≡ []
 no-queue {all} {out} {queue} ring emptied = append_cancel_left out queue [] (sym ring ∙ sym emptied ∙ sym (append-nil out))
 
 -- ---- a node makes no more turns than the game has

@@ -13,3 +13,8 @@ pub mod EndingBounds
 pub mod EndingTold
 pub mod EndingFew
 pub mod EndingLists
+pub mod AccountsLists
+pub mod AccountsRuns
+pub mod AccountsFates
+pub mod AccountsCalls
+pub mod AccountsRestarts

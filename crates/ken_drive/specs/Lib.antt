@@ -7,3 +7,5 @@ pub mod Running
 pub mod Left
 pub mod Recovering
 pub mod Ended
+pub mod Sequences
+pub mod Accounts

@@ -1,16 +1,19 @@
 // A node of a run with all that is its own.
 ghost use Rattle.std.specs.Prelude.{◌≡◌, ◌<◌, ◌+◌, ◌^◌, ℕ, [], List, length, OnOk};
-ghost use Rattle.ken_app.specs.Oracles.{Answers};
+ghost use Rattle.ken_app.specs.Oracles.{Answers, HasAnswered};
 ghost use Rattle.ken_model.specs.declared.messages.Out.{Out};
 ghost use Rattle.ken_model.specs.Game.{Game};
 ghost use Rattle.ken_core.specs.Calls.{Doubt};
 ghost use Rattle.ken_core.specs.Nodes as core;
 ghost use Rattle.ken_core.specs.Packets.{Packet};
+ghost use Rattle.ken_store.specs.declared.disks.Disks.{Disks};
 ghost use Rattle.ken_ship.specs.Outlets.{also_took};
 ghost use Rattle.ken_node.specs.Down.{IsDown, MayRestart};
-ghost use Rattle.ken_node.specs.NodeCalls.{EmitStepsBy, HearSteps, SendSteps};
+ghost use Rattle.ken_node.specs.NodeCalls.{DisksFailBy, EmitStepsBy, HearSteps, SendSteps, UnlessMemory};
 ghost use Rattle.ken_node.specs.NodeTurns.{TurnStepsBy};
-ghost use Rattle.ken_node.specs.Stages.{emissions_in};
+ghost use Rattle.ken_node.specs.Restarts.{RestartsBy};
+ghost use Rattle.ken_node.specs.Stages.{HasDisks, emissions_in};
+ghost use Rattle.ken_node.specs.Synced.{IsSynced};
 ghost use Rattle.ken_node.specs.Up.{IsUp, MayBeCalled, MayBeCalledOn, MayTakeTurns};
 ghost use Rattle.ken_drive.specs.Ends.{WereGiven, WerePut};
 ghost use Rattle.ken_drive.specs.Stations.{RestartsStation};
@@ -50,6 +53,11 @@ impl<D: Disk, O: Oracle, U: Outlet> Station<D, O, U> {
         requires may { MayTakeTurns ⟦<Watched<D> as Disk>⟧.told ⟦<Watched<D> as Disk>⟧.size (A.handler app.now) self.old.acks.from (length waiting.old.acks) self.old.node.stage }
         ensures steps { (g : Game) (v : ℕ) (n : core.Node) → (up : IsUp ⟦<Watched<D> as Disk>⟧.told ⟦<Watched<D> as Disk>⟧.size g v n self.old.node.stage) → v ≡ self.old.acks.from → A.handler app.now ≡ g.handler → (nones : ℕ) × TurnStepsBy ⟦<Watched<D> as Disk>⟧.told ⟦<Watched<D> as Disk>⟧.size g v n (WereGiven v nones waiting.old.mail waiting.new.mail) (WerePut self.old.acks self.new.acks waiting.old.acks waiting.new.acks) result (λ draws. Answers (O.telling.clocks self.old.luck) (O.telling.clocks self.new.luck) ((A.handler app.now).clocks draws) × Answers (O.telling.words self.old.luck) (O.telling.words self.new.luck) ((A.handler app.now).words draws)) 0 nones up.handler self.new.node.stage }
         ensures emissions { emissions_in self.new.node.stage ≡ emissions_in self.old.node.stage }
+        ensures disks { (old new : Disks (Watched D)) → HasDisks old self.old.node.stage → HasDisks new self.new.node.stage → DisksFailBy ⟦<Watched<D> as Disk>⟧.told ⟦<Watched<D> as Disk>⟧.faults ⟦<Watched<D> as Disk>⟧.fate result old new }
+        ensures synced { (g : Game) (v : ℕ) (n : core.Node) → IsUp ⟦<Watched<D> as Disk>⟧.told ⟦<Watched<D> as Disk>⟧.size g v n self.old.node.stage → A.handler app.now ≡ g.handler → IsSynced ⟦<Watched<D> as Disk>⟧.told ⟦<Watched<D> as Disk>⟧.faults g v self.old.node.stage → UnlessMemory result (IsSynced ⟦<Watched<D> as Disk>⟧.told ⟦<Watched<D> as Disk>⟧.faults g v self.new.node.stage) }
+        ensures clocks_go_on { HasAnswered (O.telling.clocks self.old.luck) (O.telling.clocks self.new.luck) }
+        ensures words_go_on { HasAnswered (O.telling.words self.old.luck) (O.telling.words self.new.luck) }
+        ensures origin { O.telling.origin self.new.luck ≡ O.telling.origin self.old.luck }
         ensures rest { self.new ≡ record self.old { node = self.new.node; luck = self.new.luck; acks = self.new.acks } }
     {
         let mut end = end_of(alloc, &mut self.acks, &mut waiting.mail, &mut waiting.acks);
@@ -66,6 +74,8 @@ impl<D: Disk, O: Oracle, U: Outlet> Station<D, O, U> {
         ensures steps { (g : Game) (v : ℕ) (n : core.Node) → IsUp ⟦<Watched<D> as Disk>⟧.told ⟦<Watched<D> as Disk>⟧.size g v n self.old.node.stage → v ≡ self.old.mail.from → OnOk result (SendSteps ⟦<Watched<D> as Disk>⟧.told ⟦<Watched<D> as Disk>⟧.size g v n (WerePut self.old.mail self.new.mail waiting.old.mail waiting.new.mail) self.new.node.stage) }
         ensures emissions { emissions_in self.new.node.stage ≡ emissions_in self.old.node.stage }
         ensures given { WereGiven self.old.mail.from 0 waiting.old.acks waiting.new.acks [] }
+        ensures disks { (old new : Disks (Watched D)) → HasDisks old self.old.node.stage → HasDisks new self.new.node.stage → new ≡ old }
+        ensures synced { (g : Game) (v : ℕ) → IsSynced ⟦<Watched<D> as Disk>⟧.told ⟦<Watched<D> as Disk>⟧.faults g v self.old.node.stage → IsSynced ⟦<Watched<D> as Disk>⟧.told ⟦<Watched<D> as Disk>⟧.faults g v self.new.node.stage }
         ensures rest { self.new ≡ record self.old { node = self.new.node; mail = self.new.mail } }
     {
         let mut end = end_of(alloc, &mut self.mail, &mut waiting.acks, &mut waiting.mail);
@@ -82,6 +92,8 @@ impl<D: Disk, O: Oracle, U: Outlet> Station<D, O, U> {
         ensures steps { (g : Game) (v : ℕ) (n : core.Node) → IsUp ⟦<Watched<D> as Disk>⟧.told ⟦<Watched<D> as Disk>⟧.size g v n self.old.node.stage → v ≡ self.old.mail.from → (nones : ℕ) × OnOk result (HearSteps ⟦<Watched<D> as Disk>⟧.told ⟦<Watched<D> as Disk>⟧.size g v n (WereGiven v nones waiting.old.acks waiting.new.acks) 0 nones self.new.node.stage) }
         ensures emissions { OnOk result (emissions_in self.new.node.stage ≡ emissions_in self.old.node.stage) }
         ensures put { waiting.new.mail ≡ waiting.old.mail }
+        ensures disks { (old new : Disks (Watched D)) → HasDisks old self.old.node.stage → HasDisks new self.new.node.stage → new ≡ old }
+        ensures synced { (g : Game) (v : ℕ) → IsSynced ⟦<Watched<D> as Disk>⟧.told ⟦<Watched<D> as Disk>⟧.faults g v self.old.node.stage → IsSynced ⟦<Watched<D> as Disk>⟧.told ⟦<Watched<D> as Disk>⟧.faults g v self.new.node.stage }
         ensures rest { self.new ≡ record self.old { node = self.new.node } }
     {
         let mut end = end_of(alloc, &mut self.mail, &mut waiting.acks, &mut waiting.mail);
@@ -94,6 +106,8 @@ impl<D: Disk, O: Oracle, U: Outlet> Station<D, O, U> {
     pub(crate) fn emit(&mut self) -> Result<Emit, NodeFault>
         requires { MayBeCalled ⟦<Watched<D> as Disk>⟧.told ⟦<Watched<D> as Disk>⟧.size self.old.node.stage }
         ensures steps { (g : Game) (v : ℕ) (n : core.Node) → IsUp ⟦<Watched<D> as Disk>⟧.told ⟦<Watched<D> as Disk>⟧.size g v n self.old.node.stage → EmitStepsBy ⟦<Watched<D> as Disk>⟧.told ⟦<Watched<D> as Disk>⟧.size result g v n (λ (taken : List Out). U.took self.new.out ≡ also_took taken (U.took self.old.out)) self.old.node.stage self.new.node.stage }
+        ensures disks { (old new : Disks (Watched D)) → HasDisks old self.old.node.stage → HasDisks new self.new.node.stage → new ≡ old }
+        ensures synced { (g : Game) (v : ℕ) → IsSynced ⟦<Watched<D> as Disk>⟧.told ⟦<Watched<D> as Disk>⟧.faults g v self.old.node.stage → IsSynced ⟦<Watched<D> as Disk>⟧.told ⟦<Watched<D> as Disk>⟧.faults g v self.new.node.stage }
         ensures rest { self.new ≡ record self.old { node = self.new.node; out = self.new.out } }
     {
         self.node.emit(&mut self.out)
@@ -105,6 +119,8 @@ impl<D: Disk, O: Oracle, U: Outlet> Station<D, O, U> {
         requires tries { self.old.restarts + 1 < 2 ^ 64 }
         ensures back { (g : Game) (v : ℕ) (given : List Packet) (n : core.Node) (doubt : Doubt) → IsDown ⟦<Watched<D> as Disk>⟧.told g v given n doubt self.old.node.stage → RestartsStation ⟦<Watched<D> as Disk>⟧.told ⟦<Watched<D> as Disk>⟧.size result g v given n doubt self.old self.new }
         ensures emissions { emissions_in self.new.node.stage ≡ emissions_in self.old.node.stage }
+        ensures disks { (old new : Disks (Watched D)) → HasDisks old self.old.node.stage → HasDisks new self.new.node.stage → UnlessMemory result (RestartsBy ⟦<Watched<D> as Disk>⟧.told ⟦<Watched<D> as Disk>⟧.faults ⟦<Watched<D> as Disk>⟧.fate result old new) }
+        ensures synced { (g : Game) (v : ℕ) (given : List Packet) (n : core.Node) (doubt : Doubt) → IsDown ⟦<Watched<D> as Disk>⟧.told g v given n doubt self.old.node.stage → IsSynced ⟦<Watched<D> as Disk>⟧.told ⟦<Watched<D> as Disk>⟧.faults g v self.old.node.stage → IsSynced ⟦<Watched<D> as Disk>⟧.told ⟦<Watched<D> as Disk>⟧.faults g v self.new.node.stage }
         ensures rest { self.new ≡ record self.old { node = self.new.node; restarts = self.new.restarts; lines = self.new.lines } }
     {
         self.lines.reserve(1)?;

@@ -3,6 +3,7 @@ use Rattle.std.proofs.Common.{◌≡◌, ◌∙◌, ◌<◌, slice_index_or, sli
 use Rattle.std.specs.Vec.{with_item}
 use Rattle.ken_drive.specs.Left.{outputs_left}
 use Rattle.ken_drive.proofs.Leaving.{emit-fewer, emit-leaves, fewer-at, may-call, up-before}
+use Rattle.ken_drive.proofs.AccountsCalls.{emit-accounts, own-accounts}
 use Rattle.ken_drive.proofs.run.Run.emit.Goals as goal
 
 pub emit-requires : goal.emit-requires
@@ -26,3 +27,12 @@ returns-clause-fewer g c = λ number was.
     fewer-at outputs_left c.args.self.now.stations.items c.from.result c.args.node c.index_mut.result.now c.emit.new.self c.from.ensures (subst (λ n. c.args.node < n) (sym running.stands.width) c.requires.known) is
     (emit-fewer (λ w. g.D.Disk.told w.disk) (λ w. g.D.Disk.size w.disk) g.U.Outlet.took game c.requires.made c.args.self.now (record c.args.self.now { stations = with_item c.args.self.now.stations c.from.result c.emit.new.self }) c.args.node c.index_mut.result.now c.emit.new.self running c.requires.known is (refl, refl) (ap (λ k. slice_set c.args.self.now.stations.items k c.emit.new.self) c.from.ensures)
     c.emit.ensures.rest refl c.emit.result number was (c.emit.ensures.steps game c.args.node (running.nodes c.args.node) up))
+
+pub returns-clause-accounts : goal.returns-clause-accounts
+returns-clause-accounts g c = λ terms game made running low accounted.
+    let is : slice_index_or c.args.self.now.stations.items c.args.node c.index_mut.result.now ≡ c.index_mut.result.now = sym (c.index_mut.ensures.value ∙ ap (λ k. slice_index_or c.args.self.now.stations.items k c.index_mut.result.now) c.from.ensures) in
+    let up = up-before (λ w. g.D.Disk.told w.disk) (λ w. g.D.Disk.size w.disk) g.U.Outlet.took game made c.args.self.now c.args.node c.index_mut.result.now running low is in
+    let was = own-accounts (λ w. g.D.Disk.told w.disk) (λ w. g.D.Disk.faults w.disk) (λ w. g.D.Disk.fate w.disk) g.O.Oracle.telling terms game made c.args.self.now c.args.node c.index_mut.result.now low is accounted in
+    emit-accounts (λ w. g.D.Disk.told w.disk) (λ w. g.D.Disk.size w.disk) (λ w. g.D.Disk.faults w.disk) (λ w. g.D.Disk.fate w.disk) g.O.Oracle.telling terms game made c.args.self.now (record c.args.self.now { stations = with_item c.args.self.now.stations c.from.result c.emit.new.self }) c.args.node c.index_mut.result.now c.emit.new.self
+    (running.nodes c.args.node) up running.stands.width low is (ap (λ k. slice_set c.args.self.now.stations.items k c.emit.new.self) c.from.ensures) refl accounted
+    (ap (λ x. x.luck) c.emit.ensures.rest) (ap (λ x. x.lines.items) c.emit.ensures.rest) (ap (λ x. x.restarts) c.emit.ensures.rest) (c.emit.ensures.synced game c.args.node was.books.synced) c.emit.ensures.disks _ c.emit.result (c.emit.ensures.steps game c.args.node (running.nodes c.args.node) up)

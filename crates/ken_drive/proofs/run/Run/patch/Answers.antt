@@ -3,6 +3,7 @@ use Rattle.std.proofs.Common.{◌≡◌, ◌∙◌, ◌<◌, slice_index_or, sli
 use Rattle.std.specs.Vec.{with_item}
 use Rattle.ken_drive.specs.Left.{pages_left}
 use Rattle.ken_drive.proofs.Leaving.{fewer-at, may-call, patch-fewer, patch-leaves, up-before}
+use Rattle.ken_drive.proofs.AccountsCalls.{own-accounts, patch-accounts}
 use Rattle.ken_drive.proofs.run.Run.patch.Goals as goal
 
 pub patch-requires : goal.patch-requires
@@ -27,3 +28,12 @@ returns-clause-fewer g c = λ was.
     fewer-at pages_left c.args.self.now.stations.items c.from.result c.args.node c.index_mut.result.now new c.from.ensures (subst (λ n. c.args.node < n) (sym running.stands.width) c.requires.known) is
     (patch-fewer (λ w. g.D.Disk.told w.disk) (λ w. g.D.Disk.size w.disk) g.U.Outlet.took game c.requires.made c.args.self.now (record c.args.self.now { stations = with_item c.args.self.now.stations c.from.result new }) c.args.node c.index_mut.result.now new running c.requires.known is (refl, refl) (ap (λ k. slice_set c.args.self.now.stations.items k (record c.index_mut.result.now { node = c.patch.new.self })) c.from.ensures)
     refl c.patch.ensures.emissions refl c.patch.result was (c.patch.ensures.steps game c.args.node (running.nodes c.args.node) up))
+
+pub returns-clause-accounts : goal.returns-clause-accounts
+returns-clause-accounts g c = λ terms game made running low accounted.
+    let is : slice_index_or c.args.self.now.stations.items c.args.node c.index_mut.result.now ≡ c.index_mut.result.now = sym (c.index_mut.ensures.value ∙ ap (λ k. slice_index_or c.args.self.now.stations.items k c.index_mut.result.now) c.from.ensures) in
+    let up = up-before (λ w. g.D.Disk.told w.disk) (λ w. g.D.Disk.size w.disk) g.U.Outlet.took game made c.args.self.now c.args.node c.index_mut.result.now running low is in
+    let was = own-accounts (λ w. g.D.Disk.told w.disk) (λ w. g.D.Disk.faults w.disk) (λ w. g.D.Disk.fate w.disk) g.O.Oracle.telling terms game made c.args.self.now c.args.node c.index_mut.result.now low is accounted in
+    patch-accounts (λ w. g.D.Disk.told w.disk) (λ w. g.D.Disk.size w.disk) (λ w. g.D.Disk.faults w.disk) (λ w. g.D.Disk.fate w.disk) g.O.Oracle.telling terms game made c.args.self.now (record c.args.self.now { stations = with_item c.args.self.now.stations c.from.result (record c.index_mut.result.now { node = c.patch.new.self }) }) c.args.node c.index_mut.result.now (record c.index_mut.result.now { node = c.patch.new.self })
+    (running.nodes c.args.node) up running.stands.width low is (ap (λ k. slice_set c.args.self.now.stations.items k (record c.index_mut.result.now { node = c.patch.new.self })) c.from.ensures) refl accounted
+    refl refl refl (c.patch.ensures.synced game c.args.node was.books.synced) c.patch.ensures.emissions c.patch.result (c.patch.ensures.steps game c.args.node (running.nodes c.args.node) up) c.patch.ensures.disks

@@ -1,20 +1,34 @@
 -- One restart after another, until one answers.
-use Rattle.std.proofs.Common.{◌<◌, inl, sym, subst}
+use Rattle.std.proofs.Common.{◌<◌, inl, sym, subst, arith}
+use Rattle.ken_drive.specs.Accounts.{AccountsFault}
 use Rattle.ken_drive.specs.Running.{LeavesFault}
+use Rattle.ken_drive.proofs.AccountsRestarts.{used-up}
 use Rattle.ken_drive.proofs.run.Run.restart.Goals as goal
 
 pub tries-requires : goal.tries-requires
-tries-requires g c = let stopped = c.tries.invariant c.requires.game c.requires.made c.requires.stopped in subst (λ n. c.args.node < n) (sym stopped.stands.width) stopped.known
+tries-requires g c = let stopped = c.tries.invariant.0 c.requires.game c.requires.made c.requires.stopped in subst (λ n. c.args.node < n) (sym stopped.stands.width) stopped.known
 
 pub restart_once-requires-clause-may : goal.restart_once-requires-clause-may
-restart_once-requires-clause-may g c = record { game = c.requires.game; made = c.requires.made; stopped = c.tries.invariant c.requires.game c.requires.made c.requires.stopped }
+restart_once-requires-clause-may g c = record { game = c.requires.game; made = c.requires.made; stopped = c.tries.invariant.0 c.requires.game c.requires.made c.requires.stopped }
 
-pub returns-in-Ok : goal.returns-in-Ok
-returns-in-Ok g c = λ game made stopped. c.in-Ok.ensures.leaves game made (c.tries.invariant game made stopped)
+pub returns-in-Ok-clause-leaves : goal.returns-in-Ok-clause-leaves
+returns-in-Ok-clause-leaves g c = λ game made stopped. c.in-Ok.ensures.leaves game made (c.tries.invariant.0 game made stopped)
+
+pub returns-in-Ok-clause-accounts : goal.returns-in-Ok-clause-accounts
+returns-in-Ok-clause-accounts g c = λ terms game made stopped held. c.in-Ok.ensures.accounts terms game made (c.tries.invariant.0 game made stopped) held.most (c.tries.invariant.1 terms game made stopped held)
 
 pub tries-preserved : goal.tries-preserved
-tries-preserved g c = λ game made stopped.
-    subst (λ x. LeavesFault (λ w. g.D.Disk.told w.disk) (λ w. g.D.Disk.size w.disk) g.U.Outlet.took x game made c.args.node c.restart_once.new.self) c.in-Err-Disk.field-0-is (c.in-Err-Disk.ensures.leaves game made (c.tries.invariant game made stopped))
+tries-preserved g c = (
+  λ game made stopped.
+      subst (λ x. LeavesFault (λ w. g.D.Disk.told w.disk) (λ w. g.D.Disk.size w.disk) g.U.Outlet.took x game made c.args.node c.restart_once.new.self) c.in-Err-Disk.field-0-is (c.in-Err-Disk.ensures.leaves game made (c.tries.invariant.0 game made stopped)),
+  λ terms game made stopped held.
+      subst (λ x. AccountsFault (λ w. g.D.Disk.told w.disk) (λ w. g.D.Disk.faults w.disk) (λ w. g.D.Disk.fate w.disk) g.O.Oracle.telling terms game x made c.args.node c.restart_once.new.self) c.in-Err-Disk.field-0-is (c.in-Err-Disk.ensures.accounts terms game made (c.tries.invariant.0 game made stopped) held.most (c.tries.invariant.1 terms game made stopped held)),
+)
 
-pub returns : goal.returns
-returns g c = λ game made stopped. inl (c.tries.invariant game made stopped)
+pub returns-clause-leaves : goal.returns-clause-leaves
+returns-clause-leaves g c = λ game made stopped. inl (c.tries.invariant.0 game made stopped)
+
+pub returns-clause-accounts : goal.returns-clause-accounts
+returns-clause-accounts g c = λ terms game made stopped held.
+    let now = c.tries.invariant.0 game made stopped in
+    inl (used-up (λ w. g.D.Disk.told w.disk) (λ w. g.D.Disk.faults w.disk) (λ w. g.D.Disk.fate w.disk) g.O.Oracle.telling terms game made c.args.node c.tries.self (subst (λ n. c.args.node < n) (sym now.stands.width) now.known) (omega (arith, c.tries-test.false, held.most)) (c.tries.invariant.1 terms game made stopped held))

@@ -1,10 +1,11 @@
 use Rattle.std.proofs.Common.{◌-◌}
+use Rattle.ken_drive.specs.Accounts.{StaysHeld}
 use Rattle.ken_drive.specs.Left.{tries_at}
 use Rattle.ken_drive.specs.Running.{StaysDown}
 use Rattle.ken_drive.proofs.run.Run.restart.Given as goal
 
 abbrev pub invariant-tries : goal.invariant-tries
-invariant-tries g l = StaysDown (λ w. g.D.Disk.told w.disk) (λ w. g.D.Disk.size w.disk) g.U.Outlet.took l.node l.fn.self l.self
+invariant-tries g l = StaysDown (λ w. g.D.Disk.told w.disk) (λ w. g.D.Disk.size w.disk) g.U.Outlet.took l.node l.fn.self l.self × StaysHeld (λ w. g.D.Disk.told w.disk) (λ w. g.D.Disk.size w.disk) g.U.Outlet.took (λ w. g.D.Disk.faults w.disk) (λ w. g.D.Disk.fate w.disk) g.O.Oracle.telling l.node l.fn.self l.self
 
 abbrev pub decreases-tries : goal.decreases-tries
 decreases-tries g l = l.most - tries_at l.self.stations.items l.node

@@ -2,6 +2,7 @@
 use Rattle.std.proofs.Common.{◌≡◌, ◌∙◌, slice_index_or, slice_set, refl, sym, ap}
 use Rattle.std.specs.Vec.{with_item}
 use Rattle.ken_drive.proofs.Leaving.{may-call, settle-leaves, up-before}
+use Rattle.ken_drive.proofs.AccountsCalls.{own-accounts, settle-accounts}
 use Rattle.ken_drive.proofs.run.Run.settle.Goals as goal
 
 pub settle-requires : goal.settle-requires
@@ -9,11 +10,18 @@ settle-requires g c =
     let is : slice_index_or c.args.self.now.stations.items c.args.node c.index_mut.result.now ≡ c.index_mut.result.now = sym (c.index_mut.ensures.value ∙ ap (λ k. slice_index_or c.args.self.now.stations.items k c.index_mut.result.now) c.from.ensures) in
     may-call (λ w. g.D.Disk.told w.disk) (λ w. g.D.Disk.size w.disk) g.U.Outlet.took c.requires.game c.requires.made c.args.self.now c.args.node c.index_mut.result.now c.requires.running c.requires.known is
 
-pub returns : goal.returns
-returns g c = record {
-  leaves = λ game made running low.
-      let is : slice_index_or c.args.self.now.stations.items c.args.node c.index_mut.result.now ≡ c.index_mut.result.now = sym (c.index_mut.ensures.value ∙ ap (λ k. slice_index_or c.args.self.now.stations.items k c.index_mut.result.now) c.from.ensures) in
-      let up = up-before (λ w. g.D.Disk.told w.disk) (λ w. g.D.Disk.size w.disk) g.U.Outlet.took game made c.args.self.now c.args.node c.index_mut.result.now running low is in
-      settle-leaves (λ w. g.D.Disk.told w.disk) (λ w. g.D.Disk.size w.disk) g.U.Outlet.took game made c.args.self.now (record c.args.self.now { stations = with_item c.args.self.now.stations c.from.result (record c.index_mut.result.now { node = c.settle.new.self }) }) c.args.node c.index_mut.result.now (record c.index_mut.result.now { node = c.settle.new.self }) running low is (refl, refl) (ap (λ k. slice_set c.args.self.now.stations.items k (record c.index_mut.result.now { node = c.settle.new.self })) c.from.ensures)
-      refl c.settle.ensures.emissions refl c.settle.result (c.settle.ensures.steps game c.args.node (running.nodes c.args.node) up);
-}
+pub returns-clause-leaves : goal.returns-clause-leaves
+returns-clause-leaves g c = λ game made running low.
+    let is : slice_index_or c.args.self.now.stations.items c.args.node c.index_mut.result.now ≡ c.index_mut.result.now = sym (c.index_mut.ensures.value ∙ ap (λ k. slice_index_or c.args.self.now.stations.items k c.index_mut.result.now) c.from.ensures) in
+    let up = up-before (λ w. g.D.Disk.told w.disk) (λ w. g.D.Disk.size w.disk) g.U.Outlet.took game made c.args.self.now c.args.node c.index_mut.result.now running low is in
+    settle-leaves (λ w. g.D.Disk.told w.disk) (λ w. g.D.Disk.size w.disk) g.U.Outlet.took game made c.args.self.now (record c.args.self.now { stations = with_item c.args.self.now.stations c.from.result (record c.index_mut.result.now { node = c.settle.new.self }) }) c.args.node c.index_mut.result.now (record c.index_mut.result.now { node = c.settle.new.self }) running low is (refl, refl) (ap (λ k. slice_set c.args.self.now.stations.items k (record c.index_mut.result.now { node = c.settle.new.self })) c.from.ensures)
+    refl c.settle.ensures.emissions refl c.settle.result (c.settle.ensures.steps game c.args.node (running.nodes c.args.node) up)
+
+pub returns-clause-accounts : goal.returns-clause-accounts
+returns-clause-accounts g c = λ terms game made running low accounted.
+    let is : slice_index_or c.args.self.now.stations.items c.args.node c.index_mut.result.now ≡ c.index_mut.result.now = sym (c.index_mut.ensures.value ∙ ap (λ k. slice_index_or c.args.self.now.stations.items k c.index_mut.result.now) c.from.ensures) in
+    let up = up-before (λ w. g.D.Disk.told w.disk) (λ w. g.D.Disk.size w.disk) g.U.Outlet.took game made c.args.self.now c.args.node c.index_mut.result.now running low is in
+    let was = own-accounts (λ w. g.D.Disk.told w.disk) (λ w. g.D.Disk.faults w.disk) (λ w. g.D.Disk.fate w.disk) g.O.Oracle.telling terms game made c.args.self.now c.args.node c.index_mut.result.now low is accounted in
+    settle-accounts (λ w. g.D.Disk.told w.disk) (λ w. g.D.Disk.size w.disk) (λ w. g.D.Disk.faults w.disk) (λ w. g.D.Disk.fate w.disk) g.O.Oracle.telling terms game made c.args.self.now (record c.args.self.now { stations = with_item c.args.self.now.stations c.from.result (record c.index_mut.result.now { node = c.settle.new.self }) }) c.args.node c.index_mut.result.now (record c.index_mut.result.now { node = c.settle.new.self })
+    (running.nodes c.args.node) up running.stands.width low is (ap (λ k. slice_set c.args.self.now.stations.items k (record c.index_mut.result.now { node = c.settle.new.self })) c.from.ensures) refl accounted
+    refl refl refl (c.settle.ensures.synced game c.args.node was.books.synced) c.settle.ensures.emissions c.settle.result (c.settle.ensures.steps game c.args.node (running.nodes c.args.node) up) c.settle.ensures.disks

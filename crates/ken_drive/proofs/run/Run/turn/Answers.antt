@@ -3,6 +3,7 @@ use Rattle.std.proofs.Common.{◌≡◌, ◌∙◌, ◌<◌, slice_index_or, sli
 use Rattle.std.specs.Vec.{with_item}
 use Rattle.ken_drive.specs.Left.{turns_left}
 use Rattle.ken_drive.proofs.Leaving.{fewer-at, may-turn, own-station, turn-fewer, turn-leaves, up-before}
+use Rattle.ken_drive.proofs.AccountsCalls.{own-accounts, turn-accounts}
 use Rattle.ken_drive.proofs.run.Run.turn.Goals as goal
 
 pub turn-requires-clause-may : goal.turn-requires-clause-may
@@ -30,3 +31,15 @@ returns-clause-fewer g c = λ was.
     fewer-at turns_left c.args.self.now.stations.items c.from.result c.args.node c.index_mut.result.now c.turn.new.self c.from.ensures (subst (λ n. c.args.node < n) (sym running.stands.width) c.requires.known) is
     (turn-fewer (λ w. g.D.Disk.told w.disk) (λ w. g.D.Disk.size w.disk) g.U.Outlet.took game c.requires.made c.args.self.now (record c.args.self.now { stations = with_item c.args.self.now.stations c.from.result c.turn.new.self; waiting = c.turn.new.waiting }) c.args.node c.index_mut.result.now c.turn.new.self running c.requires.known is (refl, refl) (ap (λ k. slice_set c.args.self.now.stations.items k c.turn.new.self) c.from.ensures)
     steps.0 _ up.handler c.turn.ensures.emissions c.turn.ensures.rest c.turn.result was steps.1)
+
+pub returns-clause-accounts : goal.returns-clause-accounts
+returns-clause-accounts g c = λ terms game made running low accounted.
+    let is : slice_index_or c.args.self.now.stations.items c.args.node c.index_mut.result.now ≡ c.index_mut.result.now = sym (c.index_mut.ensures.value ∙ ap (λ k. slice_index_or c.args.self.now.stations.items k c.index_mut.result.now) c.from.ensures) in
+    let own = own-station (λ w. g.D.Disk.told w.disk) (λ w. g.D.Disk.size w.disk) g.U.Outlet.took game made c.args.self.now c.args.node c.index_mut.result.now running low is in
+    let up = up-before (λ w. g.D.Disk.told w.disk) (λ w. g.D.Disk.size w.disk) g.U.Outlet.took game made c.args.self.now c.args.node c.index_mut.result.now running low is in
+    let was = own-accounts (λ w. g.D.Disk.told w.disk) (λ w. g.D.Disk.faults w.disk) (λ w. g.D.Disk.fate w.disk) g.O.Oracle.telling terms game made c.args.self.now c.args.node c.index_mut.result.now low is accounted in
+    let steps = c.turn.ensures.steps game c.args.node (running.nodes c.args.node) up (sym own.acks.from) running.stands.handler in
+    turn-accounts (λ w. g.D.Disk.told w.disk) (λ w. g.D.Disk.size w.disk) (λ w. g.D.Disk.faults w.disk) (λ w. g.D.Disk.fate w.disk) g.O.Oracle.telling terms game made c.args.self.now (record c.args.self.now { stations = with_item c.args.self.now.stations c.from.result c.turn.new.self; waiting = c.turn.new.waiting }) c.args.node c.index_mut.result.now c.turn.new.self
+    (running.nodes c.args.node) up running.stands.width low is (ap (λ k. slice_set c.args.self.now.stations.items k c.turn.new.self) c.from.ensures) refl accounted
+    (ap (λ x. x.lines.items) c.turn.ensures.rest) (ap (λ x. x.restarts) c.turn.ensures.rest) c.turn.ensures.origin c.turn.ensures.clocks_go_on c.turn.ensures.words_go_on c.turn.ensures.emissions _ running.stands.handler _ _ 0 steps.0 up.handler c.turn.result steps.1
+    c.turn.ensures.disks (c.turn.ensures.synced game c.args.node (running.nodes c.args.node) up running.stands.handler was.books.synced)

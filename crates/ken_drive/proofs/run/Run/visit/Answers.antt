@@ -1,5 +1,6 @@
 -- A visit of one node.
 use Rattle.std.proofs.Common.{inr, subst}
+use Rattle.ken_drive.specs.Accounts.{AccountsFault}
 use Rattle.ken_drive.specs.Running.{LeavesFault}
 use Rattle.ken_drive.proofs.run.Run.visit.Goals as goal
 
@@ -10,13 +11,25 @@ restart-requires g c = record {
   stopped = subst (λ x. LeavesFault (λ w. g.D.Disk.told w.disk) (λ w. g.D.Disk.size w.disk) g.U.Outlet.took x c.requires.game c.requires.made c.args.node c.work.new.self) c.in-Err-Disk.field-0-is (c.in-Err-Disk.ensures.leaves c.requires.game c.requires.made c.requires.running c.requires.known);
 }
 
-pub returns-in-Ok : goal.returns-in-Ok
-returns-in-Ok g c = λ game made running low. c.in-Ok.ensures.leaves game made running low
+pub returns-in-Ok-clause-leaves : goal.returns-in-Ok-clause-leaves
+returns-in-Ok-clause-leaves g c = λ game made running low. c.in-Ok.ensures.leaves game made running low
 
-pub returns-in-Err-Disk : goal.returns-in-Err-Disk
-returns-in-Err-Disk g c = λ game made running low.
-    c.restart.ensures game made (subst (λ x. LeavesFault (λ w. g.D.Disk.told w.disk) (λ w. g.D.Disk.size w.disk) g.U.Outlet.took x game made c.args.node c.work.new.self) c.in-Err-Disk.field-0-is (c.in-Err-Disk.ensures.leaves game made running low))
+pub returns-in-Ok-clause-accounts : goal.returns-in-Ok-clause-accounts
+returns-in-Ok-clause-accounts g c = λ terms game made running low accounted. c.in-Ok.ensures.accounts terms game made running low accounted
 
-pub returns-in-Err-Outlet : goal.returns-in-Err-Outlet
-returns-in-Err-Outlet g c = λ game made running low.
+pub returns-in-Err-Disk-clause-leaves : goal.returns-in-Err-Disk-clause-leaves
+returns-in-Err-Disk-clause-leaves g c = λ game made running low.
+    c.restart.ensures.leaves game made (subst (λ x. LeavesFault (λ w. g.D.Disk.told w.disk) (λ w. g.D.Disk.size w.disk) g.U.Outlet.took x game made c.args.node c.work.new.self) c.in-Err-Disk.field-0-is (c.in-Err-Disk.ensures.leaves game made running low))
+
+pub returns-in-Err-Disk-clause-accounts : goal.returns-in-Err-Disk-clause-accounts
+returns-in-Err-Disk-clause-accounts g c = λ terms game made running low accounted.
+    c.restart.ensures.accounts terms game made (subst (λ x. LeavesFault (λ w. g.D.Disk.told w.disk) (λ w. g.D.Disk.size w.disk) g.U.Outlet.took x game made c.args.node c.work.new.self) c.in-Err-Disk.field-0-is (c.in-Err-Disk.ensures.leaves game made running low))
+    (subst (λ x. AccountsFault (λ w. g.D.Disk.told w.disk) (λ w. g.D.Disk.faults w.disk) (λ w. g.D.Disk.fate w.disk) g.O.Oracle.telling terms game x made c.args.node c.work.new.self) c.in-Err-Disk.field-0-is (c.in-Err-Disk.ensures.accounts terms game made running low accounted))
+
+pub returns-in-Err-Outlet-clause-leaves : goal.returns-in-Err-Outlet-clause-leaves
+returns-in-Err-Outlet-clause-leaves g c = λ game made running low.
     inr (low, subst (λ x. LeavesFault (λ w. g.D.Disk.told w.disk) (λ w. g.D.Disk.size w.disk) g.U.Outlet.took x game made c.args.node c.work.new.self) c.in-Err-Outlet.field-0-is (c.in-Err-Outlet.ensures.leaves game made running low))
+
+pub returns-in-Err-Outlet-clause-accounts : goal.returns-in-Err-Outlet-clause-accounts
+returns-in-Err-Outlet-clause-accounts g c = λ terms game made running low accounted.
+    inr (subst (λ x. AccountsFault (λ w. g.D.Disk.told w.disk) (λ w. g.D.Disk.faults w.disk) (λ w. g.D.Disk.fate w.disk) g.O.Oracle.telling terms game x made c.args.node c.work.new.self) c.in-Err-Outlet.field-0-is (c.in-Err-Outlet.ensures.accounts terms game made running low accounted))
