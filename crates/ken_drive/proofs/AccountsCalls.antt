@@ -1,5 +1,5 @@
 -- What each call of a node leaves of what a run keeps account of.
-use Rattle.std.proofs.Common.{◌≡◌, ◌≢◌, ◌∙◌, ℕ, suc, ◌+◌, ◌-◌, ◌^◌, ◌<◌, ◌≤◌, min, inl, inr, ◌⊎◌, ⊎_elim, List, [], ◌∷◌, ◌++◌, length, map, Bool, true, false, Option, Some, None, Result, Ok, Err, slice_get, slice_index_or, slice_set, refl, sym, ap, subst, arith, append-nil, length-append}
+use Rattle.std.proofs.Common.{◌≡◌, ◌≢◌, ◌∙◌, ℕ, ◌+◌, ◌-◌, ◌^◌, ◌<◌, ◌≤◌, min, inl, inr, ⊎_elim, List, [], ◌∷◌, ◌++◌, length, Bool, true, false, Option, Some, None, Result, Ok, Err, slice_get, slice_index_or, slice_set, refl, sym, ap, subst, arith, append-nil}
 use Rattle.std.specs.Prelude.{IfSome}
 use Rattle.std.specs.List.{AllByRecursion, Contains, flat_map}
 use Rattle.std.proofs.lemmas.Bool.{cases_eq}
@@ -18,7 +18,7 @@ use Rattle.ken_app.specs.Oracles.{Answers, HasAnswered, Telling}
 use Rattle.ken_net.specs.Puts.{Put}
 use Rattle.ken_core.specs.declared.events.Event.{Event}
 use Rattle.ken_core.specs.declared.events.Event.TheVariants.{Emit}
-use Rattle.ken_core.specs.Calls.{Doubt, IsIdle, no_doubt, seal, turnover}
+use Rattle.ken_core.specs.Calls.{Doubt, no_doubt, seal, turnover}
 use Rattle.ken_core.specs.Nodes.{Node}
 use Rattle.ken_core.specs.Packets.{Packet, Outgoing, due, nothing}
 use Rattle.ken_core.specs.Runs.{NodeRun}

@@ -1,5 +1,5 @@
 -- What the disks of a node tell of their falls.
-use Rattle.std.proofs.Common.{◌≡◌, ◌∙◌, ℕ, ◌+◌, ◌≤◌, inl, inr, Bool, true, false, Option, Some, None, refl, sym, ap, subst, arith}
+use Rattle.std.proofs.Common.{◌≡◌, ◌∙◌, ℕ, ◌+◌, ◌≤◌, inl, inr, Option, Some, None, refl, sym, ap, subst, arith}
 use Rattle.ken_disk.specs.Fates.{Fate, fall_of}
 use Rattle.ken_disk.specs.Story.{Story, Follows}
 use Rattle.ken_store.specs.declared.disks.Disks.{Disks}

@@ -1,5 +1,5 @@
 -- What a restart leaves of what a run keeps account of, and one call after another.
-use Rattle.std.proofs.Common.{◌≡◌, ◌≢◌, ◌∙◌, ℕ, ◌+◌, ◌-◌, ◌^◌, ◌<◌, ◌≤◌, min, inl, inr, ◌⊎◌, List, [], ◌∷◌, ◌++◌, length, Option, Some, None, Result, Ok, Err, slice_index_or, slice_set, refl, sym, ap, subst, arith, length-append}
+use Rattle.std.proofs.Common.{◌≡◌, ◌∙◌, ℕ, ◌+◌, ◌-◌, ◌^◌, ◌<◌, ◌≤◌, min, inl, inr, List, [], ◌∷◌, ◌++◌, length, Option, Some, None, Result, Ok, Err, slice_index_or, slice_set, sym, ap, subst, arith}
 use Rattle.std.specs.Prelude.{IfSome}
 use Rattle.std.specs.List.{Contains, flat_map}
 use Rattle.std.specs.Result.{IsErrAnd}
@@ -20,13 +20,13 @@ use Rattle.ken_ship.specs.declared.faults.NodeFault.{NodeFault}
 use Rattle.ken_ship.specs.declared.faults.NodeFault.TheVariants.{Disk, Damaged, Outlet, Memory}
 use Rattle.ken_node.specs.declared.watched.Watched.{Watched}
 use Rattle.ken_node.specs.NodeCalls.{UnlessMemory}
-use Rattle.ken_node.specs.Restarts.{AreUnfailed, OneHasFailed, RestartsBy, WereRestarted}
+use Rattle.ken_node.specs.Restarts.{RestartsBy, WereRestarted}
 use Rattle.ken_node.specs.Stages.{HasDisks, emissions_in, turns_in}
 use Rattle.ken_node.specs.Synced.{IsSynced}
 use Rattle.ken_drive.specs.declared.faults.RunFault.{RunFault}
 use Rattle.ken_drive.specs.declared.run.Run.{Run}
 use Rattle.ken_drive.specs.declared.station.Station.{Station}
-use Rattle.ken_drive.specs.Accounts.{AccountsBy, AccountsFault, AccountsRunBy, AccountsRunFault, AccountsStation, AreRaised, HasBooks, HasDrawn, HasFailedOften, HasFates, HaveFallen, IsAccounted, IsHeld, IsUsedUp, OneIsHeld, Terms, draws_of, doubted, emitted_through, faults_of, numbers_of}
+use Rattle.ken_drive.specs.Accounts.{AccountsBy, AccountsFault, AccountsRunBy, AccountsRunFault, AccountsStation, AreRaised, HasDrawn, HasFates, HaveFallen, IsHeld, IsUsedUp, OneIsHeld, Terms, draws_of, doubted, emitted_through, faults_of, numbers_of}
 use Rattle.ken_drive.specs.Left.{tries_at}
 use Rattle.ken_drive.specs.Sequences.{IsSubsequence, NeverFall, descents}
 use Rattle.ken_drive.specs.Stations.{RestartsStation}

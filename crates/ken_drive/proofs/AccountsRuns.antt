@@ -1,5 +1,5 @@
 -- What events of a node keep of its turns, and of the number that it knows to be emitted.
-use Rattle.std.proofs.Common.{◌≡◌, ◌∙◌, ℕ, ◌+◌, ◌==◌, if◌then◌else◌, Bool, true, false, inl, inr, ◌⊎◌, List, [], ◌∷◌, ◌++◌, map, refl, sym, ap, subst}
+use Rattle.std.proofs.Common.{◌≡◌, ◌∙◌, ℕ, ◌==◌, if◌then◌else◌, Bool, true, false, inl, inr, ◌⊎◌, List, [], ◌∷◌, ◌++◌, map, sym, ap, subst}
 use Rattle.std.specs.List.{AllByRecursion, flat_map, range_with_len}
 use Rattle.ken_model.specs.Game.{Game}
 use Rattle.ken_model.specs.Network.{outside}
@@ -9,8 +9,8 @@ use Rattle.ken_core.specs.declared.events.Event.{Event}
 use Rattle.ken_core.specs.declared.events.Event.TheVariants.{Seal, SealCut, Patch, SyncImage, Turnover, Send, Ack, TakeAck, Emit, Crash, Recover}
 use Rattle.ken_core.specs.declared.events.Outcome.TheVariants.{Whole, Landed, Lost}
 use Rattle.ken_core.specs.declared.events.Told.{Told}
-use Rattle.ken_core.specs.Calls.{AreSends, AreTaken, Doubt, IsAck, IsIdle, IsNone, IsPatchOf, IsRenewed, IsRestart, IsSync, IsTurn, answer_to, due_to, found, no_doubt, seal, taken_from, turnover}
-use Rattle.ken_core.specs.Nodes.{Node, first_node}
+use Rattle.ken_core.specs.Calls.{AreSends, AreTaken, Doubt, IsAck, IsIdle, IsNone, IsPatchOf, IsRenewed, IsSync, IsTurn, answer_to, due_to, found, no_doubt, seal, taken_from, turnover}
+use Rattle.ken_core.specs.Nodes.{Node}
 use Rattle.ken_core.specs.Packets.{Packet, Mail, Answer, Outgoing}
 use Rattle.ken_core.specs.Runs.{NodeRun}
 use Rattle.ken_core.specs.Steps.{NodeStep}

@@ -1,6 +1,6 @@
 -- What a run keeps account of, for each of its nodes: the syncs of its logs, what its oracle answered, its restarts with their causes, and
 -- what it emitted again.
-use Rattle.std.specs.Prelude.{◌≡◌, ◌≢◌, ℕ, ◌+◌, ◌-◌, ◌^◌, ◌<◌, ◌≤◌, min, ◌⊎◌, List, [], ◌∷◌, ◌++◌, length, map, slice_index_or, Bool, false, Option, Some, IfSome, Result, Ok, Err}
+use Rattle.std.specs.Prelude.{◌≡◌, ◌≢◌, ℕ, ◌+◌, ◌-◌, ◌^◌, ◌<◌, ◌≤◌, min, ◌⊎◌, List, [], ◌∷◌, ◌++◌, length, map, slice_index_or, false, Option, Some, IfSome, Result, Ok, Err}
 use Rattle.std.specs.List.{flat_map}
 use Rattle.ken_disk.specs.Fates.{Fate}
 use Rattle.ken_disk.specs.Story.{Story}
