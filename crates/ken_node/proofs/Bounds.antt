@@ -1,5 +1,5 @@
 -- How large the numbers of a log, the base of the next one and its end can be.
-use Rattle.std.proofs.Common.{◌≡◌, ℕ, zero, suc, ◌+◌, ◌*◌, ◌^◌, ◌<◌, ◌≤◌, ◌⊎◌, inl, inr, ⊎_elim, List, [], ◌∷◌, ◌++◌, length, map, cond, Bool, true, false, ◌&&◌, ◌==◌, nat_lt, if◌then◌else◌, Option, Some, None, refl, sym, ap, subst, ◌∙◌, arith, length-append}
+use Rattle.std.proofs.Common.{◌≡◌, ℕ, zero, suc, ◌+◌, ◌*◌, ◌^◌, ◌<◌, ◌≤◌, ⊎_elim, List, [], ◌∷◌, ◌++◌, length, map, Bool, true, false, ◌&&◌, nat_lt, if◌then◌else◌, Option, Some, None, refl, ap, subst, ◌∙◌, arith, length-append}
 use Rattle.std.specs.Prelude.{slice_index, slice_index_or, sum, IsSome}
 use Rattle.std.specs.List.{AllByRecursion, filter, flat_map, range_with_len}
 use Rattle.std.proofs.lemmas.Bool.{cases_lt}
@@ -20,14 +20,12 @@ use Rattle.ken_record.proofs.Sizes.{due_long, fields_fit, header_long, number_lo
 use Rattle.ken_log.specs.Layout.{IsHead, head_bytes, opened}
 use Rattle.ken_cover.specs.declared.layers.Change.{Change}
 use Rattle.ken_cover.specs.Overlay.{AreWithin}
-use Rattle.ken_cover.specs.Sides.{base_change, base_changes, last_change, stays, TurnPages}
+use Rattle.ken_cover.specs.Sides.{base_change, last_change, stays, TurnPages}
 use Rattle.ken_cover.proofs.Bases.{AreOwn-base, AreWithin-own}
-use Rattle.ken_store.specs.declared.numbers.Numbers.{Numbers}
-use Rattle.ken_store.specs.declared.owner.Owner.{Owner}
 use Rattle.ken_store.specs.declared.turning.TurnSide.{TurnSide}
 use Rattle.ken_store.specs.Kept.{outs_in}
 use Rattle.ken_store.specs.Turning.{Turning, turn_pages}
-use Rattle.ken_store.specs.Turnovers.{all_due, base_of, changes_kept, dues_in, is_due, outs_above, page_in, unacked_to}
+use Rattle.ken_store.specs.Turnovers.{all_due, base_of, changes_kept, dues_in, is_due, unacked_to}
 use Rattle.ken_store.proofs.BaseStands.{Runs, RunsTo, Standing, due_number, goes_to, last_of, numbers_to, out_numbers}
 use Rattle.ken_store.proofs.Sizing.{base_size, heap_long, length-pages}
 use Rattle.ken_store.proofs.Turned.{side_stands}

@@ -1,5 +1,5 @@
 -- How many records a node's log holds, and how many turns were made for each log before it.
-use Rattle.std.specs.Prelude.{ℕ, ◌+◌, ◌*◌, ◌≤◌, List, length}
+use Rattle.std.specs.Prelude.{◌+◌, ◌*◌, ◌≤◌, List, length}
 use Rattle.ken_record.specs.declared.header.Header.{Header}
 use Rattle.ken_record.specs.declared.record.Record.{Record}
 use Rattle.ken_node.specs.declared.renewing.TheConstants.{MOST_RECORDS}
