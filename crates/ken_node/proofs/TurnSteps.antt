@@ -157,6 +157,13 @@ module _ {D O N : Type 0} (told : D → Option Story) (size count : D → ℕ) (
       let turns : mid.side.numbers.turns ≡ t.side.numbers.turns = ap (λ (x : TurnSide D). x.numbers.turns) heard-side in
       ⊎_elim (λ (low : mid.side.numbers.turns < mid.cap). omega (arith, low, most, turns, count_is)) (λ (high : mid.cap ≤ mid.side.numbers.turns). absurd (yet (caps.turns high))) (cases_lt mid.side.numbers.turns mid.cap)
 
+  unmade : (IsCapped mid → ⊥) → length n.turning.turns < g.turns
+  unmade yet =
+      let count_is = up.whole.workers.turns.counted.turns in
+      let cap : mid.cap ≡ g.turns = ap (λ (w : TurnWorker D). w.cap) news.rest ∙ up.whole.workers.of_run.cap in
+      let turns : mid.side.numbers.turns ≡ t.side.numbers.turns = ap (λ (x : TurnSide D). x.numbers.turns) heard-side in
+      ⊎_elim (λ (low : mid.side.numbers.turns < mid.cap). omega (arith, low, cap, turns, count_is)) (λ (high : mid.cap ≤ mid.side.numbers.turns). absurd (yet (caps.turns high))) (cases_lt mid.side.numbers.turns mid.cap)
+
   heard-turns : mid.turns.items ≡ t.turns.items
   heard-turns = ap (λ (w : TurnWorker D). w.turns.items) news.rest
 
@@ -224,6 +231,7 @@ module _ {D O N : Type 0} (told : D → Option Story) (size count : D → ℕ) (
       listens.before_are ∙ ap (λ (c : Consumed). map (ack_put v c) lead.before) heard_order ∙ sym (append-nil (map (ack_put v t.order) lead.before)) ∙ ap (λ (senders : List ℕ). map (ack_put v t.order) lead.before ++ map (ack_put v t1.order) senders) (sym listens.last_are) in
       record {
         call = handler-steps (IsIdle v (is_full t.side)) lead (omega (arith, few)) (omega (arith, few, same_count)) (other-after Idle takes) (tell-after Idle takes);
+        unmade = unmade takes.came.open_yet;
         most = let most = listened.most in subst (λ (bs : List (List ℕ)). length bs ≤ 4096) (sym listens.given_is) most;
         until = subst (λ (bs : List (List ℕ)). (length bs ≡ 4096) ⊎ (risen nones ≤ nones2)) (sym given) listened.ends.1;
         none_next = subst (λ (bs : List (List ℕ)). AllByRecursion (IsNotNext v lead.after) (packets_from g.nodes bs)) (sym given) (all-passed g.nodes v lead.after mid.order nodes counts listened.passed listened.each);

@@ -1,5 +1,5 @@
 -- What a turn of a node comes to, where its workers meet after it.
-use Rattle.std.specs.Prelude.{◌≡◌, ℕ, ◌+◌, ◌^◌, ◌≤◌, ◌⊎◌, List, [], ◌∷◌, ◌++◌, length, Option, Result, Ok, Err}
+use Rattle.std.specs.Prelude.{◌≡◌, ℕ, ◌+◌, ◌^◌, ◌<◌, ◌≤◌, ◌⊎◌, List, [], ◌∷◌, ◌++◌, length, Option, Result, Ok, Err}
 use Rattle.std.specs.List.{AllByRecursion, Contains}
 use Rattle.ken_disk.specs.Story.{Story}
 use Rattle.ken_model.specs.declared.messages.Message.{Message}
@@ -59,11 +59,12 @@ module _ {D : Type 0} (told : D → Option Story) (size : D → ℕ) (g : Game) 
     pub last : call.steps.after.turning.turns ≡ n.turning.turns ++ turn ∷ []
     pub drawn : drew turn.draws
 
-  -- nothing waits: none of the packets is a next mail, they were taken until the count of those that weren't given rose or 4,096
+  -- nothing waits, of a node with turns to make: none of the packets is a next mail, they were taken until the count of those that weren't given rose or 4,096
   -- were, and all inputs are consumed. Mail that was consumed before is acknowledged again, at most one put was made for each packet,
   -- and the node has the same turns and has come as far with what it sent and output
   pub record IdleSteps (nones nones2 : ℕ) (handler : TurnWorker D) (stage : Stage D) : Type 0 where
     pub call : HandlerSteps (IsIdle v (is_full handler.side)) stage
+    pub unmade : length n.turning.turns < g.turns
     pub most : length call.given ≤ MOST_TAKEN
     pub until : (length call.given ≡ MOST_TAKEN) ⊎ (risen nones ≤ nones2)
     pub none_next : AllByRecursion (IsNotNext v call.steps.after) (packets_from g.nodes call.given)
