@@ -14,10 +14,10 @@ told-before R None new y f is = let no : None ≡ Some y = sym f ∙ is in absur
 told-before R (Some x) new y f is = let both : Some f.0 ≡ Some y = sym f.1 ∙ is in let same : f.0 ≡ y = cc in (x, (refl, subst (λ z. R x z) same f.2))
 
 module _ {D : Type 0} (told : D → Option Story) (count : D → ℕ) (fate : D → Option Fate) where
-  abbrev Fated : (Fate → Fate → Fate → Type 0) → Disks D → Type 0
+  abbrev pub Fated : (Fate → Fate → Fate → Type 0) → Disks D → Type 0
   Fated P disks = (l i s : Fate) → fate disks.log ≡ Some l → fate disks.image ≡ Some i → fate disks.second ≡ Some s → P l i s
 
-  unfailed-fated : (P : Fate → Fate → Fate → Type 0) (a b : Disks D) → AreUnfailed told count fate a b → Fated P a → Fated P b
+  pub unfailed-fated : (P : Fate → Fate → Fate → Type 0) (a b : Disks D) → AreUnfailed told count fate a b → Fated P a → Fated P b
   unfailed-fated P a b u f = λ l i s x y z. f l i s (sym u.log.falls ∙ x) (sym u.image.falls ∙ y) (sym u.second.falls ∙ z)
 
   restarted-fated : (cuts often : ℕ) (a b : Disks D) → WereRestarted told count fate a b → Fated (HaveFallen cuts often) a → Fated (AreRaised cuts often) b
@@ -31,7 +31,7 @@ module _ {D : Type 0} (told : D → Option Story) (count : D → ℕ) (fate : D 
       let fs : s.falls ≡ ts.0.falls = ap (λ (k : Fate). k.falls) ts.1.1 in
       (ap (λ (k : Fate). k.down) tl.1.1, ap (λ (k : Fate). k.down) ti.1.1, ap (λ (k : Fate). k.down) ts.1.1, omega (arith, most, fl, fi, fs))
 
-  failed-fated : (cuts often : ℕ) (a b : Disks D) → OneHasFailed told count fate a b → Fated (AreRaised cuts often) a → Fated (HaveFallen cuts (often + 1)) b
+  pub failed-fated : (cuts often : ℕ) (a b : Disks D) → OneHasFailed told count fate a b → Fated (AreRaised cuts often) a → Fated (HaveFallen cuts (often + 1)) b
   failed-fated cuts often a b (inl w) f = λ l i s x y z.
       let t = told-before _ (fate a.log) (fate b.log) l w.0.falls x in
       let was = f t.0 i s t.1.0 (sym w.1.falls ∙ y) (sym w.2.falls ∙ z) in

@@ -18,3 +18,5 @@ pub mod AccountsRuns
 pub mod AccountsFates
 pub mod AccountsCalls
 pub mod AccountsRestarts
+pub mod AccountsFirst
+pub mod AccountsKnown

@@ -11,10 +11,10 @@ ghost use Rattle.ken_ship.specs.Outlets.{also_took};
 ghost use Rattle.ken_node.specs.Down.{IsDown, MayRestart};
 ghost use Rattle.ken_node.specs.NodeCalls.{DisksFailBy, EmitStepsBy, HearSteps, SendSteps, UnlessMemory};
 ghost use Rattle.ken_node.specs.NodeTurns.{TurnStepsBy};
-ghost use Rattle.ken_node.specs.Restarts.{RestartsBy};
 ghost use Rattle.ken_node.specs.Stages.{HasDisks, emissions_in};
 ghost use Rattle.ken_node.specs.Synced.{IsSynced};
 ghost use Rattle.ken_node.specs.Up.{IsUp, MayBeCalled, MayBeCalledOn, MayTakeTurns};
+ghost use Rattle.ken_drive.specs.Accounts.{AccountsStation, IsHeld, Terms};
 ghost use Rattle.ken_drive.specs.Ends.{WereGiven, WerePut};
 ghost use Rattle.ken_drive.specs.Stations.{RestartsStation};
 
@@ -119,8 +119,7 @@ impl<D: Disk, O: Oracle, U: Outlet> Station<D, O, U> {
         requires tries { self.old.restarts + 1 < 2 ^ 64 }
         ensures back { (g : Game) (v : ℕ) (given : List Packet) (n : core.Node) (doubt : Doubt) → IsDown ⟦<Watched<D> as Disk>⟧.told g v given n doubt self.old.node.stage → RestartsStation ⟦<Watched<D> as Disk>⟧.told ⟦<Watched<D> as Disk>⟧.size result g v given n doubt self.old self.new }
         ensures emissions { emissions_in self.new.node.stage ≡ emissions_in self.old.node.stage }
-        ensures disks { (old new : Disks (Watched D)) → HasDisks old self.old.node.stage → HasDisks new self.new.node.stage → UnlessMemory result (RestartsBy ⟦<Watched<D> as Disk>⟧.told ⟦<Watched<D> as Disk>⟧.faults ⟦<Watched<D> as Disk>⟧.fate result old new) }
-        ensures synced { (g : Game) (v : ℕ) (given : List Packet) (n : core.Node) (doubt : Doubt) → IsDown ⟦<Watched<D> as Disk>⟧.told g v given n doubt self.old.node.stage → IsSynced ⟦<Watched<D> as Disk>⟧.told ⟦<Watched<D> as Disk>⟧.faults g v self.old.node.stage → IsSynced ⟦<Watched<D> as Disk>⟧.told ⟦<Watched<D> as Disk>⟧.faults g v self.new.node.stage }
+        ensures accounts { (terms : Terms) (g : Game) (v : ℕ) → IsHeld ⟦<Watched<D> as Disk>⟧.told ⟦<Watched<D> as Disk>⟧.faults ⟦<Watched<D> as Disk>⟧.fate O.telling terms g v self.old → self.old.restarts < terms.most → AccountsStation ⟦<Watched<D> as Disk>⟧.told ⟦<Watched<D> as Disk>⟧.faults ⟦<Watched<D> as Disk>⟧.fate O.telling terms g result v self.new }
         ensures rest { self.new ≡ record self.old { node = self.new.node; restarts = self.new.restarts; lines = self.new.lines } }
     {
         self.lines.reserve(1)?;

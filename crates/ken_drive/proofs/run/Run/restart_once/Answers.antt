@@ -2,7 +2,7 @@
 use Rattle.std.proofs.Common.{◌≡◌, ◌∙◌, ◌<◌, slice_index_or, slice_set, refl, sym, ap, subst, arith}
 use Rattle.std.specs.Vec.{with_item}
 use Rattle.ken_node.specs.Down.{IsDown}
-use Rattle.ken_drive.proofs.AccountsRestarts.{held-before, restart-accounts, restart-station}
+use Rattle.ken_drive.proofs.AccountsRestarts.{held-before, restart-accounts}
 use Rattle.ken_drive.proofs.Leaving.{restart-leaves, restart-tried, tries-after, tries-is}
 use Rattle.ken_drive.proofs.run.Run.restart_once.Goals as goal
 
@@ -48,6 +48,4 @@ returns-clause-accounts g c = λ terms game made stopped most held.
     let tries = tries-is c.args.self.now.stations.items c.args.node c.index_mut.result.now (subst (λ n. c.args.node < n) (sym stopped.stands.width) stopped.known) ∙ ap (λ x. x.restarts) is in
     let left = c.requires.left in
     let h = held-before (λ w. g.D.Disk.told w.disk) (λ w. g.D.Disk.size w.disk) (λ w. g.D.Disk.faults w.disk) (λ w. g.D.Disk.fate w.disk) g.O.Oracle.telling terms game made c.args.self.now (record c.args.self.now { stations = with_item c.args.self.now.stations c.from.result c.restart.new.self }) c.args.node c.index_mut.result.now c.restart.new.self is held in
-    restart-accounts (λ w. g.D.Disk.told w.disk) (λ w. g.D.Disk.size w.disk) (λ w. g.D.Disk.faults w.disk) (λ w. g.D.Disk.fate w.disk) g.O.Oracle.telling terms game made c.args.self.now (record c.args.self.now { stations = with_item c.args.self.now.stations c.from.result c.restart.new.self }) c.args.node c.index_mut.result.now c.restart.new.self is held stopped.stands.width stopped.known (ap (λ k. slice_set c.args.self.now.stations.items k c.restart.new.self) c.from.ensures) refl c.restart.result
-    (restart-station (λ w. g.D.Disk.told w.disk) (λ w. g.D.Disk.size w.disk) (λ w. g.D.Disk.faults w.disk) (λ w. g.D.Disk.fate w.disk) g.O.Oracle.telling terms game c.args.node c.index_mut.result.now c.restart.new.self h (omega (arith, tries, left, most)) (ap (λ x. x.luck) c.restart.ensures.rest) (c.restart.ensures.synced game c.args.node h.given h.stood_for h.doubt h.down h.books.synced) c.restart.ensures.emissions
-    c.restart.result (c.restart.ensures.back game c.args.node h.given h.stood_for h.doubt h.down) c.restart.ensures.disks)
+    restart-accounts (λ w. g.D.Disk.told w.disk) (λ w. g.D.Disk.size w.disk) (λ w. g.D.Disk.faults w.disk) (λ w. g.D.Disk.fate w.disk) g.O.Oracle.telling terms game made c.args.self.now (record c.args.self.now { stations = with_item c.args.self.now.stations c.from.result c.restart.new.self }) c.args.node c.index_mut.result.now c.restart.new.self is held stopped.stands.width stopped.known (ap (λ k. slice_set c.args.self.now.stations.items k c.restart.new.self) c.from.ensures) refl c.restart.result (c.restart.ensures.accounts terms game c.args.node h (omega (arith, tries, left, most)))
