@@ -73,11 +73,13 @@ module _ (g : Game) (c : Cluster) (accord : Accord g c) where
   unfolding line_of
   some_history =
       let m = merged g.nodes in
-      let past : (v : ℕ) → g.nodes ≤ v → (c.node v).turning.turns ≡ [] = λ v le. (accord.made.nodes v).turns ∙ ap (sealed v) (accord.made.nobody v le) in
-      (values_of m.entries, record {
-        parts = λ v. ⊎_elim (λ lt. m.parts v lt) (λ le. m.others v le ∙ sym (ap (map (effects_line v)) (past v le))) (cases_lt v g.nodes);
-        rises = m.order.rises;
-      })
+      let past : (v : ℕ) → g.nodes ≤ v → (c.node v).turning.turns ≡ [] = λ v le. (accord.made.nodes v).turns ∙ ap (sealed v) (accord.made.nobody v le) in (
+        values_of m.entries,
+        record {
+          parts = λ v. ⊎_elim (λ lt. m.parts v lt) (λ le. m.others v le ∙ sym (ap (map (effects_line v)) (past v le))) (cases_lt v g.nodes);
+          rises = m.order.rises;
+        },
+      )
 
   -- a node has consumed no more than was sent to it
   pub consumed-few : (u v : ℕ) → consumed_from u (c.node v).turning.turns ≤ length (sent_on g c.node u v)
@@ -87,9 +89,9 @@ module _ (g : Game) (c : Cluster) (accord : Accord g c) where
       let front = (accord.made.nodes v).order u in
       let took : consumed_from u (c.node v).turning.turns ≡ length (consumed u (h v)) = ap (consumed_from u) (accord.made.nodes v).turns ∙ consumed-sealed u v (h v) in
       let sent : sent_on g c.node u v ≡ messages g h u v = ⊎_elim
-          (λ (e : u ≡ outside). let q : (u == outside) ≡ true = eq-eqb u outside e in rw q refl)
-          (λ ne. rw (ne_eqb u outside ne) (ap (mails_to u v) (accord.made.nodes u).turns ∙ mails_to-sealed u v (h u)))
-          (cases_eq u outside) in
+      (λ (e : u ≡ outside). let q : (u == outside) ≡ true = eq-eqb u outside e in rw q refl)
+      (λ ne. rw (ne_eqb u outside ne) (ap (mails_to u v) (accord.made.nodes u).turns ∙ mails_to-sealed u v (h u)))
+      (cases_eq u outside) in
       omega (arith, took, ap length sent, ap length front.1, length-append (consumed u (h v)) front.0)
 
   -- and what waits is little

@@ -20,3 +20,5 @@ pub mod AccountsCalls
 pub mod AccountsRestarts
 pub mod AccountsFirst
 pub mod AccountsKnown
+pub mod EndingSums
+pub mod EndingRun

@@ -1,5 +1,6 @@
 -- A run that has ended, and what it says then.
-use Rattle.std.specs.Prelude.{◌≡◌, ℕ, ◌+◌, ◌<◌, List, [], ◌∷◌, ◌++◌, map, length, ◌==◌, if◌then◌else◌, slice_index_or, sum_by, Option}
+use Rattle.std.specs.Prelude.{◌≡◌, ℕ, ◌+◌, ◌<◌, ◌≤◌, List, [], ◌∷◌, ◌++◌, map, length, ◌==◌, if◌then◌else◌, slice_index_or, take, sum_by, Option}
+use Rattle.std.specs.List.{AllByRecursion}
 use Rattle.ken_disk.specs.Story.{Story}
 use Rattle.ken_model.specs.declared.messages.Out.{Out}
 use Rattle.ken_model.specs.declared.reports.Emission.{Emission}
@@ -7,21 +8,26 @@ use Rattle.ken_model.specs.declared.reports.Ending.{Ending}
 use Rattle.ken_model.specs.declared.reports.Ending.TheVariants.{Settled, Cut}
 use Rattle.ken_model.specs.declared.reports.Lines.{Lines}
 use Rattle.ken_model.specs.declared.reports.RestartLine.{RestartLine}
+use Rattle.ken_model.specs.declared.values.Value.{Value}
 use Rattle.ken_model.specs.Emissions.{AreByNode, AreLegalEmissions, emitted_by}
 use Rattle.ken_model.specs.Ending.{Ends, nodes_of}
 use Rattle.ken_model.specs.Game.{Game}
+use Rattle.ken_model.specs.History.{lines_by}
 use Rattle.ken_model.specs.Laws.{steps_of}
 use Rattle.ken_model.specs.Limits.{IsPlainRun}
 use Rattle.ken_model.specs.Network.{outside}
 use Rattle.ken_model.specs.Report.{lines_of}
 use Rattle.ken_model.specs.Schedule.{IsLegal, play}
-use Rattle.ken_model.specs.Spelling.{IsPrintable}
+use Rattle.ken_model.specs.Spelling.{IsPrintable, IsWord}
 use Rattle.ken_core.specs.Clusters.{IsHistoryOf}
 use Rattle.ken_core.specs.Nodes.{Node}
+use Rattle.ken_core.specs.Turns.{effects_line}
+use Rattle.ken_node.specs.declared.stage.Stage.{Stage}
 use Rattle.ken_node.specs.declared.watched.Watched.{Watched}
-use Rattle.ken_node.specs.Stages.{emissions_in}
+use Rattle.ken_node.specs.Stages.{HasValue, emissions_in, turns_in}
 use Rattle.ken_flow.specs.Groups.{group_of}
 use Rattle.ken_flow.specs.Standstill.{HasEnded, waits_on}
+use Rattle.ken_drive.specs.declared.lines.Summary.{Summary}
 use Rattle.ken_drive.specs.declared.run.Run.{Run}
 use Rattle.ken_drive.specs.declared.station.Station.{Station}
 use Rattle.ken_drive.specs.Running.{IsRunning}
@@ -46,6 +52,17 @@ waits_in g nodes = sum_by (waits_for g nodes) (nodes_of g)
 abbrev pub ending_of : ℕ → Ending
 ending_of waiting = if waiting == 0 then Settled else Cut
 
+-- the restarts of node v that answered, by the turns with which it went on
+abbrev pub restart_lines : ℕ → List ℕ → List RestartLine
+restart_lines v turns = map (λ n. record { node = v; turns = n }) turns
+
+abbrev pub AreWords : List RestartLine → Type 0
+AreWords lines = AllByRecursion (λ (r : RestartLine). IsWord r.node × IsWord r.turns) lines
+
+-- the value of a node's heap stands after these
+abbrev pub AddsHeap : {D : Type 0} → Stage D → List Value → List Value → Type 0
+AddsHeap stage old new = (value : Value) × HasValue value stage × (new ≡ old ++ value ∷ [])
+
 module _ {D O U : Type 0} where
   -- what nodes have emitted, node by node
   abbrev pub emissions_of : List (Station D O U) → List Emission
@@ -55,7 +72,17 @@ module _ {D O U : Type 0} where
   -- a line for each restart that answered, node by node, from node v on
   abbrev pub restarts_from : ℕ → List (Station D O U) → List RestartLine
   restarts_from v [] = []
-  restarts_from v (s ∷ ss) = map (λ turns. record { node = v; turns = turns }) s.lines.items ++ restarts_from (v + 1) ss
+  restarts_from v (s ∷ ss) = restart_lines v s.lines.items ++ restarts_from (v + 1) ss
+
+  -- the first so many nodes have said all that they say
+  pub record HaveSaid (count : ℕ) (stations : List (Station D O U)) (s : Summary) : Type 0 where
+    pub parts : (v : ℕ) (d : Station D O U) → v < count → lines_by v s.timeline ≡ map (effects_line v) (turns_in (slice_index_or stations v d).node.stage)
+    pub others : (v : ℕ) → count ≤ v → lines_by v s.timeline ≡ []
+    pub emissions : s.emissions.items ≡ emissions_of (take count stations)
+    pub restarts : s.restarts.items ≡ restarts_from 0 (take count stations)
+    pub words : AreWords s.restarts.items
+    pub width : length s.heaps.items ≡ count
+    pub heaps : (v : ℕ) (value : Value) (d : Station D O U) → v < count → HasValue (slice_index_or s.heaps.items v value) (slice_index_or stations v d).node.stage
 
 module _ {D O U : Type 0} (told : Watched D → Option Story) (size : Watched D → ℕ) (took : U → Option (List Out)) where
   -- all nodes were made and are up, each output was emitted, and what waits is for nodes that have made all their turns
@@ -65,8 +92,8 @@ module _ {D O U : Type 0} (told : Watched D → Option Story) (size : Watched D 
     pub all : made ≡ g.nodes
     pub ended : HasEnded g running.nodes
 
-  -- a run of some game has ended
-  pub record HasCome (r : Run D O U) : Type 0 where
+  -- a run of some game has ended, and tells what it says
+  pub record MayTell (r : Run D O U) : Type 0 where
     pub game : Game
     pub ended : IsEnded game r
 
@@ -77,3 +104,4 @@ module _ {D O U : Type 0} (told : Watched D → Option Story) (size : Watched D 
     pub emissions : l.emissions ≡ emissions_of r.stations.items
     pub emitted : (v : ℕ) → v < g.nodes → emitted_by v l.emissions ≡ emitted_by v e.running.emissions
     pub restarts : l.restarts ≡ restarts_from 0 r.stations.items
+    pub ending : l.ending ≡ ending_of (waits_in g e.running.nodes)

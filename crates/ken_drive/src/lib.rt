@@ -5,6 +5,7 @@ mod copies;
 mod faults;
 mod inboxes;
 mod laws;
+mod lines;
 mod memory;
 mod oracle;
 mod outlet;

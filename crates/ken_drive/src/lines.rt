@@ -1,0 +1,177 @@
+// What a run that has ended says.
+ghost use Rattle.std.specs.Prelude.{◌≡◌, ◌≢◌, ◌<◌, ◌++◌, [], ℕ, length, map, IfOk, OnOk};
+ghost use Rattle.ken_core.specs.Timeline.{StampsRise};
+ghost use Rattle.ken_core.specs.Turns.{effects_line};
+ghost use Rattle.ken_model.specs.Game.{Game};
+ghost use Rattle.ken_model.specs.History.{lines_by};
+ghost use Rattle.ken_model.specs.Limits.{IsPlainRun};
+ghost use Rattle.ken_node.specs.Stages.{IsCreated, emissions_in, turns_in};
+ghost use Rattle.ken_drive.specs.Ended.{AddsHeap, AreWords, MayTell, HaveSaid, IsEnded, IsReportOf, ending_of, restart_lines, waits_for, waits_in};
+
+use crate::copies;
+use crate::run::Run;
+use crate::station::Station;
+use crate::timeline::Timeline;
+use ken_app::Oracle;
+use ken_disk::Disk;
+use ken_model::{Emission, Ending, Items, Lines, OUTSIDE, RestartLine, Value};
+use ken_node::Watched;
+use ken_ship::Outlet;
+use std::alloc::{AllocError, Global};
+
+/// What the nodes so far say together.
+#[derive(Drop)]
+pub(crate) struct Summary {
+    timeline: Timeline,
+    emissions: Vec<Emission>,
+    restarts: Vec<RestartLine>,
+    /// The heap of each node.
+    heaps: Vec<Value>,
+}
+
+impl Summary {
+    fn new(alloc: Global) -> Self
+        ensures timeline { result.timeline ≡ [] }
+        ensures emissions { result.emissions.items ≡ [] }
+        ensures restarts { result.restarts.items ≡ [] }
+        ensures heaps { result.heaps.items ≡ [] }
+    {
+        Summary {
+            timeline: Timeline::new(alloc),
+            emissions: Vec::new(alloc),
+            restarts: Vec::new(alloc),
+            heaps: Vec::new(alloc),
+        }
+    }
+
+    /// Adds all that a node says which has no turns here yet. After an error some of it may be missing.
+    fn add<D: Disk, O, U>(
+        &mut self,
+        alloc: Global,
+        node: u8,
+        station: &Station<D, O, U>,
+    ) -> Result<(), AllocError>
+        requires created { IsCreated station.now.node.stage }
+        requires rise { StampsRise 0 (map (effects_line node) (turns_in station.now.node.stage)) }
+        requires fresh { lines_by node self.old.timeline ≡ [] }
+        ensures its_turns { OnOk result (lines_by node self.new.timeline ≡ map (effects_line node) (turns_in station.now.node.stage)) }
+        ensures others { OnOk result ((v : ℕ) → v ≢ node → lines_by v self.new.timeline ≡ lines_by v self.old.timeline) }
+        ensures emissions { OnOk result (self.new.emissions.items ≡ self.old.emissions.items ++ emissions_in station.now.node.stage) }
+        ensures restarts { OnOk result (self.new.restarts.items ≡ self.old.restarts.items ++ restart_lines node station.now.lines.items) }
+        ensures words { OnOk result (AreWords self.old.restarts.items → AreWords self.new.restarts.items) }
+        ensures heap { OnOk result (AddsHeap station.now.node.stage self.old.heaps.items self.new.heaps.items) }
+    {
+        self.timeline.add(alloc, node, station.node.turns())?;
+        add_emissions(alloc, station.node.emissions(), &mut self.emissions)?;
+        add_restarts(node, station.lines.as_slice(), &mut self.restarts)?;
+        self.heaps.push(station.node.value(alloc)?)?;
+        Ok(())
+    }
+}
+
+/// Adds copies of what a node has emitted.
+fn add_emissions(
+    alloc: Global,
+    emissions: &[Emission],
+    all: &mut Vec<Emission>,
+) -> Result<(), AllocError>
+    ensures { OnOk result (all.new.items ≡ all.old.items ++ emissions.now) }
+{
+    for emission in emissions {
+        all.push(copies::emission(alloc, emission)?)?;
+    }
+    Ok(())
+}
+
+/// Adds a line for each restart of a node that answered, by the turns with which it went on.
+fn add_restarts(node: u8, turns: &[u64], all: &mut Vec<RestartLine>) -> Result<(), AllocError>
+    ensures lines { OnOk result (all.new.items ≡ all.old.items ++ restart_lines node turns.now) }
+    ensures words { OnOk result (AreWords all.old.items → AreWords all.new.items) }
+{
+    for turns in turns {
+        all.push(RestartLine {
+            node,
+            turns: *turns,
+        })?;
+    }
+    Ok(())
+}
+
+/// The ending of a run in which so much waits.
+fn ending_of(waiting: u64) -> Ending
+    ensures { result ≡ ending_of waiting }
+{
+    if waiting == 0 {
+        Ending::Settled
+    } else {
+        Ending::Cut
+    }
+}
+
+impl<D: Disk, O: Oracle, U: Outlet> Run<D, O, U> {
+    /// What all nodes say.
+    fn gather(&self) -> Result<Summary, AllocError>
+        requires { MayTell ⟦<Watched<D> as Disk>⟧.told ⟦<Watched<D> as Disk>⟧.size U.took self.now }
+        ensures { IfOk result (HaveSaid (length self.now.stations.items) self.now.stations.items) }
+    {
+        let mut summary = Summary::new(self.alloc);
+        for node in 0..self.nodes {
+            summary.add(self.alloc, node, &self.stations[usize::from(node)])?;
+        }
+        Ok(summary)
+    }
+
+    /// How many messages and inputs wait for a node.
+    fn waiting_for(&self, node: u8) -> u64
+        requires ended { MayTell ⟦<Watched<D> as Disk>⟧.told ⟦<Watched<D> as Disk>⟧.size U.took self.now }
+        requires known { node < self.now.nodes }
+        ensures { (g : Game) (e : IsEnded ⟦<Watched<D> as Disk>⟧.told ⟦<Watched<D> as Disk>⟧.size U.took g self.now) → result ≡ waits_for g e.running.nodes node }
+    {
+        let receiver = &self.stations[usize::from(node)].node;
+        let mut waiting = receiver.inputs() - receiver.consumed(OUTSIDE);
+        for sender in 0..self.nodes {
+            let sent = self.stations[usize::from(sender)].node.sent(node);
+            waiting += sent - receiver.consumed(sender);
+        }
+        waiting
+    }
+
+    /// How many messages and inputs wait.
+    fn waiting(&self) -> u64
+        requires { MayTell ⟦<Watched<D> as Disk>⟧.told ⟦<Watched<D> as Disk>⟧.size U.took self.now }
+        ensures { (g : Game) (e : IsEnded ⟦<Watched<D> as Disk>⟧.told ⟦<Watched<D> as Disk>⟧.size U.took g self.now) → result ≡ waits_in g e.running.nodes }
+    {
+        let mut waiting = 0;
+        for node in 0..self.nodes {
+            waiting += self.waiting_for(node);
+        }
+        waiting
+    }
+
+    /// How the run has ended: `Settled` where nothing waits, and else `Cut`.
+    pub fn end(&self) -> Ending
+        requires { MayTell ⟦<Watched<D> as Disk>⟧.told ⟦<Watched<D> as Disk>⟧.size U.took self.now }
+        ensures { (g : Game) (e : IsEnded ⟦<Watched<D> as Disk>⟧.told ⟦<Watched<D> as Disk>⟧.size U.took g self.now) → result ≡ ending_of (waits_in g e.running.nodes) }
+    {
+        ending_of(self.waiting())
+    }
+
+    /// The lines of the run's report: the turns of all nodes in the order of their stamps, and at equal stamps of their nodes; what
+    /// each node has emitted and how it was restarted, node by node; the heaps; and how the run has ended.
+    pub fn lines(&self) -> Result<Lines, AllocError>
+        requires { MayTell ⟦<Watched<D> as Disk>⟧.told ⟦<Watched<D> as Disk>⟧.size U.took self.now }
+        ensures { (g : Game) (e : IsEnded ⟦<Watched<D> as Disk>⟧.told ⟦<Watched<D> as Disk>⟧.size U.took g self.now) → IsPlainRun g → IfOk result (IsReportOf ⟦<Watched<D> as Disk>⟧.told ⟦<Watched<D> as Disk>⟧.size U.took g self.now e) }
+    {
+        let summary = self.gather()?;
+        let turns = summary.timeline.into_lines(self.alloc)?;
+        let waiting = self.waiting();
+        Ok(Lines {
+            turns: Items::new(turns),
+            emissions: Items::new(summary.emissions),
+            restarts: Items::new(summary.restarts),
+            heaps: Items::new(summary.heaps),
+            ending: ending_of(waiting),
+            waiting,
+        })
+    }
+}
