@@ -1,13 +1,11 @@
 -- What a run keeps account of at a node that was just created, and what follows from it later.
-use Rattle.std.proofs.Common.{◌≡◌, ◌∙◌, ℕ, ◌+◌, ◌-◌, ◌*◌, ◌^◌, ◌≤◌, min, inl, inr, ⊎_elim, List, [], ◌∷◌, ◌++◌, length, Option, Some, None, Result, Ok, Err, nat_lt, if◌then◌else◌, true, refl, sym, ap, subst, arith}
+use Rattle.std.proofs.Common.{◌≡◌, ◌∙◌, ℕ, ◌+◌, inl, inr, ⊎_elim, List, [], ◌∷◌, ◌++◌, length, Option, Some, None, Ok, Err, nat_lt, true, refl, sym, ap, subst, arith}
 use Rattle.std.specs.Prelude.{IfSome}
-use Rattle.std.specs.List.{flat_map}
 use Rattle.std.proofs.lemmas.Bool.Decides.{nat_tests}
 use Rattle.ken_disk.specs.Fates.{Fate}
 use Rattle.ken_disk.specs.Story.{Story}
 use Rattle.ken_model.specs.declared.reports.Emission.{Emission}
 use Rattle.ken_model.specs.Game.{Game}
-use Rattle.ken_model.specs.Handler.{Handler}
 use Rattle.ken_record.specs.declared.effects.Effects.{Effects}
 use Rattle.ken_app.specs.Oracles.{Telling}
 use Rattle.ken_core.specs.Calls.{no_doubt}
@@ -15,7 +13,6 @@ use Rattle.ken_core.specs.Nodes.{Node}
 use Rattle.ken_core.specs.Packets.{Packet}
 use Rattle.ken_store.specs.declared.disks.Disks.{Disks}
 use Rattle.ken_store.specs.Creations.{HasFailed, IsUnfailed}
-use Rattle.ken_ship.specs.declared.faults.NodeFault.{NodeFault}
 use Rattle.ken_ship.specs.declared.faults.NodeFault.TheVariants.{Disk}
 use Rattle.ken_node.specs.declared.stage.Stage.{Stage}
 use Rattle.ken_node.specs.declared.watched.Watched.{Watched}
@@ -26,7 +23,7 @@ use Rattle.ken_node.specs.Stages.{HasDisks, emissions_in, turns_in}
 use Rattle.ken_node.specs.Synced.{IsSynced}
 use Rattle.ken_node.proofs.Fresh.{has-one}
 use Rattle.ken_drive.specs.declared.station.Station.{Station}
-use Rattle.ken_drive.specs.Accounts.{AreRaised, HasBooks, HasDrawn, HasFailedOften, HasFates, HaveFallen, IsAccounted, IsHeld, Terms, draws_of, doubted, emitted_through, faults_of, numbers_of}
+use Rattle.ken_drive.specs.Accounts.{AreRaised, HasBooks, HasDrawn, HasFailedOften, HasFates, HaveFallen, IsAccounted, IsHeld, Terms, draws_of, emitted_through, faults_of, numbers_of}
 use Rattle.ken_drive.specs.Sequences.{IsSubsequence, NeverFall, descents}
 use Rattle.ken_drive.specs.Worlds.{IsOf}
 use Rattle.ken_drive.proofs.AccountsCalls.{failed-sum, unfailed-sum}

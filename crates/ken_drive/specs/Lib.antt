@@ -9,3 +9,4 @@ pub mod Recovering
 pub mod Ended
 pub mod Sequences
 pub mod Accounts
+pub mod Known
