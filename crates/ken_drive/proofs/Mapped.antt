@@ -34,14 +34,20 @@ module _ {D : Type 0} (told : D → Option Story) (size : D → ℕ) (g : Game) 
     until = s.until;
     none_next = s.none_next;
     no_input = s.no_input;
+    few = s.few;
+    again = s.again;
+    same_turns = s.same_turns;
+    same_sending = s.same_sending;
   }
   turn-mapped (Ok Capped) s = record {
     none_given = given [] s.none_given;
     none_put = puts [] s.none_put;
     steps = s.steps;
+    same = s.same;
     heard = s.heard;
     hears = s.hears;
     capped = s.capped;
+    over = s.over;
   }
   turn-mapped (Err Disk) s = ⊎_elim
       (λ (f : TurnoverFails told size g v n gave put stage). inl (record { none_given = given [] f.none_given; none_put = puts [] f.none_put; with_news = f.with_news; down = f.down }))
