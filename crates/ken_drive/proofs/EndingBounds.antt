@@ -1,5 +1,5 @@
 -- How far a schedule of a run with a handler that keeps the limits of a turn can come, and that its lines can be printed.
-use Rattle.std.proofs.Common.{◌≡◌, ◌≢◌, ℕ, zero, suc, ◌+◌, ◌-◌, ◌*◌, ◌<◌, ◌≤◌, ◌^◌, max, List, [], ◌∷◌, ◌++◌, map, length, slice_get, slice_index_or, sum_by, All, Bool, ◌==◌, ◌&&◌, true, false, if◌then◌else◌, Option, Some, None, IfSome, option_map, refl, sym, ap, subst, ◌∙◌, ⊎_elim, arith, length-append, eq-eqb, ne_eqb, eqb-true, add-zero}
+use Rattle.std.proofs.Common.{◌≡◌, ◌≢◌, ℕ, zero, suc, ◌+◌, ◌*◌, ◌<◌, ◌≤◌, ◌^◌, List, [], ◌∷◌, ◌++◌, length, slice_index_or, sum_by, All, ◌==◌, Option, Some, None, IfSome, refl, sym, ap, subst, ⊎_elim, arith, length-append, eq-eqb, ne_eqb, eqb-true, add-zero}
 use Rattle.std.specs.List.{AllByRecursion, range_with_len}
 use Rattle.std.proofs.lemmas.Bool.{cases_eq, cases_lt, cond_both}
 use Rattle.std.proofs.lemmas.List.Elements.{All-from_get_or}
@@ -10,14 +10,12 @@ use Rattle.ken_model.specs.declared.facts.Input.{Input}
 use Rattle.ken_model.specs.declared.messages.Message.{Message}
 use Rattle.ken_model.specs.declared.messages.Send.{Send}
 use Rattle.ken_model.specs.declared.messages.Step.{Step}
-use Rattle.ken_model.specs.declared.reports.TurnLine.{TurnLine}
-use Rattle.ken_model.specs.Effects.{Effect}
 use Rattle.ken_model.specs.Ending.{nodes_of}
 use Rattle.ken_model.specs.Game.{Game}
 use Rattle.ken_model.specs.Limits.{IsWithinLimits}
-use Rattle.ken_model.specs.Network.{Network, Place, Link, Turn, outside, inputs_from, inputs_for, start, numbered, turn_of, place_after, link_after, applied, applied_or_same, stepped}
+use Rattle.ken_model.specs.Network.{Network, Place, Turn, outside, inputs_from, inputs_for, start, numbered, place_after, applied}
 use Rattle.ken_model.specs.Schedule.{IsLegalFrom, played, turn_line, turn_lines}
-use Rattle.ken_model.specs.Spelling.{IsWord, IsPrintableTurn}
+use Rattle.ken_model.specs.Spelling.{IsPrintableTurn}
 use Rattle.ken_app.specs.Turning.{IsAllowed, IsShortText}
 use Rattle.ken_node.specs.Workers.{ComesTo, KeepsShort}
 use Rattle.ken_drive.proofs.EndingCounts.{sum-one_more}

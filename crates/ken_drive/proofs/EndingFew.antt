@@ -1,5 +1,5 @@
 -- What waits in a group in accord is little: its turns have a history.
-use Rattle.std.proofs.Common.{◌≡◌, ◌≢◌, ℕ, zero, suc, ◌+◌, ◌-◌, ◌<◌, ◌≤◌, ◌^◌, List, [], ◌∷◌, ◌++◌, map, length, true, ◌==◌, refl, sym, ap, subst, ◌∙◌, ⊎_elim, arith, append-nil, length-append, eq-eqb, ne_eqb}
+use Rattle.std.proofs.Common.{◌≡◌, ℕ, zero, suc, ◌+◌, ◌<◌, ◌≤◌, ◌^◌, List, [], ◌∷◌, ◌++◌, map, length, true, ◌==◌, refl, sym, ap, subst, ◌∙◌, ⊎_elim, arith, append-nil, length-append, eq-eqb, ne_eqb}
 use Rattle.std.specs.Map.{values_of}
 use Rattle.std.specs.BTreeMap.{insert_entry}
 use Rattle.std.proofs.lemmas.Bool.{cases_eq, cases_lt}
@@ -7,8 +7,7 @@ use Rattle.ken_model.specs.declared.reports.TurnLine.{TurnLine}
 use Rattle.ken_model.specs.Game.{Game}
 use Rattle.ken_model.specs.History.{Rises, consumed, lines_by, messages}
 use Rattle.ken_model.specs.Limits.{IsWithinLimits}
-use Rattle.ken_model.specs.Network.{inputs_for, outside}
-use Rattle.ken_record.specs.declared.effects.Effects.{Effects}
+use Rattle.ken_model.specs.Network.{outside}
 use Rattle.ken_core.specs.Accord.{Accord}
 use Rattle.ken_core.specs.Clusters.{Cluster, IsHistoryOf}
 use Rattle.ken_core.specs.Timeline.{Entry, IsInOrder, StampsRise}
@@ -16,8 +15,7 @@ use Rattle.ken_core.specs.Turns.{consumed_from, effects_line, mails_to, sealed}
 use Rattle.ken_core.proofs.Inserted.{IsAdding, IsAdding-insert_entry, by_stamp_and_node}
 use Rattle.ken_core.proofs.Numbers.{consumed-sealed, mails_to-sealed}
 use Rattle.ken_core.proofs.Rising.{lines_own, turns_rise}
-use Rattle.ken_core.proofs.Sent.{messages-node}
-use Rattle.ken_flow.specs.Standstill.{sent_on, waits_on}
+use Rattle.ken_flow.specs.Standstill.{sent_on}
 use Rattle.ken_node.specs.Workers.{KeepsShort}
 use Rattle.ken_drive.specs.Ended.{waits_in}
 use Rattle.ken_drive.proofs.EndingTold.{waiting-few}

@@ -6,7 +6,6 @@ use Rattle.ken_model.specs.declared.kinds.Kind.{Kind}
 use Rattle.ken_model.specs.declared.messages.Message.{Message}
 use Rattle.ken_model.specs.declared.messages.Send.{Send}
 use Rattle.ken_model.specs.declared.messages.Step.{Step}
-use Rattle.ken_model.specs.declared.reports.TurnLine.{TurnLine}
 use Rattle.ken_model.specs.declared.values.Block.{Block}
 use Rattle.ken_model.specs.declared.values.Value.{Value}
 use Rattle.ken_model.specs.Effects.{Effect}
@@ -15,12 +14,12 @@ use Rattle.ken_model.specs.Handler.{Handler}
 use Rattle.ken_model.specs.Heap.{IsHeap}
 use Rattle.ken_model.specs.Kinds.{handler_of}
 use Rattle.ken_model.specs.Limits.{IsWithinLimits, IsPlainRun, ArePlain}
-use Rattle.ken_model.specs.Network.{Network, Place, Link, Turn, outside, inputs_from, start, numbered, are_words, handled, turn_at, turn_of, place_after, link_after, applied, applied_or_same, stepped}
+use Rattle.ken_model.specs.Network.{Network, Place, Turn, outside, inputs_from, start, numbered, are_words, handled, turn_at, turn_of, place_after, applied, applied_or_same, stepped}
 use Rattle.ken_model.specs.Report.{IsOneLine}
 use Rattle.ken_model.specs.Schedule.{IsLegalFrom, played}
 use Rattle.ken_model.specs.Spelling.{IsWord, IsPrintableHeap}
 use Rattle.ken_model.proofs.Heaps.{heap_after, blocks-within}
-use Rattle.ken_drive.proofs.Texts.{HoldsTexts, IsText, text_after}
+use Rattle.ken_drive.proofs.Texts.{HoldsTexts, text_after}
 
 pub all_append : {A : Type 0} (P : A → Type 0) (xs ys : List A) → AllByRecursion P xs → AllByRecursion P ys → AllByRecursion P (xs ++ ys)
 all_append P [] ys all more = more

@@ -1,14 +1,11 @@
 -- What the stations of a run that has ended say.
-use Rattle.std.proofs.Common.{◌≡◌, ◌≢◌, ℕ, zero, suc, ◌+◌, ◌-◌, ◌<◌, ◌≤◌, ◌^◌, List, [], ◌∷◌, ◌++◌, map, length, slice_index_or, get_or, take, sum_by, Option, Some, refl, sym, ap, subst, ◌∙◌, ⊎_elim, inl, inr, arith, append_assoc, append-nil, length-append, add-zero, ne_eqb}
-use Rattle.std.specs.List.{AllByRecursion, range_with_len}
+use Rattle.std.proofs.Common.{◌≡◌, ◌≢◌, ℕ, zero, suc, ◌+◌, ◌-◌, ◌<◌, ◌≤◌, ◌^◌, List, [], ◌∷◌, ◌++◌, map, length, slice_index_or, get_or, take, sum_by, Option, Some, refl, sym, ap, subst, ◌∙◌, ⊎_elim, arith, append_assoc, append-nil, length-append, add-zero, ne_eqb}
+use Rattle.std.specs.List.{range_with_len}
 use Rattle.std.proofs.lemmas.Bool.{cases_eq, cases_lt}
 use Rattle.std.proofs.lemmas.List.Sums.{sum_by-cons}
 use Rattle.ken_disk.specs.Story.{Story}
 use Rattle.ken_model.specs.declared.messages.Out.{Out}
-use Rattle.ken_model.specs.declared.reports.Emission.{Emission}
 use Rattle.ken_model.specs.declared.reports.Lines.{Lines}
-use Rattle.ken_model.specs.declared.reports.RestartLine.{RestartLine}
-use Rattle.ken_model.specs.declared.reports.TurnLine.{TurnLine}
 use Rattle.ken_model.specs.declared.values.Value.{Value}
 use Rattle.ken_model.specs.Emissions.{emitted_by}
 use Rattle.ken_model.specs.Ending.{nodes_of}
@@ -23,7 +20,6 @@ use Rattle.ken_core.specs.Timeline.{StampsRise}
 use Rattle.ken_core.specs.Turns.{consumed_from, effects_line, mails_to, sealed}
 use Rattle.ken_core.proofs.Rising.{turns_rise}
 use Rattle.ken_record.specs.declared.effects.Effects.{Effects}
-use Rattle.ken_store.specs.Turning.{turn_pages}
 use Rattle.ken_node.specs.declared.stage.Stage.{Stage}
 use Rattle.ken_node.specs.declared.watched.Watched.{Watched}
 use Rattle.ken_node.specs.Stages.{HasValue, IsCreated, emissions_in, turns_in}

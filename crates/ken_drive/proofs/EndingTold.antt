@@ -1,15 +1,13 @@
 -- Lines that tell what the nodes of a group in accord hold, which has ended, are the report of a run.
-use Rattle.std.proofs.Common.{◌≡◌, ◌≢◌, ℕ, zero, suc, ◌+◌, ◌-◌, ◌*◌, ◌<◌, ◌≤◌, ◌^◌, ◌⊎◌, inl, inr, List, [], ◌∷◌, map, length, slice_index_or, sum_by, All, Option, Some, true, false, ◌==◌, if◌then◌else◌, refl, sym, ap, subst, ◌∙◌, ⊎_elim, arith, zero-add, eq-eqb, ne_eqb}
-use Rattle.std.specs.List.{AllByRecursion, range_with_len}
+use Rattle.std.proofs.Common.{◌≡◌, ◌≢◌, ℕ, ◌+◌, ◌*◌, ◌<◌, ◌≤◌, ◌^◌, ◌⊎◌, inl, inr, List, [], ◌∷◌, map, length, slice_index_or, sum_by, All, Some, true, ◌==◌, sym, ap, subst, ◌∙◌, ⊎_elim, arith, zero-add, eq-eqb, ne_eqb}
+use Rattle.std.specs.List.{AllByRecursion}
 use Rattle.std.proofs.lemmas.Bool.{cases_eq, cases_lt}
 use Rattle.std.proofs.lemmas.List.{length-map, same_lists}
 use Rattle.std.proofs.lemmas.List.Elements.{All-from_get_or}
 use Rattle.std.proofs.lemmas.List.FromFn.{length-range_with_len, length-map-range_with_len, get_or-map-range_with_len}
 use Rattle.std.proofs.lemmas.List.Sums.{sum_by-cons, sum_by-le}
 use Rattle.ken_model.specs.declared.kinds.Kind.{Kind}
-use Rattle.ken_model.specs.declared.messages.Message.{Message}
 use Rattle.ken_model.specs.declared.messages.Out.{Out}
-use Rattle.ken_model.specs.declared.messages.Step.{Step}
 use Rattle.ken_model.specs.declared.reports.Emission.{Emission}
 use Rattle.ken_model.specs.declared.reports.Ending.{Ending}
 use Rattle.ken_model.specs.declared.reports.Ending.TheVariants.{Settled, Cut}
@@ -20,11 +18,11 @@ use Rattle.ken_model.specs.declared.values.Value.{Value}
 use Rattle.ken_model.specs.Emissions.{AreAllEmitted, AreByNode, AreEmitted, AreLegalEmissions, emitted_by, largest_of}
 use Rattle.ken_model.specs.Ending.{Ends, IsCut, IsSettled, nodes_of, waiting, waiting_on}
 use Rattle.ken_model.specs.Game.{Game}
-use Rattle.ken_model.specs.History.{InAccord, IsHistory, Shows, messages}
+use Rattle.ken_model.specs.History.{InAccord, IsHistory, messages}
 use Rattle.ken_model.specs.Kinds.{handler_of}
 use Rattle.ken_model.specs.Laws.{IsPlayed, steps_of}
 use Rattle.ken_model.specs.Limits.{IsPlainRun, IsWithinLimits}
-use Rattle.ken_model.specs.Network.{Link, Network, Place, Turn, inputs_for, outputs_from, outside, start}
+use Rattle.ken_model.specs.Network.{Network, Turn, outside, start}
 use Rattle.ken_model.specs.Reading.{read_value}
 use Rattle.ken_model.specs.Report.{lines_of}
 use Rattle.ken_model.specs.Schedule.{play, turn_lines}
@@ -33,7 +31,7 @@ use Rattle.ken_model.proofs.Agreement.{agreement_is_legal}
 use Rattle.ken_core.specs.Accord.{Accord}
 use Rattle.ken_core.specs.Clusters.{Cluster, IsHistoryOf}
 use Rattle.ken_core.specs.Laws.{IsPlayedBy}
-use Rattle.ken_core.specs.Turns.{consumed_from, effects_line, mails_to, outs_of}
+use Rattle.ken_core.specs.Turns.{effects_line, outs_of}
 use Rattle.ken_core.proofs.History.{history_is_legal}
 use Rattle.ken_core.proofs.Numbers.{effects_lines, length-outputs_from}
 use Rattle.ken_flow.specs.Standstill.{HasEnded, sent_on, waits_on}

@@ -14,7 +14,6 @@ use Rattle.ken_model.specs.Ending.{Ends, nodes_of}
 use Rattle.ken_model.specs.Game.{Game}
 use Rattle.ken_model.specs.History.{lines_by}
 use Rattle.ken_model.specs.Laws.{steps_of}
-use Rattle.ken_model.specs.Limits.{IsPlainRun}
 use Rattle.ken_model.specs.Network.{outside}
 use Rattle.ken_model.specs.Report.{lines_of}
 use Rattle.ken_model.specs.Schedule.{IsLegal, play}

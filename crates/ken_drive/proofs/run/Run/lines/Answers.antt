@@ -1,5 +1,5 @@
 -- The lines of a run that has ended are its report.
-use Rattle.std.proofs.Common.{◌∙◌, length, sym, subst, arith}
+use Rattle.std.proofs.Common.{◌∙◌, sym, subst, arith}
 use Rattle.ken_model.specs.History.{Rises}
 use Rattle.ken_drive.proofs.EndingLists.{first_of}
 use Rattle.ken_drive.proofs.EndingRun.{ended_width, report_of}

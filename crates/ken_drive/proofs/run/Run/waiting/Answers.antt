@@ -1,5 +1,5 @@
 -- One node after the other.
-use Rattle.std.proofs.Common.{◌≡◌, ◌+◌, ◌<◌, arith}
+use Rattle.std.proofs.Common.{arith}
 use Rattle.ken_drive.proofs.EndingRun.{waiting_more, waiting_whole}
 use Rattle.ken_drive.proofs.run.Run.waiting.Goals as goal
 

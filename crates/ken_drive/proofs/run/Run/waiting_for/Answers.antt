@@ -1,5 +1,5 @@
 -- What waits for a node, of one sender after the other.
-use Rattle.std.proofs.Common.{◌≡◌, ◌∙◌, ◌<◌, ◌+◌, ◌-◌, inl, inr, slice_index_or, refl, sym, ap, arith}
+use Rattle.std.proofs.Common.{◌≡◌, ◌∙◌, ◌<◌, ◌-◌, inl, inr, slice_index_or, refl, sym, ap, arith}
 use Rattle.ken_drive.proofs.EndingRun.{created_there, ended_count, up_there, waiting_for_more, waiting_none, waits_of_inputs, waits_of_node, waits_whole}
 use Rattle.ken_drive.proofs.run.Run.waiting_for.Goals as goal
 

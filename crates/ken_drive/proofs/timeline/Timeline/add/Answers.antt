@@ -1,5 +1,5 @@
 -- One turn after another is added.
-use Rattle.std.proofs.Common.{◌≡◌, ◌≢◌, List, [], ◌∷◌, ◌++◌, ◌+◌, map, drop, ℕ, refl, sym, ap, subst, ◌∙◌, length}
+use Rattle.std.proofs.Common.{◌≡◌, List, ◌∷◌, ◌++◌, ◌+◌, map, drop, sym, ap, subst, ◌∙◌, length}
 use Rattle.ken_record.specs.declared.effects.Effects.{Effects}
 use Rattle.ken_model.specs.declared.reports.TurnLine.{TurnLine}
 use Rattle.ken_model.specs.History.{lines_by}
