@@ -10,6 +10,7 @@ use Rattle.ken_model.specs.declared.reports.Emission.{Emission}
 use Rattle.ken_model.specs.Emissions.{emitted_by}
 use Rattle.ken_model.specs.Game.{Game}
 use Rattle.ken_net.specs.Puts.{Put}
+use Rattle.ken_net.specs.Standings.{Leaving, all_passed}
 use Rattle.ken_core.specs.declared.events.Event.{Event}
 use Rattle.ken_core.specs.Accord.{Accord}
 use Rattle.ken_core.specs.Calls.{Doubt}
@@ -25,15 +26,18 @@ use Rattle.ken_node.specs.Stages.{emissions_in}
 use Rattle.ken_node.specs.Up.{IsUp}
 use Rattle.ken_flow.specs.Flows.{AreKnown}
 use Rattle.ken_flow.specs.Groups.{group_of, with_node}
+use Rattle.ken_flow.specs.Standstill.{AreShort}
 use Rattle.ken_flow.proofs.Flows.{given_are_known}
 use Rattle.ken_flow.proofs.Puts.{acks_go_no_further}
 use Rattle.ken_drive.specs.declared.inboxes.Waiting.{Waiting}
 use Rattle.ken_drive.specs.declared.run.Run.{Run}
 use Rattle.ken_drive.specs.declared.station.Station.{Station}
-use Rattle.ken_drive.specs.Ends.{WereGiven, WerePut}
+use Rattle.ken_drive.specs.Ends.{AreModest, WereGiven, WerePut}
 use Rattle.ken_drive.specs.Running.{IsRunning, IsStopped, StandsFor}
 use Rattle.ken_drive.specs.Stations.{AreLinksOf, HasEmitted, IsStation}
 use Rattle.ken_drive.proofs.Lifted.{group-after, known-stays, links-stay, posted, put-stays, running-after, stands-after, stopped-after, takes-known}
+use Rattle.ken_drive.proofs.Modest.{modest-stay}
+use Rattle.ken_drive.proofs.Short.{filed-short, gave-short}
 
 -- where nothing more was emitted, what was emitted is as before
 none-more : {A : Type 0} (xs ys : List A) → ys ≡ [] → xs ++ ys ≡ xs
@@ -54,6 +58,16 @@ module _ {D O U : Type 0} (told : Watched D → Option Story) (size : Watched D 
 
   own : IsStation took g (group_of g nodes emissions) v (emitted_by v emissions) s
   own = subst (IsStation took g (group_of g nodes emissions) v (emitted_by v emissions)) is (stands.each v s low)
+
+  own-modest : AreModest s.mail × AreModest s.acks
+  own-modest = subst (λ (x : Station D O U). AreModest x.mail × AreModest x.acks) is (stands.modest v s low)
+
+  -- links after puts are as modest
+  put-modest : (links links2 : Leaving) (old new : List (List (List ℕ))) (puts : List Put) → WerePut links links2 old new puts → AreModest links → AreModest links2
+  put-modest links links2 old new puts put are = subst AreModest (sym put.links_are) (λ w. modest-stay puts links.links w (are w))
+
+  put-short : (links links2 : Leaving) (old new : List (List (List ℕ))) (puts : List Put) → WerePut links links2 old new puts → AreShort old → AreShort new
+  put-short links links2 old new puts put short = subst AreShort (sym put.passed_on) (filed-short (all_passed puts links.links) old short)
 
   -- nothing was emitted
   pub still-emitted : (out : Outgoing) → out.outs ≡ [] → emissions_in s2.node.stage ≡ emissions_in s.node.stage → s2.out ≡ s.out → HasEmitted took v (emitted_by v emissions ++ out.outs) s2
@@ -86,6 +100,8 @@ module _ {D O U : Type 0} (told : Watched D → Option Story) (size : Watched D 
         acks = acks.0;
         emitted = still-emitted out none kept (ap (λ (x : Station D O U). x.out) rest);
       })
+      (gave-short v r.waiting.mail r2.waiting.mail bytes gave.gave stands.short.0, put-short s.acks s2.acks r.waiting.acks r2.waiting.acks puts put stands.short.1)
+      (subst AreModest (sym (ap (λ (x : Station D O U). x.mail) rest)) own-modest.0, put-modest s.acks s2.acks r.waiting.acks r2.waiting.acks puts put own-modest.1)
 
   -- ---- a call that takes acknowledgements and puts mail
 
@@ -111,6 +127,8 @@ module _ {D O U : Type 0} (told : Watched D → Option Story) (size : Watched D 
         acks = subst (AreLinksOf g w2 v) (sym (ap (λ (x : Station D O U). x.acks) rest)) (links-stay g nodes emissions v packets events out after stands.accord known were run v s.acks own.acks);
         emitted = still-emitted out none kept (ap (λ (x : Station D O U). x.out) rest);
       })
+      (put-short s.mail s2.mail r.waiting.mail r2.waiting.mail puts put stands.short.0, gave-short v r.waiting.acks r2.waiting.acks bytes gave.gave stands.short.1)
+      (put-modest s.mail s2.mail r.waiting.mail r2.waiting.mail puts put own-modest.0, subst AreModest (sym (ap (λ (x : Station D O U). x.acks) rest)) own-modest.1)
 
   -- ---- a call without the network
 
@@ -134,6 +152,8 @@ module _ {D O U : Type 0} (told : Watched D → Option Story) (size : Watched D 
         acks = subst (AreLinksOf g w2 v) (sym links.1) (links_stay s.acks own.acks);
         emitted = emitted;
       })
+      (subst AreShort (sym mail-is) stands.short.0, subst AreShort (sym acks-is) stands.short.1)
+      (subst AreModest (sym links.0) own-modest.0, subst AreModest (sym links.1) own-modest.1)
 
   -- ---- and all are up, or the node is down
 

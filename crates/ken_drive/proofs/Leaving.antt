@@ -64,7 +64,7 @@ fewer-at {D} {O} {U} left items k v s s2 at low is fewer =
     omega (arith, before, after, fewer)
 
 -- an outlet that told what was emitted tells one output more
-took-more : (told : Option (List Out)) (os : List Out) (o : Out) → IfSome told (λ t. t ≡ os) → IfSome (also_took (o ∷ []) told) (λ t. t ≡ os ++ o ∷ [])
+pub took-more : (told : Option (List Out)) (os : List Out) (o : Out) → IfSome told (λ t. t ≡ os) → IfSome (also_took (o ∷ []) told) (λ t. t ≡ os ++ o ∷ [])
 took-more None os o is = tt
 took-more (Some ts) os o is = ap (λ xs. xs ++ o ∷ []) is
 

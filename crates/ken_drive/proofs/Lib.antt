@@ -1,5 +1,7 @@
 pub mod Oracles
 pub mod Mapped
+pub mod Short
+pub mod Modest
 pub mod Lifted
 pub mod Quiet
 pub mod Calls
@@ -22,3 +24,15 @@ pub mod AccountsFirst
 pub mod AccountsKnown
 pub mod EndingSums
 pub mod EndingRun
+pub mod Sums
+pub mod Within
+pub mod Posting
+pub mod Hearing
+pub mod Moves
+pub mod Moving
+pub mod Visits
+pub mod Restarting
+pub mod Opening
+pub mod Draining
+pub mod Turning
+pub mod AtEnd

@@ -27,12 +27,13 @@ use Rattle.ken_node.specs.Up.{IsUp}
 use Rattle.ken_flow.specs.Flows.{IsKnown, AreKnown, PutsAreKnown}
 use Rattle.ken_flow.specs.Groups.{group_of, with_node}
 use Rattle.ken_flow.specs.Laws.{StaysKnown}
+use Rattle.ken_flow.specs.Standstill.{AreShort}
 use Rattle.ken_flow.proofs.Flows.{given_are_known, known_stays, passed_are_known, spelled_are_known}
 use Rattle.ken_flow.proofs.Groups.{call_keeps_group}
 use Rattle.ken_flow.proofs.Puts.{put_stays_put, puts_are_put}
 use Rattle.ken_drive.specs.declared.run.Run.{Run}
 use Rattle.ken_drive.specs.declared.station.Station.{Station}
-use Rattle.ken_drive.specs.Ends.{WerePut}
+use Rattle.ken_drive.specs.Ends.{AreModest, WerePut}
 use Rattle.ken_drive.specs.Running.{IsRunning, IsStopped, StandsFor}
 use Rattle.ken_drive.specs.Stations.{AreLinksOf, IsStation}
 
@@ -146,8 +147,9 @@ module _ (g : Game) (nodes : ℕ → Node) (emissions : List Emission) (v : ℕ)
         (subst (λ (os : List Out). IsStation took g group-after v os s2) (sym (emitted-here v emissions out.outs)) is)
 
     pub stands-after : (length r2.waiting.mail ≡ g.nodes) × (length r2.waiting.acks ≡ g.nodes) → AreKnown g group-after r2.waiting.mail → AreKnown g group-after r2.waiting.acks
-        → IsStation took g group-after v (emitted_by v emissions ++ out.outs) s2 → StandsFor told size took g made (with_node v after nodes) emitted-after r2
-    stands-after boxes mail acks station = record {
+        → IsStation took g group-after v (emitted_by v emissions ++ out.outs) s2 → AreShort r2.waiting.mail × AreShort r2.waiting.acks → AreModest s2.mail × AreModest s2.acks
+        → StandsFor told size took g made (with_node v after nodes) emitted-after r2
+    stands-after boxes mail acks station short modest = record {
       limits = stands.limits;
       keeps = stands.keeps;
       few = stands.few;
@@ -162,6 +164,11 @@ module _ (g : Game) (nodes : ℕ → Node) (emissions : List Emission) (v : ℕ)
           (λ (here : u ≡ v). subst (λ (x : ℕ). IsStation took g group-after x (emitted_by x emitted-after) (slice_index_or r2.stations.items x d)) (sym here) (station-changed d station))
           (λ other. station-stays u d other below)
           (cases_eq u v);
+      short = short;
+      modest = λ u d below. ⊎_elim
+          (λ (here : u ≡ v). subst (λ (x : ℕ). AreModest (slice_index_or r2.stations.items x d).mail × AreModest (slice_index_or r2.stations.items x d).acks) (sym here) (subst (λ (s : Station D O U). AreModest s.mail × AreModest s.acks) (sym (station-here d)) modest))
+          (λ other. subst (λ (s : Station D O U). AreModest s.mail × AreModest s.acks) (sym (station-other u d other)) (stands.modest u d below))
+          (cases_eq u v);
     }
 
     up-here : (d : Station D O U) → IsUp told size g v after s2.node.stage → IsUp told size g v (with_node v after nodes v) (slice_index_or r2.stations.items v d).node.stage
@@ -172,7 +179,15 @@ module _ (g : Game) (nodes : ℕ → Node) (emissions : List Emission) (v : ℕ)
         subst (λ (n : Node). IsUp told size g u n (slice_index_or r2.stations.items u d).node.stage) (sym (with-other u v after nodes ne))
         (subst (λ (s : Station D O U). IsUp told size g u (nodes u) s.node.stage) (sym (station-other u d ne)) (others u d below ne))
 
-    -- all are up again
+    -- all are up
+    pub ups-after : IsUp told size g v after s2.node.stage → ((u : ℕ) (d : Station D O U) → u < made → u ≢ v → IsUp told size g u (nodes u) (slice_index_or r.stations.items u d).node.stage)
+        → (u : ℕ) (d : Station D O U) → u < made → IsUp told size g u (with_node v after nodes u) (slice_index_or r2.stations.items u d).node.stage
+    ups-after up others u d below = ⊎_elim
+        (λ (here : u ≡ v). subst (λ (x : ℕ). IsUp told size g x (with_node v after nodes x) (slice_index_or r2.stations.items x d).node.stage) (sym here) (up-here d up))
+        (λ other. up-other u d below other others)
+        (cases_eq u v)
+
+    -- so the run goes on
     pub running-after : StandsFor told size took g made (with_node v after nodes) emitted-after r2 → IsUp told size g v after s2.node.stage
         → ((u : ℕ) (d : Station D O U) → u < made → u ≢ v → IsUp told size g u (nodes u) (slice_index_or r.stations.items u d).node.stage)
         → IsRunning told size took g made r2
@@ -180,10 +195,7 @@ module _ (g : Game) (nodes : ℕ → Node) (emissions : List Emission) (v : ℕ)
       nodes = with_node v after nodes;
       emissions = emitted-after;
       stands = now;
-      up = λ u d below. ⊎_elim
-          (λ (here : u ≡ v). subst (λ (x : ℕ). IsUp told size g x (with_node v after nodes x) (slice_index_or r2.stations.items x d).node.stage) (sym here) (up-here d up))
-          (λ other. up-other u d below other others)
-          (cases_eq u v);
+      up = ups-after up others;
     }
 
     -- or the node is down

@@ -1,9 +1,10 @@
 -- How the flow of a run moves over several calls, and how much work each leaves.
-use Rattle.std.proofs.Common.{◌≡◌, ℕ, ◌+◌, ◌-◌, ◌<◌, ◌≤◌, ◌⊎◌, inl, inr, ⊎_elim, List, length, map, slice_index_or, slice_set, Option, Result, Ok, Err, refl, sym, ap, subst, ◌∙◌, arith}
+use Rattle.std.proofs.Common.{◌≡◌, ℕ, ◌+◌, ◌-◌, ◌*◌, ◌^◌, ◌<◌, ◌≤◌, ◌⊎◌, inl, inr, ⊎_elim, List, length, map, slice_index_or, slice_set, take, Option, Result, Ok, Err, refl, sym, ap, subst, ◌∙◌, arith}
 use Rattle.std.specs.Prelude.{IsErrOf, OnOk}
 use Rattle.std.specs.Result.{IsErrAnd}
 use Rattle.std.specs.List.{sum_by}
-use Rattle.std.proofs.lemmas.List.Sums.{sum_by-set}
+use Rattle.std.proofs.lemmas.List.{take_all}
+use Rattle.std.proofs.lemmas.List.Sums.{sum_by-set, sum_by_more}
 use Rattle.ken_disk.specs.Story.{Story}
 use Rattle.ken_model.specs.declared.messages.Out.{Out}
 use Rattle.ken_model.specs.Game.{Game}
@@ -52,6 +53,23 @@ module _ {D O U : Type 0} (r r2 : Run D O U) (v : ℕ) (s s2 : Station D O U) (l
       let one : work_at r.restarts s2 ≡ (r.restarts - (s.restarts + 1)) + turns_to_make s2.node.stage = ap (λ (n : ℕ). (r.restarts - n) + turns_to_make s2.node.stage) tries in
       omega (arith, both, one, turns, may)
 
+-- ---- how much work is left, node by node
+
+pub left-more : {D O U : Type 0} (most : ℕ) (items items2 : List (Station D O U)) (i left one : ℕ) (s : Station D O U) → items2 ≡ items → i < length items2 → s ≡ slice_index_or items2 i s → one ≡ work_at most s
+    → left ≡ sum_by (work_at most) (take i items) → left + one ≡ sum_by (work_at most) (take (i + 1) items)
+left-more {D} {O} {U} most items items2 i left one s same low is one_is sum =
+    let within : i < length items = subst (λ (xs : List (Station D O U)). i < length xs) same low in
+    let here : s ≡ slice_index_or items i s = is ∙ ap (λ (xs : List (Station D O U)). slice_index_or xs i s) same in
+    let work : one ≡ work_at most (slice_index_or items i s) = one_is ∙ ap (work_at most) here in
+    let more = sum_by_more (work_at most) items i s within in
+    omega (arith, more, work, sum)
+
+pub few-more : (i left one : ℕ) → left ≤ i * 2 ^ 65 → one < 2 ^ 65 → left + one ≤ (i + 1) * 2 ^ 65
+few-more i left one few less = omega (arith, few, less)
+
+pub left-all : {D O U : Type 0} (most : ℕ) (items items2 : List (Station D O U)) (i left : ℕ) → items2 ≡ items → length items2 ≤ i → left ≡ sum_by (work_at most) (take i items) → left ≡ sum_by (work_at most) items
+left-all {D} {O} {U} most items items2 i left same past sum = sum ∙ ap (λ (xs : List (Station D O U)). sum_by (work_at most) xs) (take_all i items (subst (λ (xs : List (Station D O U)). length xs ≤ i) same past))
+
 -- ---- one call after another
 
 pub on-ok-with : {T E : Type 0} {A B : Type 0} (result : Result T E) → OnOk result A → (A → B) → OnOk result B
@@ -62,6 +80,11 @@ on-ok-with (Err e) a f = tt
 pub same-fault : {T : Type 0} (result : Result T NodeFault) (fault : NodeFault) → IsErrAnd result (λ e. e ≡ fault) → IsErrOf result Disk → fault ≡ Disk
 same-fault (Ok x) fault same is = absurd same
 same-fault (Err e) fault same is = cc
+
+-- an error after calls that left no more work
+pub less-err : {D O U T : Type 0} (old mid new : Run D O U) (result : Result T NodeFault) (fault : NodeFault) → work_left mid ≤ work_left old
+    → IsErrAnd result (λ e. e ≡ fault) → (fault ≡ Disk → work_left new ≤ work_left mid) → IsErrOf result Disk → work_left new ≤ work_left old
+less-err old mid new result fault before same less was = let here = less (same-fault result fault same was) in omega (arith, before, here)
 
 module _ {D O U : Type 0} (told : Watched D → Option Story) (size : Watched D → ℕ) (took : U → Option (List Out)) where
   pub now-less : (how : Flow → Flow → Type 0) (g : Game) (made : ℕ) (old new : Run D O U) (was : IsRunning told size took g made old) → Moved told size took how g made old new was → work_left new ≤ work_left old
@@ -83,9 +106,9 @@ module _ {D O U : Type 0} (told : Watched D → Option Story) (size : Watched D 
         moved = ⊎_elim
             (λ less. inl (omega (arith, few, less)))
             (λ (x : (work_left mid ≡ work_left old) × one (flow_of was.nodes old) (flow_of first.now.nodes mid)). ⊎_elim
-                (λ less. let e = x.0 in inl (omega (arith, e, less)))
-                (λ (y : (work_left new ≡ work_left mid) × two (flow_of first.now.nodes mid) (flow_of next.now.nodes new)). inr (y.0 ∙ x.0, join (flow_of was.nodes old) (flow_of first.now.nodes mid) (flow_of next.now.nodes new) x.1 y.1))
-                next.moved)
+            (λ less. let e = x.0 in inl (omega (arith, e, less)))
+            (λ (y : (work_left new ≡ work_left mid) × two (flow_of first.now.nodes mid) (flow_of next.now.nodes new)). inr (y.0 ∙ x.0, join (flow_of was.nodes old) (flow_of first.now.nodes mid) (flow_of next.now.nodes new) x.1 y.1))
+            next.moved)
             first.moved;
       }
 
@@ -97,3 +120,9 @@ module _ {D O U : Type 0} (told : Watched D → Option Story) (size : Watched D 
   -- nothing moved yet
   pub moves-none : (how : Game → Flow → Flow → Type 0) (v : ℕ) (r : Run D O U) → ((g : Game) (f : Flow) → how g f f) → Moves told size took how v r r
   moves-none how v r same g made was low = record { now = was; moved = inr (refl, same g (flow_of was.nodes r)) }
+
+  -- what holds of each game where a call answers Ok
+  pub moves-from : {T E : Type 0} (how : Game → Flow → Flow → Type 0) (v : ℕ) (old new : Run D O U) (result : Result T E)
+      → ((g : Game) (made : ℕ) (was : IsRunning told size took g made old) → v < made → OnOk result (Moved told size took (how g) g made old new was)) → OnOk result (Moves told size took how v old new)
+  moves-from how v old new (Ok x) each = each
+  moves-from how v old new (Err e) each = tt

@@ -10,3 +10,7 @@ pub mod Ended
 pub mod Sequences
 pub mod Accounts
 pub mod Known
+pub mod Flowing
+pub mod Open
+pub mod Draining
+pub mod Endings

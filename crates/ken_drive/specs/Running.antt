@@ -21,11 +21,13 @@ use Rattle.ken_node.specs.Up.{IsUp}
 use Rattle.ken_node.specs.Workers.{KeepsShort}
 use Rattle.ken_flow.specs.Flows.{AreKnown}
 use Rattle.ken_flow.specs.Groups.{group_of}
+use Rattle.ken_flow.specs.Standstill.{AreShort}
 use Rattle.ken_drive.specs.declared.faults.RunFault.{RunFault}
 use Rattle.ken_drive.specs.declared.faults.RunFault.TheVariants.{Down}
 use Rattle.ken_drive.specs.declared.faults.RunFault.TheVariants as run_faults
 use Rattle.ken_drive.specs.declared.run.Run.{Run}
 use Rattle.ken_drive.specs.declared.station.Station.{Station}
+use Rattle.ken_drive.specs.Ends.{AreModest}
 use Rattle.ken_drive.specs.Stations.{IsStation}
 
 module _ {D O U : Type 0} (told : Watched D → Option Story) (size : Watched D → ℕ) (took : U → Option (List Out)) where
@@ -42,6 +44,8 @@ module _ {D O U : Type 0} (told : Watched D → Option Story) (size : Watched D 
     pub mail : AreKnown g (group_of g nodes emissions) r.waiting.mail
     pub acks : AreKnown g (group_of g nodes emissions) r.waiting.acks
     pub each : (v : ℕ) (d : Station D O U) → v < made → IsStation took g (group_of g nodes emissions) v (emitted_by v emissions) (slice_index_or r.stations.items v d)
+    pub short : AreShort r.waiting.mail × AreShort r.waiting.acks
+    pub modest : (v : ℕ) (d : Station D O U) → v < made → AreModest (slice_index_or r.stations.items v d).mail × AreModest (slice_index_or r.stations.items v d).acks
 
   -- all that were made are up
   pub record IsRunning (g : Game) (made : ℕ) (r : Run D O U) : Type 0 where

@@ -2,6 +2,8 @@
 #![tactic(auto)]
 
 mod copies;
+mod drain;
+mod ending;
 mod faults;
 mod inboxes;
 mod laws;

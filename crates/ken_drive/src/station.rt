@@ -11,8 +11,8 @@ ghost use Rattle.ken_ship.specs.Outlets.{also_took};
 ghost use Rattle.ken_node.specs.Down.{IsDown, MayRestart};
 ghost use Rattle.ken_node.specs.NodeCalls.{DisksFailBy, EmitStepsBy, HearSteps, SendSteps, UnlessMemory};
 ghost use Rattle.ken_node.specs.NodeTurns.{TurnStepsBy};
-ghost use Rattle.ken_node.specs.Stages.{HasDisks, emissions_in};
 ghost use Rattle.ken_node.specs.Synced.{IsSynced};
+ghost use Rattle.ken_node.specs.Stages.{HasDisks, emissions_in, refusals_in};
 ghost use Rattle.ken_node.specs.Up.{IsUp, MayBeCalled, MayBeCalledOn, MayTakeTurns};
 ghost use Rattle.ken_drive.specs.Accounts.{AccountsStation, IsHeld, Terms};
 ghost use Rattle.ken_drive.specs.Ends.{WereGiven, WerePut};
@@ -58,6 +58,7 @@ impl<D: Disk, O: Oracle, U: Outlet> Station<D, O, U> {
         ensures clocks_go_on { HasAnswered (O.telling.clocks self.old.luck) (O.telling.clocks self.new.luck) }
         ensures words_go_on { HasAnswered (O.telling.words self.old.luck) (O.telling.words self.new.luck) }
         ensures origin { O.telling.origin self.new.luck ≡ O.telling.origin self.old.luck }
+        ensures refusals { refusals_in self.new.node.stage ≡ refusals_in self.old.node.stage }
         ensures rest { self.new ≡ record self.old { node = self.new.node; luck = self.new.luck; acks = self.new.acks } }
     {
         let mut end = end_of(alloc, &mut self.acks, &mut waiting.mail, &mut waiting.acks);
@@ -73,6 +74,7 @@ impl<D: Disk, O: Oracle, U: Outlet> Station<D, O, U> {
         requires may { MayBeCalledOn ⟦<Watched<D> as Disk>⟧.told ⟦<Watched<D> as Disk>⟧.size self.old.mail.from (length waiting.old.mail) self.old.node.stage }
         ensures steps { (g : Game) (v : ℕ) (n : core.Node) → IsUp ⟦<Watched<D> as Disk>⟧.told ⟦<Watched<D> as Disk>⟧.size g v n self.old.node.stage → v ≡ self.old.mail.from → OnOk result (SendSteps ⟦<Watched<D> as Disk>⟧.told ⟦<Watched<D> as Disk>⟧.size g v n (WerePut self.old.mail self.new.mail waiting.old.mail waiting.new.mail) self.new.node.stage) }
         ensures emissions { emissions_in self.new.node.stage ≡ emissions_in self.old.node.stage }
+        ensures refusals { refusals_in self.new.node.stage ≡ refusals_in self.old.node.stage }
         ensures given { WereGiven self.old.mail.from 0 waiting.old.acks waiting.new.acks [] }
         ensures disks { (old new : Disks (Watched D)) → HasDisks old self.old.node.stage → HasDisks new self.new.node.stage → new ≡ old }
         ensures synced { (g : Game) (v : ℕ) → IsSynced ⟦<Watched<D> as Disk>⟧.told ⟦<Watched<D> as Disk>⟧.faults g v self.old.node.stage → IsSynced ⟦<Watched<D> as Disk>⟧.told ⟦<Watched<D> as Disk>⟧.faults g v self.new.node.stage }
@@ -91,6 +93,7 @@ impl<D: Disk, O: Oracle, U: Outlet> Station<D, O, U> {
         requires may { MayBeCalledOn ⟦<Watched<D> as Disk>⟧.told ⟦<Watched<D> as Disk>⟧.size self.old.mail.from (length waiting.old.mail) self.old.node.stage }
         ensures steps { (g : Game) (v : ℕ) (n : core.Node) → IsUp ⟦<Watched<D> as Disk>⟧.told ⟦<Watched<D> as Disk>⟧.size g v n self.old.node.stage → v ≡ self.old.mail.from → (nones : ℕ) × OnOk result (HearSteps ⟦<Watched<D> as Disk>⟧.told ⟦<Watched<D> as Disk>⟧.size g v n (WereGiven v nones waiting.old.acks waiting.new.acks) 0 nones self.new.node.stage) }
         ensures emissions { OnOk result (emissions_in self.new.node.stage ≡ emissions_in self.old.node.stage) }
+        ensures refusals { OnOk result (refusals_in self.new.node.stage ≡ refusals_in self.old.node.stage) }
         ensures put { waiting.new.mail ≡ waiting.old.mail }
         ensures disks { (old new : Disks (Watched D)) → HasDisks old self.old.node.stage → HasDisks new self.new.node.stage → new ≡ old }
         ensures synced { (g : Game) (v : ℕ) → IsSynced ⟦<Watched<D> as Disk>⟧.told ⟦<Watched<D> as Disk>⟧.faults g v self.old.node.stage → IsSynced ⟦<Watched<D> as Disk>⟧.told ⟦<Watched<D> as Disk>⟧.faults g v self.new.node.stage }

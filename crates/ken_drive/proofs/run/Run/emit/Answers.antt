@@ -1,10 +1,13 @@
 -- An output of one node is emitted.
 use Rattle.std.proofs.Common.{◌≡◌, ◌∙◌, ◌<◌, slice_index_or, slice_set, refl, sym, ap, subst}
 use Rattle.std.specs.Vec.{with_item}
+use Rattle.ken_flow.specs.Standstill.{Emits}
 use Rattle.ken_drive.specs.Left.{outputs_left}
 use Rattle.ken_drive.proofs.Leaving.{emit-fewer, emit-leaves, fewer-at, may-call, up-before}
-use Rattle.ken_drive.proofs.AccountsCalls.{emit-accounts, own-accounts}
+use Rattle.ken_drive.proofs.Moves.{moves-from}
+use Rattle.ken_drive.proofs.Moving.{emit-less, emit-moves}
 use Rattle.ken_drive.proofs.run.Run.emit.Goals as goal
+use Rattle.ken_drive.proofs.AccountsCalls.{emit-accounts, own-accounts}
 
 pub emit-requires : goal.emit-requires
 emit-requires g c =
@@ -36,3 +39,23 @@ returns-clause-accounts g c = λ terms game made running low accounted.
     emit-accounts (λ w. g.D.Disk.told w.disk) (λ w. g.D.Disk.size w.disk) (λ w. g.D.Disk.faults w.disk) (λ w. g.D.Disk.fate w.disk) g.O.Oracle.telling terms game made c.args.self.now (record c.args.self.now { stations = with_item c.args.self.now.stations c.from.result c.emit.new.self }) c.args.node c.index_mut.result.now c.emit.new.self
     (running.nodes c.args.node) up running.stands.width low is (ap (λ k. slice_set c.args.self.now.stations.items k c.emit.new.self) c.from.ensures) refl accounted
     (ap (λ x. x.luck) c.emit.ensures.rest) (ap (λ x. x.lines.items) c.emit.ensures.rest) (ap (λ x. x.restarts) c.emit.ensures.rest) (c.emit.ensures.synced game c.args.node was.books.synced) c.emit.ensures.disks _ c.emit.result (c.emit.ensures.steps game c.args.node (running.nodes c.args.node) up)
+
+pub returns-clause-moves : goal.returns-clause-moves
+returns-clause-moves g c =
+    moves-from (λ w. g.D.Disk.told w.disk) (λ w. g.D.Disk.size w.disk) g.U.Outlet.took (λ game. Emits c.args.node) c.args.node c.args.self.now (record c.args.self.now { stations = with_item c.args.self.now.stations c.from.result c.emit.new.self }) c.emit.result
+    (λ game made running low.
+    let is : slice_index_or c.args.self.now.stations.items c.args.node c.index_mut.result.now ≡ c.index_mut.result.now = sym (c.index_mut.ensures.value ∙ ap (λ k. slice_index_or c.args.self.now.stations.items k c.index_mut.result.now) c.from.ensures) in
+    let up = up-before (λ w. g.D.Disk.told w.disk) (λ w. g.D.Disk.size w.disk) g.U.Outlet.took game made c.args.self.now c.args.node c.index_mut.result.now running low is in
+    emit-moves (λ w. g.D.Disk.told w.disk) (λ w. g.D.Disk.size w.disk) g.U.Outlet.took game made c.args.self.now (record c.args.self.now { stations = with_item c.args.self.now.stations c.from.result c.emit.new.self }) c.args.node c.index_mut.result.now c.emit.new.self running low is (refl, refl) (ap (λ k. slice_set c.args.self.now.stations.items k c.emit.new.self) c.from.ensures) refl
+    c.emit.ensures.rest refl c.emit.result (c.emit.ensures.steps game c.args.node (running.nodes c.args.node) up))
+
+pub returns-clause-less : goal.returns-clause-less
+returns-clause-less g c = λ was.
+    let game = c.requires.game in
+    let made = c.requires.made in
+    let running = c.requires.running in
+    let low = c.requires.known in
+    let is : slice_index_or c.args.self.now.stations.items c.args.node c.index_mut.result.now ≡ c.index_mut.result.now = sym (c.index_mut.ensures.value ∙ ap (λ k. slice_index_or c.args.self.now.stations.items k c.index_mut.result.now) c.from.ensures) in
+    let up = up-before (λ w. g.D.Disk.told w.disk) (λ w. g.D.Disk.size w.disk) g.U.Outlet.took game made c.args.self.now c.args.node c.index_mut.result.now running low is in
+    emit-less (λ w. g.D.Disk.told w.disk) (λ w. g.D.Disk.size w.disk) g.U.Outlet.took game made c.args.self.now (record c.args.self.now { stations = with_item c.args.self.now.stations c.from.result c.emit.new.self }) c.args.node c.index_mut.result.now c.emit.new.self running low is (refl, refl) (ap (λ k. slice_set c.args.self.now.stations.items k c.emit.new.self) c.from.ensures) refl
+    c.emit.ensures.rest refl c.emit.result was (c.emit.ensures.steps game c.args.node (running.nodes c.args.node) up)

@@ -2,8 +2,9 @@
 use Rattle.std.proofs.Common.{◌≡◌, ◌∙◌, slice_index_or, slice_set, refl, sym, ap}
 use Rattle.std.specs.Vec.{with_item}
 use Rattle.ken_drive.proofs.Leaving.{may-call-on, hear-leaves, own-station, up-before}
-use Rattle.ken_drive.proofs.AccountsCalls.{heard-no-further, hear-accounts, own-accounts}
+use Rattle.ken_drive.proofs.Moving.{hear-moves}
 use Rattle.ken_drive.proofs.run.Run.hear.Goals as goal
+use Rattle.ken_drive.proofs.AccountsCalls.{heard-no-further, hear-accounts, own-accounts}
 
 pub hear-requires-clause-may : goal.hear-requires-clause-may
 hear-requires-clause-may g c =
@@ -30,3 +31,12 @@ returns-clause-accounts g c = λ terms game made running low accounted.
     (running.nodes c.args.node) up running.stands.width low is (ap (λ k. slice_set c.args.self.now.stations.items k c.hear.new.self) c.from.ensures) refl accounted
     (ap (λ x. x.luck) c.in_ok-hear.ensures.rest) (ap (λ x. x.lines.items) c.in_ok-hear.ensures.rest) (ap (λ x. x.restarts) c.in_ok-hear.ensures.rest) (c.in_ok-hear.ensures.synced game c.args.node was.books.synced) c.in_ok-hear.ensures.disks _ 0 steps.0 steps.1
     (heard-no-further (λ w. g.D.Disk.told w.disk) (λ w. g.D.Disk.size w.disk) g.U.Outlet.took game made c.args.self.now c.args.node running low c.hear.new.waiting.acks steps.0 0 c.hear.new.self.node.stage steps.1) c.in_ok-hear.ensures.emissions
+
+pub returns-clause-moves : goal.returns-clause-moves
+returns-clause-moves g c = λ game made running low.
+    let is : slice_index_or c.args.self.now.stations.items c.args.node c.index_mut.result.now ≡ c.index_mut.result.now = sym (c.index_mut.ensures.value ∙ ap (λ k. slice_index_or c.args.self.now.stations.items k c.index_mut.result.now) c.from.ensures) in
+    let own = own-station (λ w. g.D.Disk.told w.disk) (λ w. g.D.Disk.size w.disk) g.U.Outlet.took game made c.args.self.now c.args.node c.index_mut.result.now running low is in
+    let up = up-before (λ w. g.D.Disk.told w.disk) (λ w. g.D.Disk.size w.disk) g.U.Outlet.took game made c.args.self.now c.args.node c.index_mut.result.now running low is in
+    let steps = c.in_ok-hear.ensures.steps game c.args.node (running.nodes c.args.node) up (sym own.mail.from) in
+    hear-moves (λ w. g.D.Disk.told w.disk) (λ w. g.D.Disk.size w.disk) g.U.Outlet.took game made c.args.self.now (record c.args.self.now { stations = with_item c.args.self.now.stations c.from.result c.hear.new.self; waiting = c.hear.new.waiting }) c.args.node c.index_mut.result.now c.hear.new.self running low is (refl, refl) (ap (λ k. slice_set c.args.self.now.stations.items k c.hear.new.self) c.from.ensures) refl
+    c.in_ok-hear.ensures.emissions c.in_ok-hear.ensures.refusals steps.0 c.in_ok-hear.ensures.put c.in_ok-hear.ensures.rest steps.1

@@ -1,10 +1,16 @@
-use Rattle.ken_drive.specs.Accounts.{StaysAccounted}
+use Rattle.ken_drive.specs.Flowing.{Moves}
 use Rattle.ken_drive.specs.Left.{left_at, outputs_left}
 use Rattle.ken_drive.specs.Running.{StaysUp}
+use Rattle.ken_drive.proofs.Visits.{MayEmit}
 use Rattle.ken_drive.proofs.run.Run.outputs.Given as goal
+use Rattle.ken_drive.specs.Accounts.{StaysAccounted}
 
 abbrev pub invariant-outputs : goal.invariant-outputs
-invariant-outputs g l = StaysUp (λ w. g.D.Disk.told w.disk) (λ w. g.D.Disk.size w.disk) g.U.Outlet.took l.node l.fn.self l.self × StaysAccounted (λ w. g.D.Disk.told w.disk) (λ w. g.D.Disk.size w.disk) g.U.Outlet.took (λ w. g.D.Disk.faults w.disk) (λ w. g.D.Disk.fate w.disk) g.O.Oracle.telling l.node l.fn.self l.self
+invariant-outputs g l = record {
+  up : StaysUp (λ w. g.D.Disk.told w.disk) (λ w. g.D.Disk.size w.disk) g.U.Outlet.took l.node l.fn.self l.self;
+  moved : Moves (λ w. g.D.Disk.told w.disk) (λ w. g.D.Disk.size w.disk) g.U.Outlet.took (λ game. MayEmit l.node) l.node l.fn.self l.self;
+  accounts : StaysAccounted (λ w. g.D.Disk.told w.disk) (λ w. g.D.Disk.size w.disk) g.U.Outlet.took (λ w. g.D.Disk.faults w.disk) (λ w. g.D.Disk.fate w.disk) g.O.Oracle.telling l.node l.fn.self l.self;
+}
 
 abbrev pub decreases-outputs : goal.decreases-outputs
 decreases-outputs g l = left_at outputs_left l.self.stations.items l.node

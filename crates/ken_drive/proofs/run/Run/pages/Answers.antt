@@ -1,27 +1,47 @@
 -- One call after another, as long as there is one to make.
-use Rattle.ken_drive.proofs.AccountsRestarts.{accounts-handed-on}
-use Rattle.ken_drive.proofs.Leaving.{handed-on, still-works}
+use Rattle.std.proofs.Common.{◌≡◌, inl, inr, refl, subst}
+use Rattle.ken_flow.specs.Standstill.{Emits, Rested, Written}
+use Rattle.ken_drive.proofs.Leaving.{handed-on, stays-first, still-works}
+use Rattle.ken_drive.proofs.Moves.{moves-none, moves-then}
+use Rattle.ken_drive.proofs.Visits.{MayEmit, less-then, may-emit-then, moves-worked, rested-then, written-none, written-then}
 use Rattle.ken_drive.proofs.run.Run.pages.Goals as goal
+use Rattle.ken_drive.proofs.AccountsRestarts.{accounts-handed-on}
 
 pub patch-requires : goal.patch-requires
-patch-requires g c = still-works (λ w. g.D.Disk.told w.disk) (λ w. g.D.Disk.size w.disk) g.U.Outlet.took c.args.node c.args.self.now c.pages.self c.pages.invariant.0 c.requires
+patch-requires g c = still-works (λ w. g.D.Disk.told w.disk) (λ w. g.D.Disk.size w.disk) g.U.Outlet.took c.args.node c.args.self.now c.pages.self c.pages.invariant.up c.requires
+
+pub pages-init : goal.pages-init
+pages-init g c = record {
+  up = stays-first (λ w. g.D.Disk.told w.disk) (λ w. g.D.Disk.size w.disk) g.U.Outlet.took c.args.node c.args.self.now;
+  moved = moves-none (λ w. g.D.Disk.told w.disk) (λ w. g.D.Disk.size w.disk) g.U.Outlet.took (λ game. Written c.args.node) c.args.node c.args.self.now (λ game. written-none c.args.node);
+  accounts = λ terms game made running low accounted. accounted;
+}
 
 pub returns-in_err-patch-clause-leaves : goal.returns-in_err-patch-clause-leaves
 returns-in_err-patch-clause-leaves g c = λ game made running low.
-    handed-on (λ w. g.D.Disk.told w.disk) (λ w. g.D.Disk.size w.disk) g.U.Outlet.took c.args.node c.from_residual.result c.in_err-patch.field-0.0 game made c.patch.new.self c.from_residual.ensures.1 (c.in_err-patch.ensures.leaves game made (c.pages.invariant.0 game made running low) low)
+    handed-on (λ w. g.D.Disk.told w.disk) (λ w. g.D.Disk.size w.disk) g.U.Outlet.took c.args.node c.from_residual.result c.in_err-patch.field-0.0 game made c.patch.new.self c.from_residual.ensures.1 (c.in_err-patch.ensures.leaves game made (c.pages.invariant.up game made running low) low)
 
 pub returns-in_err-patch-clause-accounts : goal.returns-in_err-patch-clause-accounts
 returns-in_err-patch-clause-accounts g c = λ terms game made running low accounted.
-    accounts-handed-on (λ w. g.D.Disk.told w.disk) (λ w. g.D.Disk.faults w.disk) (λ w. g.D.Disk.fate w.disk) g.O.Oracle.telling terms game made c.patch.new.self c.args.node c.from_residual.result c.in_err-patch.field-0.0 c.from_residual.ensures.1 (c.in_err-patch.ensures.accounts terms game made (c.pages.invariant.0 game made running low) low (c.pages.invariant.1 terms game made running low accounted))
+    accounts-handed-on (λ w. g.D.Disk.told w.disk) (λ w. g.D.Disk.faults w.disk) (λ w. g.D.Disk.fate w.disk) g.O.Oracle.telling terms game made c.patch.new.self c.args.node c.from_residual.result c.in_err-patch.field-0.0 c.from_residual.ensures.1 (c.in_err-patch.ensures.accounts terms game made (c.pages.invariant.up game made running low) low (c.pages.invariant.accounts terms game made running low accounted))
+
+pub returns-in_err-patch-clause-less : goal.returns-in_err-patch-clause-less
+returns-in_err-patch-clause-less g c = λ was.
+    less-then (λ w. g.D.Disk.told w.disk) (λ w. g.D.Disk.size w.disk) g.U.Outlet.took (λ game. Written c.args.node) c.args.node c.args.self.now c.pages.self c.patch.new.self c.from_residual.result c.in_err-patch.field-0.0 c.pages.invariant.moved c.requires c.from_residual.ensures.1
+    (λ same. c.in_err-patch.ensures.less (cc)) was
 
 pub pages-preserved : goal.pages-preserved
-pages-preserved g c = (
-  λ game made running low. c.in_ok-patch.ensures.leaves game made (c.pages.invariant.0 game made running low) low,
-  λ terms game made running low accounted. c.in_ok-patch.ensures.accounts terms game made (c.pages.invariant.0 game made running low) low (c.pages.invariant.1 terms game made running low accounted),
-)
+pages-preserved g c = record {
+  up = λ game made running low. c.in_ok-patch.ensures.leaves game made (c.pages.invariant.up game made running low) low;
+  moved = moves-then (λ w. g.D.Disk.told w.disk) (λ w. g.D.Disk.size w.disk) g.U.Outlet.took (λ game. Written c.args.node) (λ game. Written c.args.node) (λ game. Written c.args.node) c.args.node c.args.self.now c.pages.self c.patch.new.self (λ game. written-then c.args.node) c.pages.invariant.moved c.in_ok-patch.ensures.moves;
+  accounts = λ terms game made running low accounted. c.in_ok-patch.ensures.accounts terms game made (c.pages.invariant.up game made running low) low (c.pages.invariant.accounts terms game made running low accounted);
+}
 
 pub returns-clause-leaves : goal.returns-clause-leaves
-returns-clause-leaves g c = λ game made running low. c.in_ok-patch.ensures.leaves game made (c.pages.invariant.0 game made running low) low
+returns-clause-leaves g c = λ game made running low. c.in_ok-patch.ensures.leaves game made (c.pages.invariant.up game made running low) low
 
 pub returns-clause-accounts : goal.returns-clause-accounts
-returns-clause-accounts g c = λ terms game made running low accounted. c.in_ok-patch.ensures.accounts terms game made (c.pages.invariant.0 game made running low) low (c.pages.invariant.1 terms game made running low accounted)
+returns-clause-accounts g c = λ terms game made running low accounted. c.in_ok-patch.ensures.accounts terms game made (c.pages.invariant.up game made running low) low (c.pages.invariant.accounts terms game made running low accounted)
+
+pub returns-clause-moves : goal.returns-clause-moves
+returns-clause-moves g c = moves-then (λ w. g.D.Disk.told w.disk) (λ w. g.D.Disk.size w.disk) g.U.Outlet.took (λ game. Written c.args.node) (λ game. Written c.args.node) (λ game. Written c.args.node) c.args.node c.args.self.now c.pages.self c.patch.new.self (λ game. written-then c.args.node) c.pages.invariant.moved c.in_ok-patch.ensures.moves

@@ -1,29 +1,42 @@
 -- One visit after another.
-use Rattle.std.proofs.Common.{◌<◌, subst}
-use Rattle.ken_drive.proofs.AccountsRestarts.{run-accounts-handed-on}
+use Rattle.std.proofs.Common.{◌≡◌, ◌<◌, ◌∙◌, sym, subst, arith}
+use Rattle.ken_flow.specs.Standstill.{VisitedTo}
 use Rattle.ken_drive.proofs.Leaving.{run-handed-on}
+use Rattle.ken_drive.proofs.Visits.{pass-all, pass-more, pass-none}
 use Rattle.ken_drive.proofs.run.Run.pass.Goals as goal
+use Rattle.ken_drive.proofs.AccountsRestarts.{run-accounts-handed-on}
+
+pub loop-node-init : goal.loop-node-init
+loop-node-init g c = record { accounts = λ terms game made running accounted. accounted; up = λ game made running. running; moved = pass-none (λ w. g.D.Disk.told w.disk) (λ w. g.D.Disk.size w.disk) g.U.Outlet.took c.args.self.now }
 
 pub visit-requires : goal.visit-requires
 visit-requires g c = record {
   game = c.requires.game;
   made = c.requires.made;
-  running = c.loop-node.invariant.0 c.requires.game c.requires.made c.requires.running;
+  running = c.loop-node.invariant.up c.requires.game c.requires.made c.requires.running;
   known = subst (λ n. c.loop-node.node < n) c.requires.running.stands.count c.loop-node-test.true;
 }
 
 pub returns-in_err-visit-clause-leaves : goal.returns-in_err-visit-clause-leaves
 returns-in_err-visit-clause-leaves g c = λ game made running.
     run-handed-on (λ w. g.D.Disk.told w.disk) (λ w. g.D.Disk.size w.disk) g.U.Outlet.took c.from_residual.result c.in_err-visit.field-0.0 game made c.visit.new.self c.from_residual.ensures.1
-    (c.in_err-visit.ensures.leaves game made (c.loop-node.invariant.0 game made running) (subst (λ n. c.loop-node.node < n) running.stands.count c.loop-node-test.true))
+    (c.in_err-visit.ensures.leaves game made (c.loop-node.invariant.up game made running) (subst (λ n. c.loop-node.node < n) running.stands.count c.loop-node-test.true))
 
 pub returns-in_err-visit-clause-accounts : goal.returns-in_err-visit-clause-accounts
 returns-in_err-visit-clause-accounts g c = λ terms game made running accounted.
     run-accounts-handed-on (λ w. g.D.Disk.told w.disk) (λ w. g.D.Disk.faults w.disk) (λ w. g.D.Disk.fate w.disk) g.O.Oracle.telling terms game made c.visit.new.self c.from_residual.result c.in_err-visit.field-0.0 c.from_residual.ensures.1
-    (c.in_err-visit.ensures.accounts terms game made (c.loop-node.invariant.0 game made running) (subst (λ n. c.loop-node.node < n) running.stands.count c.loop-node-test.true) (c.loop-node.invariant.1 terms game made running accounted))
+    (c.in_err-visit.ensures.accounts terms game made (c.loop-node.invariant.up game made running) (subst (λ n. c.loop-node.node < n) running.stands.count c.loop-node-test.true) (c.loop-node.invariant.accounts terms game made running accounted))
 
 pub loop-node-preserved : goal.loop-node-preserved
-loop-node-preserved g c = (
-  λ game made running. c.in_ok-visit.ensures.leaves game made (c.loop-node.invariant.0 game made running) (subst (λ n. c.loop-node.node < n) running.stands.count c.loop-node-test.true),
-  λ terms game made running accounted. c.in_ok-visit.ensures.accounts terms game made (c.loop-node.invariant.0 game made running) (subst (λ n. c.loop-node.node < n) running.stands.count c.loop-node-test.true) (c.loop-node.invariant.1 terms game made running accounted),
-)
+loop-node-preserved g c = record {
+  up = λ game made running. c.in_ok-visit.ensures.leaves game made (c.loop-node.invariant.up game made running) (subst (λ n. c.loop-node.node < n) running.stands.count c.loop-node-test.true);
+  moved = pass-more (λ w. g.D.Disk.told w.disk) (λ w. g.D.Disk.size w.disk) g.U.Outlet.took c.loop-node.node c.args.self.now c.loop-node.self c.visit.new.self c.loop-node.invariant.moved c.in_ok-visit.ensures.moves
+      (λ game made running. subst (λ n. c.loop-node.node < n) running.stands.count c.loop-node-test.true);
+  accounts = λ terms game made running accounted. c.in_ok-visit.ensures.accounts terms game made (c.loop-node.invariant.up game made running) (subst (λ n. c.loop-node.node < n) running.stands.count c.loop-node-test.true) (c.loop-node.invariant.accounts terms game made running accounted);
+}
+
+pub returns-clause-leaves : goal.returns-clause-leaves
+returns-clause-leaves g c = λ game made running. c.loop-node.invariant.up game made running
+
+pub returns-clause-moves : goal.returns-clause-moves
+returns-clause-moves g c = pass-all (λ w. g.D.Disk.told w.disk) (λ w. g.D.Disk.size w.disk) g.U.Outlet.took c.loop-node.node c.args.self.now c.loop-node.self c.loop-node.invariant.moved (λ game made running. let count = running.stands.count in let past = c.loop-node-test.false in let within = c.loop-node.auto.node-end in omega (arith, count, past, within))

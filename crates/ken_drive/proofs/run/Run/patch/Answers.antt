@@ -2,9 +2,12 @@
 use Rattle.std.proofs.Common.{◌≡◌, ◌∙◌, ◌<◌, slice_index_or, slice_set, refl, sym, ap, subst}
 use Rattle.std.specs.Vec.{with_item}
 use Rattle.ken_drive.specs.Left.{pages_left}
+use Rattle.ken_flow.specs.Standstill.{Written}
 use Rattle.ken_drive.proofs.Leaving.{fewer-at, may-call, patch-fewer, patch-leaves, up-before}
-use Rattle.ken_drive.proofs.AccountsCalls.{own-accounts, patch-accounts}
+use Rattle.ken_drive.proofs.Moves.{moves-from}
+use Rattle.ken_drive.proofs.Moving.{patch-less, patch-moves}
 use Rattle.ken_drive.proofs.run.Run.patch.Goals as goal
+use Rattle.ken_drive.proofs.AccountsCalls.{own-accounts, patch-accounts}
 
 pub patch-requires : goal.patch-requires
 patch-requires g c =
@@ -37,3 +40,23 @@ returns-clause-accounts g c = λ terms game made running low accounted.
     patch-accounts (λ w. g.D.Disk.told w.disk) (λ w. g.D.Disk.size w.disk) (λ w. g.D.Disk.faults w.disk) (λ w. g.D.Disk.fate w.disk) g.O.Oracle.telling terms game made c.args.self.now (record c.args.self.now { stations = with_item c.args.self.now.stations c.from.result (record c.index_mut.result.now { node = c.patch.new.self }) }) c.args.node c.index_mut.result.now (record c.index_mut.result.now { node = c.patch.new.self })
     (running.nodes c.args.node) up running.stands.width low is (ap (λ k. slice_set c.args.self.now.stations.items k (record c.index_mut.result.now { node = c.patch.new.self })) c.from.ensures) refl accounted
     refl refl refl (c.patch.ensures.synced game c.args.node was.books.synced) c.patch.ensures.emissions c.patch.result (c.patch.ensures.steps game c.args.node (running.nodes c.args.node) up) c.patch.ensures.disks
+
+pub returns-clause-moves : goal.returns-clause-moves
+returns-clause-moves g c =
+    moves-from (λ w. g.D.Disk.told w.disk) (λ w. g.D.Disk.size w.disk) g.U.Outlet.took (λ game. Written c.args.node) c.args.node c.args.self.now (record c.args.self.now { stations = with_item c.args.self.now.stations c.from.result (record c.index_mut.result.now { node = c.patch.new.self }) }) c.patch.result
+    (λ game made running low.
+    let is : slice_index_or c.args.self.now.stations.items c.args.node c.index_mut.result.now ≡ c.index_mut.result.now = sym (c.index_mut.ensures.value ∙ ap (λ k. slice_index_or c.args.self.now.stations.items k c.index_mut.result.now) c.from.ensures) in
+    let up = up-before (λ w. g.D.Disk.told w.disk) (λ w. g.D.Disk.size w.disk) g.U.Outlet.took game made c.args.self.now c.args.node c.index_mut.result.now running low is in
+    patch-moves (λ w. g.D.Disk.told w.disk) (λ w. g.D.Disk.size w.disk) g.U.Outlet.took game made c.args.self.now (record c.args.self.now { stations = with_item c.args.self.now.stations c.from.result (record c.index_mut.result.now { node = c.patch.new.self }) }) c.args.node c.index_mut.result.now (record c.index_mut.result.now { node = c.patch.new.self }) running low is (refl, refl) (ap (λ k. slice_set c.args.self.now.stations.items k (record c.index_mut.result.now { node = c.patch.new.self })) c.from.ensures) refl
+    refl c.patch.ensures.emissions c.patch.ensures.refusals refl c.patch.result (c.patch.ensures.steps game c.args.node (running.nodes c.args.node) up))
+
+pub returns-clause-less : goal.returns-clause-less
+returns-clause-less g c = λ was.
+    let game = c.requires.game in
+    let made = c.requires.made in
+    let running = c.requires.running in
+    let low = c.requires.known in
+    let is : slice_index_or c.args.self.now.stations.items c.args.node c.index_mut.result.now ≡ c.index_mut.result.now = sym (c.index_mut.ensures.value ∙ ap (λ k. slice_index_or c.args.self.now.stations.items k c.index_mut.result.now) c.from.ensures) in
+    let up = up-before (λ w. g.D.Disk.told w.disk) (λ w. g.D.Disk.size w.disk) g.U.Outlet.took game made c.args.self.now c.args.node c.index_mut.result.now running low is in
+    patch-less (λ w. g.D.Disk.told w.disk) (λ w. g.D.Disk.size w.disk) g.U.Outlet.took game made c.args.self.now (record c.args.self.now { stations = with_item c.args.self.now.stations c.from.result (record c.index_mut.result.now { node = c.patch.new.self }) }) c.args.node c.index_mut.result.now (record c.index_mut.result.now { node = c.patch.new.self }) running low is (refl, refl) (ap (λ k. slice_set c.args.self.now.stations.items k (record c.index_mut.result.now { node = c.patch.new.self })) c.from.ensures) refl
+    refl c.patch.ensures.emissions c.patch.ensures.refusals refl c.patch.result was (c.patch.ensures.steps game c.args.node (running.nodes c.args.node) up)

@@ -1,34 +1,54 @@
 -- One restart after another, until one answers.
-use Rattle.std.proofs.Common.{◌<◌, inl, sym, subst, arith}
-use Rattle.ken_drive.specs.Accounts.{AccountsFault}
+use Rattle.std.proofs.Common.{◌<◌, ◌∙◌, Err, inl, refl, sym, subst, arith}
+use Rattle.ken_ship.specs.declared.faults.NodeFault.{NodeFault}
+use Rattle.ken_node.specs.NodeCalls.{UnlessMemory}
+use Rattle.ken_drive.specs.Flowing.{work_left}
 use Rattle.ken_drive.specs.Running.{LeavesFault}
-use Rattle.ken_drive.proofs.AccountsRestarts.{used-up}
 use Rattle.ken_drive.proofs.run.Run.restart.Goals as goal
+use Rattle.ken_drive.specs.Accounts.{AccountsFault}
+use Rattle.ken_drive.proofs.AccountsRestarts.{used-up}
+
+pub tries-init : goal.tries-init
+tries-init g c = record { accounts = λ terms game made stopped held. held; down = λ game made stopped. stopped; less = omega arith; most_is = refl }
 
 pub tries-requires : goal.tries-requires
-tries-requires g c = let stopped = c.tries.invariant.0 c.requires.game c.requires.made c.requires.stopped in subst (λ n. c.args.node < n) (sym stopped.stands.width) stopped.known
+tries-requires g c = let stopped = c.tries.invariant.down c.requires.game c.requires.made c.requires.stopped in subst (λ n. c.args.node < n) (sym stopped.stands.width) stopped.known
 
 pub restart_once-requires-clause-may : goal.restart_once-requires-clause-may
-restart_once-requires-clause-may g c = record { game = c.requires.game; made = c.requires.made; stopped = c.tries.invariant.0 c.requires.game c.requires.made c.requires.stopped }
+restart_once-requires-clause-may g c = record { game = c.requires.game; made = c.requires.made; stopped = c.tries.invariant.down c.requires.game c.requires.made c.requires.stopped }
 
 pub returns-in-Ok-clause-leaves : goal.returns-in-Ok-clause-leaves
-returns-in-Ok-clause-leaves g c = λ game made stopped. c.in-Ok.ensures.leaves game made (c.tries.invariant.0 game made stopped)
+returns-in-Ok-clause-leaves g c = λ game made stopped. c.in-Ok.ensures.leaves game made (c.tries.invariant.down game made stopped)
 
 pub returns-in-Ok-clause-accounts : goal.returns-in-Ok-clause-accounts
-returns-in-Ok-clause-accounts g c = λ terms game made stopped held. c.in-Ok.ensures.accounts terms game made (c.tries.invariant.0 game made stopped) held.most (c.tries.invariant.1 terms game made stopped held)
+returns-in-Ok-clause-accounts g c = λ terms game made stopped held. c.in-Ok.ensures.accounts terms game made (c.tries.invariant.down game made stopped) held.most (c.tries.invariant.accounts terms game made stopped held)
+
+pub returns-in-Ok-clause-worked : goal.returns-in-Ok-clause-worked
+returns-in-Ok-clause-worked g c =
+    let most = c.tries.invariant.most_is in
+    let less = c.tries.invariant.less in
+    let worked = c.in-Ok.ensures.worked (omega (arith, most)) in
+    omega (arith, less, worked)
 
 pub tries-preserved : goal.tries-preserved
-tries-preserved g c = (
-  λ game made stopped.
-      subst (λ x. LeavesFault (λ w. g.D.Disk.told w.disk) (λ w. g.D.Disk.size w.disk) g.U.Outlet.took x game made c.args.node c.restart_once.new.self) c.in-Err-Disk.field-0-is (c.in-Err-Disk.ensures.leaves game made (c.tries.invariant.0 game made stopped)),
-  λ terms game made stopped held.
-      subst (λ x. AccountsFault (λ w. g.D.Disk.told w.disk) (λ w. g.D.Disk.faults w.disk) (λ w. g.D.Disk.fate w.disk) g.O.Oracle.telling terms game x made c.args.node c.restart_once.new.self) c.in-Err-Disk.field-0-is (c.in-Err-Disk.ensures.accounts terms game made (c.tries.invariant.0 game made stopped) held.most (c.tries.invariant.1 terms game made stopped held)),
-)
+tries-preserved g c = record {
+  down = λ game made stopped.
+      subst (λ x. LeavesFault (λ w. g.D.Disk.told w.disk) (λ w. g.D.Disk.size w.disk) g.U.Outlet.took x game made c.args.node c.restart_once.new.self) c.in-Err-Disk.field-0-is (c.in-Err-Disk.ensures.leaves game made (c.tries.invariant.down game made stopped));
+  less =
+      let most = c.tries.invariant.most_is in
+      let less = c.tries.invariant.less in
+      let worked : work_left c.restart_once.new.self < work_left c.tries.self =
+      subst (λ (x : NodeFault). UnlessMemory {T = Unit {0}} (Err x) (work_left c.restart_once.new.self < work_left c.tries.self)) c.in-Err-Disk.field-0-is (c.in-Err-Disk.ensures.worked (omega (arith, most))) in
+      omega (arith, less, worked);
+  most_is = c.tries.invariant.most_is ∙ sym c.restart_once.ensures.same;
+  accounts = λ terms game made stopped held.
+      subst (λ x. AccountsFault (λ w. g.D.Disk.told w.disk) (λ w. g.D.Disk.faults w.disk) (λ w. g.D.Disk.fate w.disk) g.O.Oracle.telling terms game x made c.args.node c.restart_once.new.self) c.in-Err-Disk.field-0-is (c.in-Err-Disk.ensures.accounts terms game made (c.tries.invariant.down game made stopped) held.most (c.tries.invariant.accounts terms game made stopped held));
+}
 
 pub returns-clause-leaves : goal.returns-clause-leaves
-returns-clause-leaves g c = λ game made stopped. inl (c.tries.invariant.0 game made stopped)
+returns-clause-leaves g c = λ game made stopped. inl (c.tries.invariant.down game made stopped)
 
 pub returns-clause-accounts : goal.returns-clause-accounts
 returns-clause-accounts g c = λ terms game made stopped held.
-    let now = c.tries.invariant.0 game made stopped in
-    inl (used-up (λ w. g.D.Disk.told w.disk) (λ w. g.D.Disk.faults w.disk) (λ w. g.D.Disk.fate w.disk) g.O.Oracle.telling terms game made c.args.node c.tries.self (subst (λ n. c.args.node < n) (sym now.stands.width) now.known) (omega (arith, c.tries-test.false, held.most)) (c.tries.invariant.1 terms game made stopped held))
+    let now = c.tries.invariant.down game made stopped in
+    inl (used-up (λ w. g.D.Disk.told w.disk) (λ w. g.D.Disk.faults w.disk) (λ w. g.D.Disk.fate w.disk) g.O.Oracle.telling terms game made c.args.node c.tries.self (subst (λ n. c.args.node < n) (sym now.stands.width) now.known) (omega (arith, c.tries-test.false, held.most)) (c.tries.invariant.accounts terms game made stopped held))

@@ -1,11 +1,17 @@
-use Rattle.std.proofs.Common.{◌-◌}
-use Rattle.ken_drive.specs.Accounts.{StaysHeld}
+use Rattle.std.proofs.Common.{◌≡◌, ◌-◌, ◌≤◌}
+use Rattle.ken_drive.specs.Flowing.{work_left}
 use Rattle.ken_drive.specs.Left.{tries_at}
 use Rattle.ken_drive.specs.Running.{StaysDown}
 use Rattle.ken_drive.proofs.run.Run.restart.Given as goal
+use Rattle.ken_drive.specs.Accounts.{StaysHeld}
 
 abbrev pub invariant-tries : goal.invariant-tries
-invariant-tries g l = StaysDown (λ w. g.D.Disk.told w.disk) (λ w. g.D.Disk.size w.disk) g.U.Outlet.took l.node l.fn.self l.self × StaysHeld (λ w. g.D.Disk.told w.disk) (λ w. g.D.Disk.size w.disk) g.U.Outlet.took (λ w. g.D.Disk.faults w.disk) (λ w. g.D.Disk.fate w.disk) g.O.Oracle.telling l.node l.fn.self l.self
+invariant-tries g l = record {
+  down : StaysDown (λ w. g.D.Disk.told w.disk) (λ w. g.D.Disk.size w.disk) g.U.Outlet.took l.node l.fn.self l.self;
+  less : work_left l.self ≤ work_left l.fn.self;
+  most_is : l.most ≡ l.self.restarts;
+  accounts : StaysHeld (λ w. g.D.Disk.told w.disk) (λ w. g.D.Disk.size w.disk) g.U.Outlet.took (λ w. g.D.Disk.faults w.disk) (λ w. g.D.Disk.fate w.disk) g.O.Oracle.telling l.node l.fn.self l.self;
+}
 
 abbrev pub decreases-tries : goal.decreases-tries
 decreases-tries g l = l.most - tries_at l.self.stations.items l.node

@@ -2,9 +2,10 @@
 use Rattle.std.proofs.Common.{◌≡◌, ◌∙◌, ◌<◌, slice_index_or, slice_set, refl, sym, ap, subst, arith}
 use Rattle.std.specs.Vec.{with_item}
 use Rattle.ken_node.specs.Down.{IsDown}
-use Rattle.ken_drive.proofs.AccountsRestarts.{held-before, restart-accounts}
 use Rattle.ken_drive.proofs.Leaving.{restart-leaves, restart-tried, tries-after, tries-is}
+use Rattle.ken_drive.proofs.Restarting.{restart-worked}
 use Rattle.ken_drive.proofs.run.Run.restart_once.Goals as goal
+use Rattle.ken_drive.proofs.AccountsRestarts.{held-before, restart-accounts}
 
 pub restart-requires-clause-may : goal.restart-requires-clause-may
 restart-requires-clause-may g c =
@@ -49,3 +50,13 @@ returns-clause-accounts g c = λ terms game made stopped most held.
     let left = c.requires.left in
     let h = held-before (λ w. g.D.Disk.told w.disk) (λ w. g.D.Disk.size w.disk) (λ w. g.D.Disk.faults w.disk) (λ w. g.D.Disk.fate w.disk) g.O.Oracle.telling terms game made c.args.self.now (record c.args.self.now { stations = with_item c.args.self.now.stations c.from.result c.restart.new.self }) c.args.node c.index_mut.result.now c.restart.new.self is held in
     restart-accounts (λ w. g.D.Disk.told w.disk) (λ w. g.D.Disk.size w.disk) (λ w. g.D.Disk.faults w.disk) (λ w. g.D.Disk.fate w.disk) g.O.Oracle.telling terms game made c.args.self.now (record c.args.self.now { stations = with_item c.args.self.now.stations c.from.result c.restart.new.self }) c.args.node c.index_mut.result.now c.restart.new.self is held stopped.stands.width stopped.known (ap (λ k. slice_set c.args.self.now.stations.items k c.restart.new.self) c.from.ensures) refl c.restart.result (c.restart.ensures.accounts terms game c.args.node h (omega (arith, tries, left, most)))
+
+pub returns-clause-worked : goal.returns-clause-worked
+returns-clause-worked g c = λ within.
+    let stopped = c.requires.may.stopped in
+    let is : slice_index_or c.args.self.now.stations.items c.args.node c.index_mut.result.now ≡ c.index_mut.result.now = sym (c.index_mut.ensures.value ∙ ap (λ k. slice_index_or c.args.self.now.stations.items k c.index_mut.result.now) c.from.ensures) in
+    let tries = tries-is c.args.self.now.stations.items c.args.node c.index_mut.result.now (subst (λ n. c.args.node < n) (sym stopped.stands.width) stopped.known) ∙ ap (λ x. x.restarts) is in
+    let left = c.requires.left in
+    restart-worked (λ w. g.D.Disk.told w.disk) (λ w. g.D.Disk.size w.disk) g.U.Outlet.took c.requires.may.game c.requires.may.made c.args.self.now (record c.args.self.now { stations = with_item c.args.self.now.stations c.from.result c.restart.new.self }) c.args.node c.index_mut.result.now c.restart.new.self stopped is (refl, refl) (ap (λ k. slice_set c.args.self.now.stations.items k c.restart.new.self) c.from.ensures)
+    refl (omega (arith, tries, left, within)) c.restart.result
+    (c.restart.ensures.back c.requires.may.game c.args.node stopped.given (stopped.nodes c.args.node) stopped.doubt (subst (λ x. IsDown (λ w. g.D.Disk.told w.disk) c.requires.may.game c.args.node stopped.given (stopped.nodes c.args.node) stopped.doubt x.node.stage) is (stopped.down c.index_mut.result.now)))

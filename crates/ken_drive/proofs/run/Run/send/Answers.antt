@@ -3,8 +3,9 @@ use Rattle.std.proofs.Common.{◌≡◌, ◌∙◌, ℕ, [], slice_index_or, sli
 use Rattle.std.specs.Vec.{with_item}
 use Rattle.ken_drive.specs.Ends.{WereGiven}
 use Rattle.ken_drive.proofs.Leaving.{may-call-on, send-leaves, own-station, up-before}
-use Rattle.ken_drive.proofs.AccountsCalls.{own-accounts, send-accounts}
+use Rattle.ken_drive.proofs.Moving.{send-moves}
 use Rattle.ken_drive.proofs.run.Run.send.Goals as goal
+use Rattle.ken_drive.proofs.AccountsCalls.{own-accounts, send-accounts}
 
 pub send-requires-clause-may : goal.send-requires-clause-may
 send-requires-clause-may g c =
@@ -29,3 +30,12 @@ returns-clause-accounts g c = λ terms game made running low accounted.
     send-accounts (λ w. g.D.Disk.told w.disk) (λ w. g.D.Disk.size w.disk) (λ w. g.D.Disk.faults w.disk) (λ w. g.D.Disk.fate w.disk) g.O.Oracle.telling terms game made c.args.self.now (record c.args.self.now { stations = with_item c.args.self.now.stations c.from.result c.send.new.self; waiting = c.send.new.waiting }) c.args.node c.index_mut.result.now c.send.new.self
     (running.nodes c.args.node) up running.stands.width low is (ap (λ k. slice_set c.args.self.now.stations.items k c.send.new.self) c.from.ensures) refl accounted
     (ap (λ x. x.luck) c.in_ok-send.ensures.rest) (ap (λ x. x.lines.items) c.in_ok-send.ensures.rest) (ap (λ x. x.restarts) c.in_ok-send.ensures.rest) (c.in_ok-send.ensures.synced game c.args.node was.books.synced) c.in_ok-send.ensures.disks _ (c.in_ok-send.ensures.steps game c.args.node (running.nodes c.args.node) up (sym own.mail.from)) c.in_ok-send.ensures.emissions
+
+pub returns-clause-moves : goal.returns-clause-moves
+returns-clause-moves g c = λ game made running low.
+    let is : slice_index_or c.args.self.now.stations.items c.args.node c.index_mut.result.now ≡ c.index_mut.result.now = sym (c.index_mut.ensures.value ∙ ap (λ k. slice_index_or c.args.self.now.stations.items k c.index_mut.result.now) c.from.ensures) in
+    let own = own-station (λ w. g.D.Disk.told w.disk) (λ w. g.D.Disk.size w.disk) g.U.Outlet.took game made c.args.self.now c.args.node c.index_mut.result.now running low is in
+    let up = up-before (λ w. g.D.Disk.told w.disk) (λ w. g.D.Disk.size w.disk) g.U.Outlet.took game made c.args.self.now c.args.node c.index_mut.result.now running low is in
+    let steps = c.in_ok-send.ensures.steps game c.args.node (running.nodes c.args.node) up (sym own.mail.from) in
+    send-moves (λ w. g.D.Disk.told w.disk) (λ w. g.D.Disk.size w.disk) g.U.Outlet.took game made c.args.self.now (record c.args.self.now { stations = with_item c.args.self.now.stations c.from.result c.send.new.self; waiting = c.send.new.waiting }) c.args.node c.index_mut.result.now c.send.new.self running low is (refl, refl) (ap (λ k. slice_set c.args.self.now.stations.items k c.send.new.self) c.from.ensures) refl
+    c.in_ok-send.ensures.emissions c.in_ok-send.ensures.refusals (subst (λ (u : ℕ). WereGiven u 0 c.args.self.now.waiting.acks c.send.new.waiting.acks []) own.mail.from c.in_ok-send.ensures.given) c.in_ok-send.ensures.rest steps

@@ -1,10 +1,13 @@
 -- A turn of one node.
 use Rattle.std.proofs.Common.{◌≡◌, ◌∙◌, ◌<◌, slice_index_or, slice_set, refl, sym, ap, subst}
 use Rattle.std.specs.Vec.{with_item}
+use Rattle.ken_flow.specs.Standstill.{Rested}
 use Rattle.ken_drive.specs.Left.{turns_left}
 use Rattle.ken_drive.proofs.Leaving.{fewer-at, may-turn, own-station, turn-fewer, turn-leaves, up-before}
-use Rattle.ken_drive.proofs.AccountsCalls.{own-accounts, turn-accounts}
+use Rattle.ken_drive.proofs.Moves.{moves-from}
+use Rattle.ken_drive.proofs.Turning.{turn-less, turn-moves, turn-worked}
 use Rattle.ken_drive.proofs.run.Run.turn.Goals as goal
+use Rattle.ken_drive.proofs.AccountsCalls.{own-accounts, turn-accounts}
 
 pub turn-requires-clause-may : goal.turn-requires-clause-may
 turn-requires-clause-may g c =
@@ -43,3 +46,40 @@ returns-clause-accounts g c = λ terms game made running low accounted.
     (running.nodes c.args.node) up running.stands.width low is (ap (λ k. slice_set c.args.self.now.stations.items k c.turn.new.self) c.from.ensures) refl accounted
     (ap (λ x. x.lines.items) c.turn.ensures.rest) (ap (λ x. x.restarts) c.turn.ensures.rest) c.turn.ensures.origin c.turn.ensures.clocks_go_on c.turn.ensures.words_go_on c.turn.ensures.emissions _ running.stands.handler _ _ 0 steps.0 up.handler c.turn.result steps.1
     c.turn.ensures.disks (c.turn.ensures.synced game c.args.node (running.nodes c.args.node) up running.stands.handler was.books.synced)
+
+pub returns-clause-moves : goal.returns-clause-moves
+returns-clause-moves g c =
+    moves-from (λ w. g.D.Disk.told w.disk) (λ w. g.D.Disk.size w.disk) g.U.Outlet.took (λ game. Rested game c.args.node) c.args.node c.args.self.now (record c.args.self.now { stations = with_item c.args.self.now.stations c.from.result c.turn.new.self; waiting = c.turn.new.waiting }) c.turn.result
+    (λ game made running low.
+    let is : slice_index_or c.args.self.now.stations.items c.args.node c.index_mut.result.now ≡ c.index_mut.result.now = sym (c.index_mut.ensures.value ∙ ap (λ k. slice_index_or c.args.self.now.stations.items k c.index_mut.result.now) c.from.ensures) in
+    let own = own-station (λ w. g.D.Disk.told w.disk) (λ w. g.D.Disk.size w.disk) g.U.Outlet.took game made c.args.self.now c.args.node c.index_mut.result.now running low is in
+    let up = up-before (λ w. g.D.Disk.told w.disk) (λ w. g.D.Disk.size w.disk) g.U.Outlet.took game made c.args.self.now c.args.node c.index_mut.result.now running low is in
+    let steps = c.turn.ensures.steps game c.args.node (running.nodes c.args.node) up (sym own.acks.from) running.stands.handler in
+    turn-moves (λ w. g.D.Disk.told w.disk) (λ w. g.D.Disk.size w.disk) g.U.Outlet.took game made c.args.self.now (record c.args.self.now { stations = with_item c.args.self.now.stations c.from.result c.turn.new.self; waiting = c.turn.new.waiting }) c.args.node c.index_mut.result.now c.turn.new.self running low is (refl, refl) (ap (λ k. slice_set c.args.self.now.stations.items k c.turn.new.self) c.from.ensures) refl
+    steps.0 _ up.handler c.turn.ensures.emissions c.turn.ensures.refusals c.turn.ensures.rest c.turn.result steps.1)
+
+pub returns-clause-worked : goal.returns-clause-worked
+returns-clause-worked g c = λ was.
+    let game = c.requires.game in
+    let made = c.requires.made in
+    let running = c.requires.running in
+    let low = c.requires.known in
+    let is : slice_index_or c.args.self.now.stations.items c.args.node c.index_mut.result.now ≡ c.index_mut.result.now = sym (c.index_mut.ensures.value ∙ ap (λ k. slice_index_or c.args.self.now.stations.items k c.index_mut.result.now) c.from.ensures) in
+    let own = own-station (λ w. g.D.Disk.told w.disk) (λ w. g.D.Disk.size w.disk) g.U.Outlet.took game made c.args.self.now c.args.node c.index_mut.result.now running low is in
+    let up = up-before (λ w. g.D.Disk.told w.disk) (λ w. g.D.Disk.size w.disk) g.U.Outlet.took game made c.args.self.now c.args.node c.index_mut.result.now running low is in
+    let steps = c.turn.ensures.steps game c.args.node (running.nodes c.args.node) up (sym own.acks.from) running.stands.handler in
+    turn-worked (λ w. g.D.Disk.told w.disk) (λ w. g.D.Disk.size w.disk) g.U.Outlet.took game made c.args.self.now (record c.args.self.now { stations = with_item c.args.self.now.stations c.from.result c.turn.new.self; waiting = c.turn.new.waiting }) c.args.node c.index_mut.result.now c.turn.new.self running low is (refl, refl) (ap (λ k. slice_set c.args.self.now.stations.items k c.turn.new.self) c.from.ensures) refl
+    steps.0 _ up.handler c.turn.ensures.emissions c.turn.ensures.refusals c.turn.ensures.rest c.turn.result was steps.1
+
+pub returns-clause-less : goal.returns-clause-less
+returns-clause-less g c = λ was.
+    let game = c.requires.game in
+    let made = c.requires.made in
+    let running = c.requires.running in
+    let low = c.requires.known in
+    let is : slice_index_or c.args.self.now.stations.items c.args.node c.index_mut.result.now ≡ c.index_mut.result.now = sym (c.index_mut.ensures.value ∙ ap (λ k. slice_index_or c.args.self.now.stations.items k c.index_mut.result.now) c.from.ensures) in
+    let own = own-station (λ w. g.D.Disk.told w.disk) (λ w. g.D.Disk.size w.disk) g.U.Outlet.took game made c.args.self.now c.args.node c.index_mut.result.now running low is in
+    let up = up-before (λ w. g.D.Disk.told w.disk) (λ w. g.D.Disk.size w.disk) g.U.Outlet.took game made c.args.self.now c.args.node c.index_mut.result.now running low is in
+    let steps = c.turn.ensures.steps game c.args.node (running.nodes c.args.node) up (sym own.acks.from) running.stands.handler in
+    turn-less (λ w. g.D.Disk.told w.disk) (λ w. g.D.Disk.size w.disk) g.U.Outlet.took game made c.args.self.now (record c.args.self.now { stations = with_item c.args.self.now.stations c.from.result c.turn.new.self; waiting = c.turn.new.waiting }) c.args.node c.index_mut.result.now c.turn.new.self running low is (refl, refl) (ap (λ k. slice_set c.args.self.now.stations.items k c.turn.new.self) c.from.ensures) refl
+    steps.0 _ up.handler c.turn.ensures.emissions c.turn.ensures.refusals c.turn.ensures.rest c.turn.result was steps.1

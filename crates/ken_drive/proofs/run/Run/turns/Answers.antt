@@ -1,27 +1,47 @@
 -- One call after another, as long as there is one to make.
-use Rattle.ken_drive.proofs.AccountsRestarts.{accounts-handed-on}
-use Rattle.ken_drive.proofs.Leaving.{handed-on, still-works}
+use Rattle.std.proofs.Common.{◌≡◌, inl, inr, refl, subst}
+use Rattle.ken_flow.specs.Standstill.{Emits, Rested, Written}
+use Rattle.ken_drive.proofs.Leaving.{handed-on, stays-first, still-works}
+use Rattle.ken_drive.proofs.Moves.{moves-none, moves-then}
+use Rattle.ken_drive.proofs.Visits.{MayEmit, less-then, may-emit-then, moves-worked, rested-then, written-none, written-then}
 use Rattle.ken_drive.proofs.run.Run.turns.Goals as goal
+use Rattle.ken_drive.proofs.AccountsRestarts.{accounts-handed-on}
 
 pub turn-requires : goal.turn-requires
-turn-requires g c = still-works (λ w. g.D.Disk.told w.disk) (λ w. g.D.Disk.size w.disk) g.U.Outlet.took c.args.node c.args.self.now c.turns.self c.turns.invariant.0 c.requires
+turn-requires g c = still-works (λ w. g.D.Disk.told w.disk) (λ w. g.D.Disk.size w.disk) g.U.Outlet.took c.args.node c.args.self.now c.turns.self c.turns.invariant.up c.requires
+
+pub turns-init : goal.turns-init
+turns-init g c = record {
+  up = stays-first (λ w. g.D.Disk.told w.disk) (λ w. g.D.Disk.size w.disk) g.U.Outlet.took c.args.node c.args.self.now;
+  moved = moves-none (λ w. g.D.Disk.told w.disk) (λ w. g.D.Disk.size w.disk) g.U.Outlet.took (λ game f f2. f2 ≡ f) c.args.node c.args.self.now (λ game f. refl);
+  accounts = λ terms game made running low accounted. accounted;
+}
 
 pub returns-in_err-turn-clause-leaves : goal.returns-in_err-turn-clause-leaves
 returns-in_err-turn-clause-leaves g c = λ game made running low.
-    handed-on (λ w. g.D.Disk.told w.disk) (λ w. g.D.Disk.size w.disk) g.U.Outlet.took c.args.node c.from_residual.result c.in_err-turn.field-0.0 game made c.turn.new.self c.from_residual.ensures.1 (c.in_err-turn.ensures.leaves game made (c.turns.invariant.0 game made running low) low)
+    handed-on (λ w. g.D.Disk.told w.disk) (λ w. g.D.Disk.size w.disk) g.U.Outlet.took c.args.node c.from_residual.result c.in_err-turn.field-0.0 game made c.turn.new.self c.from_residual.ensures.1 (c.in_err-turn.ensures.leaves game made (c.turns.invariant.up game made running low) low)
 
 pub returns-in_err-turn-clause-accounts : goal.returns-in_err-turn-clause-accounts
 returns-in_err-turn-clause-accounts g c = λ terms game made running low accounted.
-    accounts-handed-on (λ w. g.D.Disk.told w.disk) (λ w. g.D.Disk.faults w.disk) (λ w. g.D.Disk.fate w.disk) g.O.Oracle.telling terms game made c.turn.new.self c.args.node c.from_residual.result c.in_err-turn.field-0.0 c.from_residual.ensures.1 (c.in_err-turn.ensures.accounts terms game made (c.turns.invariant.0 game made running low) low (c.turns.invariant.1 terms game made running low accounted))
+    accounts-handed-on (λ w. g.D.Disk.told w.disk) (λ w. g.D.Disk.faults w.disk) (λ w. g.D.Disk.fate w.disk) g.O.Oracle.telling terms game made c.turn.new.self c.args.node c.from_residual.result c.in_err-turn.field-0.0 c.from_residual.ensures.1 (c.in_err-turn.ensures.accounts terms game made (c.turns.invariant.up game made running low) low (c.turns.invariant.accounts terms game made running low accounted))
+
+pub returns-in_err-turn-clause-less : goal.returns-in_err-turn-clause-less
+returns-in_err-turn-clause-less g c = λ was.
+    less-then (λ w. g.D.Disk.told w.disk) (λ w. g.D.Disk.size w.disk) g.U.Outlet.took (λ game f f2. f2 ≡ f) c.args.node c.args.self.now c.turns.self c.turn.new.self c.from_residual.result c.in_err-turn.field-0.0 c.turns.invariant.moved c.requires c.from_residual.ensures.1
+    (λ same. c.in_err-turn.ensures.less (cc)) was
 
 pub turns-preserved : goal.turns-preserved
-turns-preserved g c = (
-  λ game made running low. c.in_ok-turn.ensures.leaves game made (c.turns.invariant.0 game made running low) low,
-  λ terms game made running low accounted. c.in_ok-turn.ensures.accounts terms game made (c.turns.invariant.0 game made running low) low (c.turns.invariant.1 terms game made running low accounted),
-)
+turns-preserved g c = record {
+  up = λ game made running low. c.in_ok-turn.ensures.leaves game made (c.turns.invariant.up game made running low) low;
+  moved = moves-worked (λ w. g.D.Disk.told w.disk) (λ w. g.D.Disk.size w.disk) g.U.Outlet.took (λ game f f2. f2 ≡ f) (λ game f f2. f2 ≡ f) c.args.node c.args.self.now c.turns.self c.turn.new.self c.turns.invariant.moved (λ game made running low. c.in_ok-turn.ensures.leaves game made running low) (c.in_ok-turn.ensures.worked (let is = c.in-Turn.is in cc));
+  accounts = λ terms game made running low accounted. c.in_ok-turn.ensures.accounts terms game made (c.turns.invariant.up game made running low) low (c.turns.invariant.accounts terms game made running low accounted);
+}
 
 pub returns-clause-leaves : goal.returns-clause-leaves
-returns-clause-leaves g c = λ game made running low. c.in_ok-turn.ensures.leaves game made (c.turns.invariant.0 game made running low) low
+returns-clause-leaves g c = λ game made running low. c.in_ok-turn.ensures.leaves game made (c.turns.invariant.up game made running low) low
 
 pub returns-clause-accounts : goal.returns-clause-accounts
-returns-clause-accounts g c = λ terms game made running low accounted. c.in_ok-turn.ensures.accounts terms game made (c.turns.invariant.0 game made running low) low (c.turns.invariant.1 terms game made running low accounted)
+returns-clause-accounts g c = λ terms game made running low accounted. c.in_ok-turn.ensures.accounts terms game made (c.turns.invariant.up game made running low) low (c.turns.invariant.accounts terms game made running low accounted)
+
+pub returns-clause-moves : goal.returns-clause-moves
+returns-clause-moves g c = moves-then (λ w. g.D.Disk.told w.disk) (λ w. g.D.Disk.size w.disk) g.U.Outlet.took (λ game f f2. f2 ≡ f) (λ game. Rested game c.args.node) (λ game. Rested game c.args.node) c.args.node c.args.self.now c.turns.self c.turn.new.self (λ game f f2 f3 same b. rested-then game c.args.node f f2 f3 same b) c.turns.invariant.moved c.in_ok-turn.ensures.moves

@@ -1,8 +1,10 @@
 -- A visit of one node.
 use Rattle.std.proofs.Common.{inr, subst}
-use Rattle.ken_drive.specs.Accounts.{AccountsFault}
+use Rattle.ken_flow.specs.Standstill.{Visited}
 use Rattle.ken_drive.specs.Running.{LeavesFault}
+use Rattle.ken_drive.proofs.Visits.{restarted-moves}
 use Rattle.ken_drive.proofs.run.Run.visit.Goals as goal
+use Rattle.ken_drive.specs.Accounts.{AccountsFault}
 
 pub restart-requires : goal.restart-requires
 restart-requires g c = record {
@@ -17,6 +19,9 @@ returns-in-Ok-clause-leaves g c = λ game made running low. c.in-Ok.ensures.leav
 pub returns-in-Ok-clause-accounts : goal.returns-in-Ok-clause-accounts
 returns-in-Ok-clause-accounts g c = λ terms game made running low accounted. c.in-Ok.ensures.accounts terms game made running low accounted
 
+pub returns-in-Ok-clause-moves : goal.returns-in-Ok-clause-moves
+returns-in-Ok-clause-moves g c = c.in-Ok.ensures.moves
+
 pub returns-in-Err-Disk-clause-leaves : goal.returns-in-Err-Disk-clause-leaves
 returns-in-Err-Disk-clause-leaves g c = λ game made running low.
     c.restart.ensures.leaves game made (subst (λ x. LeavesFault (λ w. g.D.Disk.told w.disk) (λ w. g.D.Disk.size w.disk) g.U.Outlet.took x game made c.args.node c.work.new.self) c.in-Err-Disk.field-0-is (c.in-Err-Disk.ensures.leaves game made running low))
@@ -25,6 +30,12 @@ pub returns-in-Err-Disk-clause-accounts : goal.returns-in-Err-Disk-clause-accoun
 returns-in-Err-Disk-clause-accounts g c = λ terms game made running low accounted.
     c.restart.ensures.accounts terms game made (subst (λ x. LeavesFault (λ w. g.D.Disk.told w.disk) (λ w. g.D.Disk.size w.disk) g.U.Outlet.took x game made c.args.node c.work.new.self) c.in-Err-Disk.field-0-is (c.in-Err-Disk.ensures.leaves game made running low))
     (subst (λ x. AccountsFault (λ w. g.D.Disk.told w.disk) (λ w. g.D.Disk.faults w.disk) (λ w. g.D.Disk.fate w.disk) g.O.Oracle.telling terms game x made c.args.node c.work.new.self) c.in-Err-Disk.field-0-is (c.in-Err-Disk.ensures.accounts terms game made running low accounted))
+
+pub returns-in-Err-Disk-clause-moves : goal.returns-in-Err-Disk-clause-moves
+returns-in-Err-Disk-clause-moves g c =
+    restarted-moves (λ w. g.D.Disk.told w.disk) (λ w. g.D.Disk.size w.disk) g.U.Outlet.took (λ game. Visited game c.args.node) c.args.node c.args.self.now c.work.new.self c.restart.new.self c.restart.result
+    (λ game made running low. c.restart.ensures.leaves game made (subst (λ x. LeavesFault (λ w. g.D.Disk.told w.disk) (λ w. g.D.Disk.size w.disk) g.U.Outlet.took x game made c.args.node c.work.new.self) c.in-Err-Disk.field-0-is (c.in-Err-Disk.ensures.leaves game made running low)))
+    c.restart.ensures.worked (c.in-Err-Disk.ensures.less (let is = c.in-Err-Disk.field-0-is in cc))
 
 pub returns-in-Err-Outlet-clause-leaves : goal.returns-in-Err-Outlet-clause-leaves
 returns-in-Err-Outlet-clause-leaves g c = λ game made running low.

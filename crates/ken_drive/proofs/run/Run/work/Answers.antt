@@ -1,7 +1,11 @@
 -- The calls of a visit, one after another.
-use Rattle.ken_drive.proofs.AccountsRestarts.{accounts-handed-on}
+use Rattle.std.proofs.Common.{arith}
+use Rattle.ken_flow.specs.Standstill.{Emits, Heard, Posted, Rested, Written}
 use Rattle.ken_drive.proofs.Leaving.{still-works}
+use Rattle.ken_drive.proofs.Moves.{less-err, moves-less, on-ok-with}
+use Rattle.ken_drive.proofs.Visits.{visit-moves}
 use Rattle.ken_drive.proofs.run.Run.work.Goals as goal
+use Rattle.ken_drive.proofs.AccountsRestarts.{accounts-handed-on}
 
 pub pages-requires : goal.pages-requires
 pages-requires g c = (still-works (λ w. g.D.Disk.told w.disk) (λ w. g.D.Disk.size w.disk) g.U.Outlet.took c.args.node c.args.self.now c.turns.new.self c.in_ok-turns.ensures.leaves c.requires)
@@ -67,3 +71,48 @@ returns-clause-accounts g c = λ terms game made r0 low a0.
     let r5 = c.in_ok-hear.ensures.leaves game made r4 low in
     let a5 = c.in_ok-hear.ensures.accounts terms game made r4 low a4 in
     c.outputs.ensures.accounts terms game made r5 low a5
+
+pub returns-in_err-pages-clause-less : goal.returns-in_err-pages-clause-less
+returns-in_err-pages-clause-less g c = λ was.
+    let l0 = moves-less (λ w. g.D.Disk.told w.disk) (λ w. g.D.Disk.size w.disk) g.U.Outlet.took (λ game. Rested game c.args.node) c.args.node c.args.self.now c.turns.new.self c.in_ok-turns.ensures.moves c.requires in
+    less-err c.args.self.now c.turns.new.self c.pages.new.self c.from_residual-in_err-pages.result c.in_err-pages.field-0.0 (omega (arith, l0)) c.from_residual-in_err-pages.ensures.1 (λ same. c.in_err-pages.ensures.less (cc)) was
+
+pub returns-in_err-settle-clause-less : goal.returns-in_err-settle-clause-less
+returns-in_err-settle-clause-less g c = λ was.
+    let l0 = moves-less (λ w. g.D.Disk.told w.disk) (λ w. g.D.Disk.size w.disk) g.U.Outlet.took (λ game. Rested game c.args.node) c.args.node c.args.self.now c.turns.new.self c.in_ok-turns.ensures.moves c.requires in
+    let l1 = moves-less (λ w. g.D.Disk.told w.disk) (λ w. g.D.Disk.size w.disk) g.U.Outlet.took (λ game. Written c.args.node) c.args.node c.turns.new.self c.pages.new.self c.in_ok-pages.ensures.moves (still-works (λ w. g.D.Disk.told w.disk) (λ w. g.D.Disk.size w.disk) g.U.Outlet.took c.args.node c.args.self.now c.turns.new.self c.in_ok-turns.ensures.leaves c.requires) in
+    less-err c.args.self.now c.pages.new.self c.settle.new.self c.from_residual-in_err-settle.result c.in_err-settle.field-0.0 (omega (arith, l0, l1)) c.from_residual-in_err-settle.ensures.1 (λ same. c.in_err-settle.ensures.less (cc)) was
+
+pub returns-in_err-send-clause-less : goal.returns-in_err-send-clause-less
+returns-in_err-send-clause-less g c = λ was.
+    let l0 = moves-less (λ w. g.D.Disk.told w.disk) (λ w. g.D.Disk.size w.disk) g.U.Outlet.took (λ game. Rested game c.args.node) c.args.node c.args.self.now c.turns.new.self c.in_ok-turns.ensures.moves c.requires in
+    let l1 = moves-less (λ w. g.D.Disk.told w.disk) (λ w. g.D.Disk.size w.disk) g.U.Outlet.took (λ game. Written c.args.node) c.args.node c.turns.new.self c.pages.new.self c.in_ok-pages.ensures.moves (still-works (λ w. g.D.Disk.told w.disk) (λ w. g.D.Disk.size w.disk) g.U.Outlet.took c.args.node c.args.self.now c.turns.new.self c.in_ok-turns.ensures.leaves c.requires) in
+    let l2 = moves-less (λ w. g.D.Disk.told w.disk) (λ w. g.D.Disk.size w.disk) g.U.Outlet.took (λ game. Written c.args.node) c.args.node c.pages.new.self c.settle.new.self c.in_ok-settle.ensures.moves (still-works (λ w. g.D.Disk.told w.disk) (λ w. g.D.Disk.size w.disk) g.U.Outlet.took c.args.node c.turns.new.self c.pages.new.self c.in_ok-pages.ensures.leaves (still-works (λ w. g.D.Disk.told w.disk) (λ w. g.D.Disk.size w.disk) g.U.Outlet.took c.args.node c.args.self.now c.turns.new.self c.in_ok-turns.ensures.leaves c.requires)) in
+    less-err c.args.self.now c.settle.new.self c.send.new.self c.from_residual-in_err-send.result c.in_err-send.field-0.0 (omega (arith, l0, l1, l2)) c.from_residual-in_err-send.ensures.1 (λ same. c.in_err-send.ensures.less (cc)) was
+
+pub returns-in_err-hear-clause-less : goal.returns-in_err-hear-clause-less
+returns-in_err-hear-clause-less g c = λ was.
+    let l0 = moves-less (λ w. g.D.Disk.told w.disk) (λ w. g.D.Disk.size w.disk) g.U.Outlet.took (λ game. Rested game c.args.node) c.args.node c.args.self.now c.turns.new.self c.in_ok-turns.ensures.moves c.requires in
+    let l1 = moves-less (λ w. g.D.Disk.told w.disk) (λ w. g.D.Disk.size w.disk) g.U.Outlet.took (λ game. Written c.args.node) c.args.node c.turns.new.self c.pages.new.self c.in_ok-pages.ensures.moves (still-works (λ w. g.D.Disk.told w.disk) (λ w. g.D.Disk.size w.disk) g.U.Outlet.took c.args.node c.args.self.now c.turns.new.self c.in_ok-turns.ensures.leaves c.requires) in
+    let l2 = moves-less (λ w. g.D.Disk.told w.disk) (λ w. g.D.Disk.size w.disk) g.U.Outlet.took (λ game. Written c.args.node) c.args.node c.pages.new.self c.settle.new.self c.in_ok-settle.ensures.moves (still-works (λ w. g.D.Disk.told w.disk) (λ w. g.D.Disk.size w.disk) g.U.Outlet.took c.args.node c.turns.new.self c.pages.new.self c.in_ok-pages.ensures.leaves (still-works (λ w. g.D.Disk.told w.disk) (λ w. g.D.Disk.size w.disk) g.U.Outlet.took c.args.node c.args.self.now c.turns.new.self c.in_ok-turns.ensures.leaves c.requires)) in
+    let l3 = moves-less (λ w. g.D.Disk.told w.disk) (λ w. g.D.Disk.size w.disk) g.U.Outlet.took (λ game. Posted game c.args.node) c.args.node c.settle.new.self c.send.new.self c.in_ok-send.ensures.moves (still-works (λ w. g.D.Disk.told w.disk) (λ w. g.D.Disk.size w.disk) g.U.Outlet.took c.args.node c.pages.new.self c.settle.new.self c.in_ok-settle.ensures.leaves (still-works (λ w. g.D.Disk.told w.disk) (λ w. g.D.Disk.size w.disk) g.U.Outlet.took c.args.node c.turns.new.self c.pages.new.self c.in_ok-pages.ensures.leaves (still-works (λ w. g.D.Disk.told w.disk) (λ w. g.D.Disk.size w.disk) g.U.Outlet.took c.args.node c.args.self.now c.turns.new.self c.in_ok-turns.ensures.leaves c.requires))) in
+    less-err c.args.self.now c.send.new.self c.hear.new.self c.from_residual-in_err-hear.result c.in_err-hear.field-0.0 (omega (arith, l0, l1, l2, l3)) c.from_residual-in_err-hear.ensures.1 (λ same. c.in_err-hear.ensures.less (cc)) was
+
+pub returns-in_err-turns-clause-less : goal.returns-in_err-turns-clause-less
+returns-in_err-turns-clause-less g c = λ was.
+    less-err c.args.self.now c.args.self.now c.turns.new.self c.from_residual.result c.in_err-turns.field-0.0 (omega arith) c.from_residual.ensures.1 (λ same. c.in_err-turns.ensures.less (cc)) was
+
+pub returns-clause-less : goal.returns-clause-less
+returns-clause-less g c = λ was.
+    let l0 = moves-less (λ w. g.D.Disk.told w.disk) (λ w. g.D.Disk.size w.disk) g.U.Outlet.took (λ game. Rested game c.args.node) c.args.node c.args.self.now c.turns.new.self c.in_ok-turns.ensures.moves c.requires in
+    let l1 = moves-less (λ w. g.D.Disk.told w.disk) (λ w. g.D.Disk.size w.disk) g.U.Outlet.took (λ game. Written c.args.node) c.args.node c.turns.new.self c.pages.new.self c.in_ok-pages.ensures.moves (still-works (λ w. g.D.Disk.told w.disk) (λ w. g.D.Disk.size w.disk) g.U.Outlet.took c.args.node c.args.self.now c.turns.new.self c.in_ok-turns.ensures.leaves c.requires) in
+    let l2 = moves-less (λ w. g.D.Disk.told w.disk) (λ w. g.D.Disk.size w.disk) g.U.Outlet.took (λ game. Written c.args.node) c.args.node c.pages.new.self c.settle.new.self c.in_ok-settle.ensures.moves (still-works (λ w. g.D.Disk.told w.disk) (λ w. g.D.Disk.size w.disk) g.U.Outlet.took c.args.node c.turns.new.self c.pages.new.self c.in_ok-pages.ensures.leaves (still-works (λ w. g.D.Disk.told w.disk) (λ w. g.D.Disk.size w.disk) g.U.Outlet.took c.args.node c.args.self.now c.turns.new.self c.in_ok-turns.ensures.leaves c.requires)) in
+    let l3 = moves-less (λ w. g.D.Disk.told w.disk) (λ w. g.D.Disk.size w.disk) g.U.Outlet.took (λ game. Posted game c.args.node) c.args.node c.settle.new.self c.send.new.self c.in_ok-send.ensures.moves (still-works (λ w. g.D.Disk.told w.disk) (λ w. g.D.Disk.size w.disk) g.U.Outlet.took c.args.node c.pages.new.self c.settle.new.self c.in_ok-settle.ensures.leaves (still-works (λ w. g.D.Disk.told w.disk) (λ w. g.D.Disk.size w.disk) g.U.Outlet.took c.args.node c.turns.new.self c.pages.new.self c.in_ok-pages.ensures.leaves (still-works (λ w. g.D.Disk.told w.disk) (λ w. g.D.Disk.size w.disk) g.U.Outlet.took c.args.node c.args.self.now c.turns.new.self c.in_ok-turns.ensures.leaves c.requires))) in
+    let l4 = moves-less (λ w. g.D.Disk.told w.disk) (λ w. g.D.Disk.size w.disk) g.U.Outlet.took (λ game. Heard game c.args.node) c.args.node c.send.new.self c.hear.new.self c.in_ok-hear.ensures.moves (still-works (λ w. g.D.Disk.told w.disk) (λ w. g.D.Disk.size w.disk) g.U.Outlet.took c.args.node c.settle.new.self c.send.new.self c.in_ok-send.ensures.leaves (still-works (λ w. g.D.Disk.told w.disk) (λ w. g.D.Disk.size w.disk) g.U.Outlet.took c.args.node c.pages.new.self c.settle.new.self c.in_ok-settle.ensures.leaves (still-works (λ w. g.D.Disk.told w.disk) (λ w. g.D.Disk.size w.disk) g.U.Outlet.took c.args.node c.turns.new.self c.pages.new.self c.in_ok-pages.ensures.leaves (still-works (λ w. g.D.Disk.told w.disk) (λ w. g.D.Disk.size w.disk) g.U.Outlet.took c.args.node c.args.self.now c.turns.new.self c.in_ok-turns.ensures.leaves c.requires)))) in
+    let last = c.outputs.ensures.less was in
+    omega (arith, last, l0, l1, l2, l3, l4)
+
+pub returns-clause-moves : goal.returns-clause-moves
+returns-clause-moves g c =
+    on-ok-with c.outputs.result c.outputs.ensures.moves
+    (λ last. visit-moves (λ w. g.D.Disk.told w.disk) (λ w. g.D.Disk.size w.disk) g.U.Outlet.took c.args.node c.args.self.now c.turns.new.self c.pages.new.self c.settle.new.self c.send.new.self c.hear.new.self c.outputs.new.self c.in_ok-turns.ensures.moves c.in_ok-pages.ensures.moves c.in_ok-settle.ensures.moves c.in_ok-send.ensures.moves c.in_ok-hear.ensures.moves last)

@@ -1,0 +1,15 @@
+use Rattle.std.proofs.Common.{◌≡◌}
+use Rattle.ken_drive.specs.Draining.{StaysWhole}
+use Rattle.ken_drive.specs.Flowing.{work_left}
+use Rattle.ken_drive.specs.Open.{open_left}
+use Rattle.ken_drive.proofs.run.Run.calm.Given as goal
+
+abbrev pub invariant-passes : goal.invariant-passes
+invariant-passes g l = record {
+  stays : StaysWhole (λ w. g.D.Disk.told w.disk) (λ w. g.D.Disk.size w.disk) g.U.Outlet.took l.fn.self l.self;
+  same : work_left l.self ≡ work_left l.fn.self;
+  left_is : l.left ≡ work_left l.self;
+}
+
+abbrev pub decreases-passes : goal.decreases-passes
+decreases-passes g l = open_left l.self

@@ -1,0 +1,15 @@
+use Rattle.std.proofs.Common.{◌≡◌, ℕ, ◌+◌, if◌then◌else◌, true}
+use Rattle.ken_model.specs.Game.{Game}
+use Rattle.ken_drive.specs.Draining.{HasRun, StaysWhole}
+use Rattle.ken_drive.specs.Flowing.{work_left}
+use Rattle.ken_drive.specs.Running.{IsRunning}
+use Rattle.ken_drive.proofs.run.Run.drain.Given as goal
+
+abbrev pub invariant-passes : goal.invariant-passes
+invariant-passes g l = record {
+  stays : StaysWhole (λ w. g.D.Disk.told w.disk) (λ w. g.D.Disk.size w.disk) g.U.Outlet.took l.fn.self l.self;
+  done : l.ended ≡ true → (game : Game) (made : ℕ) → IsRunning (λ w. g.D.Disk.told w.disk) (λ w. g.D.Disk.size w.disk) g.U.Outlet.took game made l.fn.self → made ≡ game.nodes → HasRun (λ w. g.D.Disk.told w.disk) (λ w. g.D.Disk.size w.disk) g.U.Outlet.took game made l.self;
+}
+
+abbrev pub decreases-passes : goal.decreases-passes
+decreases-passes g l = if l.ended then 0 else work_left l.self + 1

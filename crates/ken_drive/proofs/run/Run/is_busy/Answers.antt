@@ -1,0 +1,24 @@
+-- Whether a node has anything more to do.
+use Rattle.std.proofs.Common.{◌≡◌, ◌<◌, ◌≤◌, sym, ◌∙◌}
+use Rattle.ken_drive.proofs.AtEnd.{due-busy, full-done, idle-done, waiting-busy}
+use Rattle.ken_drive.proofs.run.Run.is_busy.Goals as goal
+
+pub returns-then-has_output_due-clause-busy : goal.returns-then-has_output_due-clause-busy
+returns-then-has_output_due-clause-busy g c = λ yes game made is low all.
+    let up = c.node_at-end.ensures.up game made is low in
+    due-busy game is.nodes c.args.node ((c.has_output_due.ensures game c.args.node (is.nodes c.args.node) up).0 c.if-has_output_due.true)
+
+pub returns-then-is_full-clause-done : goal.returns-then-is_full-clause-done
+returns-then-is_full-clause-done g c = λ no game made is low all.
+    let up = c.node_at-end.ensures.up game made is low in
+    full-done game is.nodes c.args.node (λ due. let yes = (c.has_output_due.ensures game c.args.node (is.nodes c.args.node) up).1 due in let was = c.if-has_output_due.false in absurd (cc)) ((c.is_full.ensures game c.args.node (is.nodes c.args.node) up).0 c.if-is_full.true)
+
+pub returns-clause-busy : goal.returns-clause-busy
+returns-clause-busy g c = λ yes game made is low all.
+    let up = c.node_at-end.ensures.up game made is low in
+    waiting-busy game is.nodes c.args.node (λ full. let done = (c.is_full.ensures game c.args.node (is.nodes c.args.node) up).1 full in let was = c.if-is_full.false in absurd (cc)) (c.has_waiting.ensures.some yes game made is low all)
+
+pub returns-clause-done : goal.returns-clause-done
+returns-clause-done g c = λ no game made is low all.
+    let up = c.node_at-end.ensures.up game made is low in
+    idle-done game is.nodes c.args.node (λ due. let yes = (c.has_output_due.ensures game c.args.node (is.nodes c.args.node) up).1 due in let was = c.if-has_output_due.false in absurd (cc)) (c.has_waiting.ensures.none no game made is low all)

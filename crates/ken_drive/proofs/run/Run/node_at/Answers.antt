@@ -1,0 +1,17 @@
+-- A node of a run.
+use Rattle.std.proofs.Common.{◌≡◌, ◌∙◌, slice_index_or, sym, ap, subst}
+use Rattle.ken_node.specs.Up.{IsUp}
+use Rattle.ken_drive.proofs.AtEnd.{up-created}
+use Rattle.ken_drive.proofs.Leaving.{up-before}
+use Rattle.ken_drive.proofs.run.Run.node_at.Goals as goal
+
+pub returns-clause-up : goal.returns-clause-up
+returns-clause-up g c = λ game made running low.
+    let is : slice_index_or c.args.self.now.stations.items c.args.node c.index.result.now ≡ c.index.result.now = sym (c.index.ensures ∙ ap (λ k. slice_index_or c.args.self.now.stations.items k c.index.result.now) c.from.ensures) in
+    up-before (λ w. g.D.Disk.told w.disk) (λ w. g.D.Disk.size w.disk) g.U.Outlet.took game made c.args.self.now c.args.node c.index.result.now running low is
+
+pub returns-clause-created : goal.returns-clause-created
+returns-clause-created g c =
+    let may = c.requires in
+    let is : slice_index_or c.args.self.now.stations.items c.args.node c.index.result.now ≡ c.index.result.now = sym (c.index.ensures ∙ ap (λ k. slice_index_or c.args.self.now.stations.items k c.index.result.now) c.from.ensures) in
+    up-created (λ w. g.D.Disk.told w.disk) (λ w. g.D.Disk.size w.disk) may.game c.args.node (may.running.nodes c.args.node) c.index.result.now.node.stage (up-before (λ w. g.D.Disk.told w.disk) (λ w. g.D.Disk.size w.disk) g.U.Outlet.took may.game may.made c.args.self.now c.args.node c.index.result.now may.running may.known is)

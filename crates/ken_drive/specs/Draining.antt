@@ -1,0 +1,62 @@
+-- Passes until a run has ended.
+use Rattle.std.specs.Prelude.{◌≡◌, ℕ, ◌<◌, List, Bool, true, false, Option, Result, Ok, Err}
+use Rattle.ken_disk.specs.Story.{Story}
+use Rattle.ken_model.specs.declared.messages.Out.{Out}
+use Rattle.ken_model.specs.Game.{Game}
+use Rattle.ken_node.specs.declared.watched.Watched.{Watched}
+use Rattle.ken_flow.specs.Standstill.{HasEnded, Passed}
+use Rattle.ken_drive.specs.declared.drain.Came.{Came}
+use Rattle.ken_drive.specs.declared.drain.Came.TheVariants.{Ended, Worked, Nothing}
+use Rattle.ken_drive.specs.declared.faults.RunFault.{RunFault}
+use Rattle.ken_drive.specs.declared.run.Run.{Run}
+use Rattle.ken_drive.specs.Flowing.{flow_of, work_left}
+use Rattle.ken_drive.specs.Open.{open_left}
+use Rattle.ken_drive.specs.Running.{IsRunning, LeavesRunFault}
+
+module _ {D O U : Type 0} (told : Watched D → Option Story) (size : Watched D → ℕ) (took : U → Option (List Out)) where
+  -- a run of some game goes on, all nodes of which were made
+  pub record MayDrain (r : Run D O U) : Type 0 where
+    pub game : Game
+    pub made : ℕ
+    pub running : IsRunning told size took game made r
+    pub all : made ≡ game.nodes
+
+  -- it goes on, and has ended
+  abbrev pub HasRun : Game → ℕ → Run D O U → Type 0
+  HasRun g made r = (now : IsRunning told size took g made r) × HasEnded g now.nodes
+
+  -- by the answer: the run has ended, or it may not go on
+  abbrev pub DrainsBy : {T : Type 0} → Result T RunFault → Game → ℕ → Run D O U → Type 0
+  DrainsBy (Ok x) g made r = HasRun g made r
+  DrainsBy (Err fault) g made r = LeavesRunFault told size took fault g made r
+
+  -- where all nodes were made, all stay up
+  abbrev pub StaysWhole : Run D O U → Run D O U → Type 0
+  StaysWhole old new = (g : Game) (made : ℕ) → IsRunning told size took g made old → made ≡ g.nodes → IsRunning told size took g made new
+
+  -- by the answer of passes: the run has ended, or less work is left, or as much, and the flow moved so
+  abbrev pub CameBy : (Run D O U → Run D O U → Type 0) → Result Came RunFault → Run D O U → Run D O U → Type 0
+  CameBy moved (Ok Ended) old new = (g : Game) (made : ℕ) → IsRunning told size took g made old → made ≡ g.nodes → HasRun g made new
+  CameBy moved (Ok Worked) old new = StaysWhole old new × (work_left new < work_left old)
+  CameBy moved (Ok Nothing) old new = moved old new × StaysWhole old new × (work_left new ≡ work_left old)
+  CameBy moved (Err fault) old new = (g : Game) (made : ℕ) → IsRunning told size took g made old → made ≡ g.nodes → LeavesRunFault told size took fault g made new
+
+  -- a pass that did no work, after which the run hasn't ended
+  pub record Idled (g : Game) (made : ℕ) (old new : Run D O U) (was : IsRunning told size took g made old) : Type 0 where
+    pub now : IsRunning told size took g made new
+    pub passed : Passed g (flow_of was.nodes old) (flow_of now.nodes new)
+    pub goes_on : HasEnded g now.nodes → ⊥
+
+  abbrev pub PassedIdly : Run D O U → Run D O U → Type 0
+  PassedIdly old new = (g : Game) (made : ℕ) (was : IsRunning told size took g made old) → made ≡ g.nodes → Idled g made old new was
+
+-- less is open
+abbrev pub LessIsOpen : {D O U : Type 0} → Run D O U → Run D O U → Type 0
+LessIsOpen old new = open_left new < open_left old
+
+module _ {D O U : Type 0} (told : Watched D → Option Story) (size : Watched D → ℕ) (took : U → Option (List Out)) where
+  -- passes as long as nothing came of them, by the answer: whether the run has ended, or else less work is left
+  abbrev pub CalmsBy : Result Bool RunFault → Run D O U → Run D O U → Type 0
+  CalmsBy (Ok true) old new = (g : Game) (made : ℕ) → IsRunning told size took g made old → made ≡ g.nodes → HasRun told size took g made new
+  CalmsBy (Ok false) old new = StaysWhole told size took old new × (work_left new < work_left old)
+  CalmsBy (Err fault) old new = (g : Game) (made : ℕ) → IsRunning told size took g made old → made ≡ g.nodes → LeavesRunFault told size took fault g made new

@@ -1,0 +1,94 @@
+// Whether a run has ended.
+ghost use Rattle.std.specs.Prelude.{◌≡◌, ◌<◌, ℕ, true, false};
+ghost use Rattle.ken_model.specs.Game.{Game};
+ghost use Rattle.ken_node.specs.Stages.{IsCreated};
+ghost use Rattle.ken_node.specs.Up.{IsUp};
+ghost use Rattle.ken_flow.specs.Standstill.{HasEnded, waits_on};
+ghost use Rattle.ken_drive.specs.Endings.{HasNoneWaiting, HasWaiting, IsDone};
+ghost use Rattle.ken_drive.specs.Running.{IsRunning, MayGoOn, MayWork};
+
+use crate::run::Run;
+use ken_app::Oracle;
+use ken_disk::Disk;
+use ken_model::OUTSIDE;
+use ken_node::{Node, Watched};
+use ken_ship::Outlet;
+
+impl<D: Disk, O: Oracle, U: Outlet> Run<D, O, U> {
+    // A node of the run.
+    fn node_at(&self, node: u8) -> &Node<Watched<D>>
+        requires { MayWork ⟦<Watched<D> as Disk>⟧.told ⟦<Watched<D> as Disk>⟧.size U.took node self.now }
+        ensures up { (g : Game) (made : ℕ) (is : IsRunning ⟦<Watched<D> as Disk>⟧.told ⟦<Watched<D> as Disk>⟧.size U.took g made self.now) → node < made → IsUp ⟦<Watched<D> as Disk>⟧.told ⟦<Watched<D> as Disk>⟧.size g node (is.nodes node) result.now.stage }
+        ensures created { IsCreated result.now.stage }
+    {
+        &self.stations[usize::from(node)].node
+    }
+
+    // Whether a message that one node sent to another waits.
+    fn has_message(&self, from: u8, to: u8) -> bool
+        requires from { MayWork ⟦<Watched<D> as Disk>⟧.told ⟦<Watched<D> as Disk>⟧.size U.took from self.now }
+        requires to { MayWork ⟦<Watched<D> as Disk>⟧.told ⟦<Watched<D> as Disk>⟧.size U.took to self.now }
+        ensures some { result ≡ true → (g : Game) (made : ℕ) (is : IsRunning ⟦<Watched<D> as Disk>⟧.told ⟦<Watched<D> as Disk>⟧.size U.took g made self.now) → from < made → to < made → 0 < waits_on g is.nodes from to }
+        ensures none { result ≡ false → (g : Game) (made : ℕ) (is : IsRunning ⟦<Watched<D> as Disk>⟧.told ⟦<Watched<D> as Disk>⟧.size U.took g made self.now) → from < made → to < made → waits_on g is.nodes from to ≡ 0 }
+    {
+        self.node_at(to).consumed(from) < self.node_at(from).sent(to)
+    }
+
+    // Whether an input waits for a node.
+    fn has_input(&self, node: u8) -> bool
+        requires { MayWork ⟦<Watched<D> as Disk>⟧.told ⟦<Watched<D> as Disk>⟧.size U.took node self.now }
+        ensures some { result ≡ true → (g : Game) (made : ℕ) (is : IsRunning ⟦<Watched<D> as Disk>⟧.told ⟦<Watched<D> as Disk>⟧.size U.took g made self.now) → node < made → 0 < waits_on g is.nodes OUTSIDE node }
+        ensures none { result ≡ false → (g : Game) (made : ℕ) (is : IsRunning ⟦<Watched<D> as Disk>⟧.told ⟦<Watched<D> as Disk>⟧.size U.took g made self.now) → node < made → waits_on g is.nodes OUTSIDE node ≡ 0 }
+    {
+        let end = self.node_at(node);
+        end.consumed(OUTSIDE) < end.inputs()
+    }
+
+    // Whether a message or an input waits for a node.
+    fn has_waiting(&self, node: u8) -> bool
+        requires { MayWork ⟦<Watched<D> as Disk>⟧.told ⟦<Watched<D> as Disk>⟧.size U.took node self.now }
+        ensures some { result ≡ true → (g : Game) (made : ℕ) (is : IsRunning ⟦<Watched<D> as Disk>⟧.told ⟦<Watched<D> as Disk>⟧.size U.took g made self.now) → node < made → made ≡ g.nodes → HasWaiting g is.nodes node }
+        ensures none { result ≡ false → (g : Game) (made : ℕ) (is : IsRunning ⟦<Watched<D> as Disk>⟧.told ⟦<Watched<D> as Disk>⟧.size U.took g made self.now) → node < made → made ≡ g.nodes → HasNoneWaiting g is.nodes node }
+    {
+        if self.has_input(node) {
+            return true;
+        }
+        for from in 0..self.nodes {
+            if self.has_message(from, node) {
+                return true;
+            }
+        }
+        false
+    }
+
+    // Whether a node has an output to emit yet, or may have to make a turn.
+    fn is_busy(&self, node: u8) -> bool
+        requires { MayWork ⟦<Watched<D> as Disk>⟧.told ⟦<Watched<D> as Disk>⟧.size U.took node self.now }
+        ensures busy { result ≡ true → (g : Game) (made : ℕ) (is : IsRunning ⟦<Watched<D> as Disk>⟧.told ⟦<Watched<D> as Disk>⟧.size U.took g made self.now) → node < made → made ≡ g.nodes → IsDone g is.nodes node → ⊥ }
+        ensures done { result ≡ false → (g : Game) (made : ℕ) (is : IsRunning ⟦<Watched<D> as Disk>⟧.told ⟦<Watched<D> as Disk>⟧.size U.took g made self.now) → node < made → made ≡ g.nodes → IsDone g is.nodes node }
+    {
+        let end = self.node_at(node);
+        if end.has_output_due() {
+            return true;
+        }
+        if end.is_full() {
+            return false;
+        }
+        self.has_waiting(node)
+    }
+
+    /// Whether the run has ended: each output was emitted, and what waits is for nodes that have made all their turns. It asks each
+    /// node, and each for each other, and copies nothing.
+    pub(crate) fn has_ended(&self) -> bool
+        requires { MayGoOn ⟦<Watched<D> as Disk>⟧.told ⟦<Watched<D> as Disk>⟧.size U.took self.now }
+        ensures ended { result ≡ true → (g : Game) (made : ℕ) (is : IsRunning ⟦<Watched<D> as Disk>⟧.told ⟦<Watched<D> as Disk>⟧.size U.took g made self.now) → made ≡ g.nodes → HasEnded g is.nodes }
+        ensures goes_on { result ≡ false → (g : Game) (made : ℕ) (is : IsRunning ⟦<Watched<D> as Disk>⟧.told ⟦<Watched<D> as Disk>⟧.size U.took g made self.now) → made ≡ g.nodes → HasEnded g is.nodes → ⊥ }
+    {
+        for node in 0..self.nodes {
+            if self.is_busy(node) {
+                return false;
+            }
+        }
+        true
+    }
+}
