@@ -1,9 +1,7 @@
 -- Whether a run has ended, as its nodes tell it.
-use Rattle.std.proofs.Common.{◌≡◌, ◌≢◌, ◌↔◌, ℕ, ◌+◌, ◌-◌, ◌<◌, ◌≤◌, ◌⊎◌, inl, inr, ⊎_elim, ◌==◌, nat_lt, if◌then◌else◌, List, length, slice_index_or, Bool, true, false, Option, refl, sym, ap, subst, ◌∙◌, arith}
-use Rattle.std.specs.Prelude.{IsTrue}
+use Rattle.std.proofs.Common.{◌≡◌, ◌≢◌, ℕ, ◌+◌, ◌-◌, ◌<◌, ◌≤◌, inl, inr, ⊎_elim, nat_lt, if◌then◌else◌, List, length, Bool, true, false, Option, sym, ap, subst, ◌∙◌, arith}
 use Rattle.std.proofs.lemmas.Bool.{cases_lt, ltb-false, ltb-true, ne_eqb}
 use Rattle.ken_disk.specs.Story.{Story}
-use Rattle.ken_model.specs.declared.messages.Message.{Message}
 use Rattle.ken_model.specs.declared.messages.Out.{Out}
 use Rattle.ken_model.specs.Game.{Game}
 use Rattle.ken_model.specs.Network.{inputs_for, outside}
@@ -15,7 +13,6 @@ use Rattle.ken_node.specs.Stages.{IsCreated}
 use Rattle.ken_node.specs.Up.{IsUp}
 use Rattle.ken_flow.specs.Standstill.{HasEnded, waits_on}
 use Rattle.ken_drive.specs.declared.run.Run.{Run}
-use Rattle.ken_drive.specs.declared.station.Station.{Station}
 use Rattle.ken_drive.specs.Endings.{HasNoneWaiting, HasWaiting, IsDone}
 use Rattle.ken_drive.specs.Running.{IsRunning, MayGoOn, MayWork}
 

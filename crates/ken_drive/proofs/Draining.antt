@@ -1,21 +1,21 @@
 -- Passes until a run has ended.
-use Rattle.std.proofs.Common.{◌≡◌, ℕ, ◌+◌, ◌<◌, ◌≤◌, ⊎_elim, if◌then◌else◌, List, length, Bool, true, false, Option, Result, Ok, Err, refl, sym, ap, subst, ◌∙◌, arith}
+use Rattle.std.proofs.Common.{◌≡◌, ℕ, ◌+◌, ◌<◌, ◌≤◌, ⊎_elim, if◌then◌else◌, List, length, Bool, true, false, Option, Result, Ok, Err, refl, sym, subst, ◌∙◌, arith}
 use Rattle.std.specs.Result.{IsErrAnd}
 use Rattle.std.proofs.lemmas.Bool.{cases_lt}
 use Rattle.ken_disk.specs.Story.{Story}
 use Rattle.ken_model.specs.declared.messages.Out.{Out}
 use Rattle.ken_model.specs.Game.{Game}
 use Rattle.ken_node.specs.declared.watched.Watched.{Watched}
-use Rattle.ken_flow.specs.Standstill.{Flow, HasEnded, Passed, open_in}
+use Rattle.ken_flow.specs.Standstill.{HasEnded, Passed, open_in}
 use Rattle.ken_flow.proofs.Stamps.{standstill_ends}
 use Rattle.ken_drive.specs.declared.drain.Came.{Came}
 use Rattle.ken_drive.specs.declared.drain.Came.TheVariants.{Ended, Worked, Nothing}
 use Rattle.ken_drive.specs.declared.faults.RunFault.{RunFault}
 use Rattle.ken_drive.specs.declared.run.Run.{Run}
 use Rattle.ken_drive.specs.Draining.{CalmsBy, CameBy, DrainsBy, HasRun, Idled, LessIsOpen, MayDrain, PassedIdly, StaysWhole}
-use Rattle.ken_drive.specs.Flowing.{AllMoved, Moved, flow_of, work_left}
+use Rattle.ken_drive.specs.Flowing.{AllMoved, flow_of, work_left}
 use Rattle.ken_drive.specs.Open.{open_left}
-use Rattle.ken_drive.specs.Running.{IsRunning, LeavesRunBy, LeavesRunFault, MayGoOn}
+use Rattle.ken_drive.specs.Running.{IsRunning, LeavesRunFault, MayGoOn}
 use Rattle.ken_drive.proofs.Opening.{has-places, open-is}
 
 module _ {D O U : Type 0} (told : Watched D → Option Story) (size : Watched D → ℕ) (took : U → Option (List Out)) where

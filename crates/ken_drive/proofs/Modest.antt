@@ -1,5 +1,5 @@
 -- Puts change no acts of a link.
-use Rattle.std.proofs.Common.{◌≡◌, ℕ, zero, suc, List, [], ◌∷◌, slice_index_or, slice_set, refl, sym, ap, subst, ◌∙◌}
+use Rattle.std.proofs.Common.{◌≡◌, ℕ, zero, suc, List, [], ◌∷◌, slice_set, refl, sym, subst, ◌∙◌}
 use Rattle.ken_net.specs.declared.act.Act.{Act}
 use Rattle.ken_net.specs.Puts.{Put}
 use Rattle.ken_net.specs.Standings.{Standing, after_put, after_puts, link_to}

@@ -1,5 +1,5 @@
 -- How the flow of a run moves over several calls, and how much work each leaves.
-use Rattle.std.proofs.Common.{◌≡◌, ℕ, ◌+◌, ◌-◌, ◌*◌, ◌^◌, ◌<◌, ◌≤◌, ◌⊎◌, inl, inr, ⊎_elim, List, length, map, slice_index_or, slice_set, take, Option, Result, Ok, Err, refl, sym, ap, subst, ◌∙◌, arith}
+use Rattle.std.proofs.Common.{◌≡◌, ℕ, ◌+◌, ◌-◌, ◌*◌, ◌^◌, ◌<◌, ◌≤◌, inl, inr, ⊎_elim, List, length, slice_index_or, slice_set, take, Option, Result, Ok, Err, refl, sym, ap, subst, ◌∙◌, arith}
 use Rattle.std.specs.Prelude.{IsErrOf, OnOk}
 use Rattle.std.specs.Result.{IsErrAnd}
 use Rattle.std.specs.List.{sum_by}
@@ -8,7 +8,6 @@ use Rattle.std.proofs.lemmas.List.Sums.{sum_by-set, sum_by_more}
 use Rattle.ken_disk.specs.Story.{Story}
 use Rattle.ken_model.specs.declared.messages.Out.{Out}
 use Rattle.ken_model.specs.Game.{Game}
-use Rattle.ken_core.specs.Nodes.{Node}
 use Rattle.ken_ship.specs.declared.faults.NodeFault.{NodeFault}
 use Rattle.ken_ship.specs.declared.faults.NodeFault.TheVariants.{Disk}
 use Rattle.ken_node.specs.declared.watched.Watched.{Watched}

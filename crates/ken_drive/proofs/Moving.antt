@@ -1,30 +1,26 @@
 -- How each call of a node moves the flow of its run.
-use Rattle.std.proofs.Common.{◌≡◌, ◌≢◌, ℕ, ◌+◌, ◌-◌, ◌*◌, ◌<◌, ◌≤◌, ◌⊎◌, inl, inr, ⊎_elim, List, [], ◌∷◌, ◌++◌, length, map, drop, All, Contains, slice_index_or, slice_set, Bool, true, false, Option, Some, None, Result, Ok, Err, refl, sym, ap, subst, ◌∙◌, arith, append-nil, length-append}
+use Rattle.std.proofs.Common.{◌≡◌, ◌≢◌, ℕ, ◌+◌, ◌-◌, ◌*◌, ◌<◌, ◌≤◌, ◌⊎◌, inl, inr, ⊎_elim, List, [], ◌∷◌, ◌++◌, length, map, All, Contains, slice_index_or, slice_set, Bool, true, false, Option, Some, None, Result, Ok, Err, refl, sym, ap, subst, ◌∙◌, arith, append-nil, length-append}
 use Rattle.std.specs.Prelude.{IfSome, IsErrOf, IsSome, OnOk, slice_get, slice_index}
-use Rattle.std.specs.List.{AllByRecursion}
 use Rattle.std.proofs.lemmas.Bool.{cases_eq}
 use Rattle.std.proofs.lemmas.List.{get_or-map, get_or-set_same, get_or_default, length-map, map-append, map-set, same_lists}
 use Rattle.std.proofs.lemmas.List.Elements.{All-nil}
 use Rattle.std.proofs.lemmas.Option.{slice_get_cases, slice_get_within}
 use Rattle.std.proofs.Math.Seq.{map-set_same}
 use Rattle.ken_disk.specs.Story.{Story}
-use Rattle.ken_model.specs.declared.messages.Message.{Message}
 use Rattle.ken_model.specs.declared.messages.Out.{Out}
 use Rattle.ken_model.specs.declared.reports.Emission.{Emission}
 use Rattle.ken_model.specs.Emissions.{emitted_by}
 use Rattle.ken_model.specs.Game.{Game}
 use Rattle.ken_record.specs.declared.effects.Effects.{Effects}
 use Rattle.ken_net.specs.Counts.{risen}
-use Rattle.ken_net.specs.declared.inbox.TheConstants.{MAX_INBOX}
 use Rattle.ken_net.specs.Inboxes.{all_filed}
-use Rattle.ken_net.specs.Puts.{Put}
 use Rattle.ken_net.specs.Standings.{Standing, Leaving, after_puts, all_passed}
 use Rattle.ken_core.specs.declared.events.Event.{Event}
 use Rattle.ken_core.specs.declared.events.Event.TheVariants.{Emit as EmitEvent}
 use Rattle.ken_core.specs.Calls.{Call, Doubt, IsEmit, no_doubt}
 use Rattle.ken_core.specs.Clusters.{WasPut, emissions_by}
 use Rattle.ken_core.specs.Nodes.{Node}
-use Rattle.ken_core.specs.Packets.{Packet, Answer, Outgoing, Receipt, due, nothing}
+use Rattle.ken_core.specs.Packets.{Packet, Outgoing, nothing}
 use Rattle.ken_core.specs.Runs.{NodeRun}
 use Rattle.ken_core.specs.Steps.{emitted_node}
 use Rattle.ken_core.specs.Turns.{outs_of}
@@ -34,7 +30,6 @@ use Rattle.ken_ship.specs.declared.faults.NodeFault.{NodeFault}
 use Rattle.ken_ship.specs.declared.faults.NodeFault.TheVariants.{Disk, Damaged, Outlet, Memory}
 use Rattle.ken_ship.specs.declared.hearing.TheConstants.{MOST_TAKEN}
 use Rattle.ken_ship.specs.declared.items.Sealed.{Sealed}
-use Rattle.ken_ship.specs.declared.worker.TheConstants.{MOST_REFUSALS}
 use Rattle.ken_ship.specs.Handing.{with_turns}
 use Rattle.ken_ship.specs.Laws.{IsDueOf, packets_from}
 use Rattle.ken_ship.specs.Outlets.{also_took}
@@ -64,7 +59,7 @@ use Rattle.ken_drive.proofs.Lifted.{ups-after, with-here, with-other}
 use Rattle.ken_drive.proofs.Moves.{work-same, work-turn}
 use Rattle.ken_drive.proofs.Posting.{posts-first, posts-few, posts-for}
 use Rattle.ken_drive.proofs.Quiet.{run-quiet, sends-quiet}
-use Rattle.ken_node.proofs.Quietly.{emit_keeps_turns, none_keeps, patch_keeps_sending, patch_keeps_turns, sends_keep, sync_keeps_sending, sync_keeps_turns}
+use Rattle.ken_node.proofs.Quietly.{none_keeps, patch_keeps_sending, patch_keeps_turns, sends_keep, sync_keeps_sending, sync_keeps_turns}
 
 -- ---- a node that is up
 

@@ -1,10 +1,9 @@
 -- How a call of a node's handler moves the flow of its run.
-use Rattle.std.proofs.Common.{◌≡◌, ◌≢◌, ℕ, ◌+◌, ◌-◌, ◌*◌, ◌^◌, ◌<◌, ◌≤◌, ◌⊎◌, inl, inr, ⊎_elim, List, [], ◌∷◌, ◌++◌, length, map, All, Contains, slice_index_or, slice_set, Option, Result, Ok, Err, refl, sym, ap, subst, ◌∙◌, arith}
+use Rattle.std.proofs.Common.{◌≡◌, ℕ, ◌+◌, ◌*◌, ◌^◌, ◌<◌, ◌≤◌, ◌⊎◌, inl, inr, ⊎_elim, List, [], ◌∷◌, length, map, Contains, slice_index_or, slice_set, Option, Result, Ok, Err, refl, sym, ap, subst, ◌∙◌, arith}
 use Rattle.std.specs.Prelude.{IsErrOf, OnOk}
 use Rattle.std.specs.List.{AllByRecursion}
 use Rattle.std.proofs.lemmas.List.Elements.{All-contains, All-from_recursion}
 use Rattle.ken_disk.specs.Story.{Story}
-use Rattle.ken_model.specs.declared.messages.Message.{Message}
 use Rattle.ken_model.specs.declared.messages.Out.{Out}
 use Rattle.ken_model.specs.declared.facts.TheConstants.{MAX_NODES, MAX_TURNS}
 use Rattle.ken_model.specs.Game.{Game}
@@ -13,10 +12,8 @@ use Rattle.ken_record.specs.declared.effects.Effects.{Effects}
 use Rattle.ken_net.specs.Inboxes.{all_filed}
 use Rattle.ken_net.specs.Puts.{Put}
 use Rattle.ken_net.specs.Standings.{Leaving, Standing, after_puts, all_passed}
-use Rattle.ken_core.specs.declared.events.Event.{Event}
-use Rattle.ken_core.specs.Clusters.{WasPut}
 use Rattle.ken_core.specs.Nodes.{Node}
-use Rattle.ken_core.specs.Packets.{Mail, Outgoing, Packet, nothing}
+use Rattle.ken_core.specs.Packets.{Mail, nothing}
 use Rattle.ken_core.specs.Turns.{consumed_from, stamp_after}
 use Rattle.ken_ship.specs.declared.faults.NodeFault.{NodeFault}
 use Rattle.ken_ship.specs.declared.faults.NodeFault.TheVariants.{Disk, Damaged, Outlet, Memory}
@@ -29,8 +26,7 @@ use Rattle.ken_node.specs.NodeTurns.{CappedSteps, IdleSteps, IsNotNext, SealFail
 use Rattle.ken_node.specs.Remaining.{turns_to_make}
 use Rattle.ken_node.specs.Sealing.{is_full}
 use Rattle.ken_node.specs.Stages.{emissions_in, refusals_in}
-use Rattle.ken_node.specs.Up.{IsUp}
-use Rattle.ken_flow.specs.Groups.{group_of, with_node}
+use Rattle.ken_flow.specs.Groups.{with_node}
 use Rattle.ken_flow.specs.Standstill.{IsAnswered, IsIdle, IsOver, Rested}
 use Rattle.ken_flow.proofs.Stamps.{stamps_are_low}
 use Rattle.ken_drive.specs.declared.run.Run.{Run}

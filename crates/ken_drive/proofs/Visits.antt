@@ -1,5 +1,5 @@
 -- The calls of a visit, and visits, one after another.
-use Rattle.std.proofs.Common.{◌≡◌, ◌≢◌, ℕ, ◌+◌, ◌<◌, ◌≤◌, ◌⊎◌, inl, inr, ⊎_elim, List, length, slice_set, Option, Result, Ok, Err, refl, sym, ap, subst, ◌∙◌, arith}
+use Rattle.std.proofs.Common.{◌≡◌, ℕ, ◌+◌, ◌<◌, ◌≤◌, ◌⊎◌, inl, inr, ⊎_elim, List, length, slice_set, Option, Result, Ok, Err, refl, ap, subst, ◌∙◌, arith}
 use Rattle.std.proofs.lemmas.List.{set-set}
 use Rattle.std.specs.Prelude.{IsErrOf, OnOk, slice_index}
 use Rattle.std.specs.Result.{IsErrAnd}
@@ -15,8 +15,8 @@ use Rattle.ken_flow.specs.Standstill.{Emits, Flow, Heard, MakesNoTurn, Passed, P
 use Rattle.ken_drive.specs.declared.faults.RunFault.{RunFault}
 use Rattle.ken_drive.specs.declared.run.Run.{Run}
 use Rattle.ken_drive.specs.Flowing.{AllMoved, Moved, Moves, flow_of, work_left}
-use Rattle.ken_drive.specs.Running.{IsRunning, IsStopped, LeavesRunBy, MayWork, StaysUp}
-use Rattle.ken_drive.proofs.Moves.{moved-then, moves-less, moves-none, moves-then, same-fault}
+use Rattle.ken_drive.specs.Running.{IsRunning, LeavesRunBy, MayWork, StaysUp}
+use Rattle.ken_drive.proofs.Moves.{moved-then, moves-less, moves-then, same-fault}
 
 -- ---- what several calls of one sort come to
 

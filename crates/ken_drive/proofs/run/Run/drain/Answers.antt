@@ -1,5 +1,4 @@
 -- Passes until the run has ended.
-use Rattle.std.proofs.Common.{sym}
 use Rattle.ken_drive.proofs.Draining.{drain-done, drain-failed, drain-on, drain-smaller, may-go-on, may-still, stays-whole}
 use Rattle.ken_drive.proofs.run.Run.drain.Goals as goal
 

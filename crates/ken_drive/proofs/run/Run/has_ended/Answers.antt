@@ -1,5 +1,5 @@
 -- Whether a run has ended.
-use Rattle.std.proofs.Common.{◌≡◌, ◌∙◌, ℕ, ◌<◌, sym, subst, arith}
+use Rattle.std.proofs.Common.{arith}
 use Rattle.ken_drive.specs.Endings.{IsDone}
 use Rattle.ken_drive.proofs.AtEnd.{all-done, below-made, ended-done, may-work, one-more}
 use Rattle.ken_drive.proofs.run.Run.has_ended.Goals as goal

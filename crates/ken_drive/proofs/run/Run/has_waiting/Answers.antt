@@ -1,5 +1,5 @@
 -- Whether anything waits for a node.
-use Rattle.std.proofs.Common.{◌≡◌, ◌∙◌, ℕ, ◌<◌, inl, inr, refl, sym, subst, arith}
+use Rattle.std.proofs.Common.{◌≡◌, ℕ, inl, inr, refl, arith}
 use Rattle.ken_model.specs.Network.{outside}
 use Rattle.ken_flow.specs.Standstill.{waits_on}
 use Rattle.ken_drive.proofs.AtEnd.{below-made, may-work-too, none-waits, one-more}

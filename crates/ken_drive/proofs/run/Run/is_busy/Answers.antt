@@ -1,5 +1,4 @@
 -- Whether a node has anything more to do.
-use Rattle.std.proofs.Common.{◌≡◌, ◌<◌, ◌≤◌, sym, ◌∙◌}
 use Rattle.ken_drive.proofs.AtEnd.{due-busy, full-done, idle-done, waiting-busy}
 use Rattle.ken_drive.proofs.run.Run.is_busy.Goals as goal
 

@@ -1,6 +1,5 @@
 -- A node of a run.
-use Rattle.std.proofs.Common.{◌≡◌, ◌∙◌, slice_index_or, sym, ap, subst}
-use Rattle.ken_node.specs.Up.{IsUp}
+use Rattle.std.proofs.Common.{◌≡◌, ◌∙◌, slice_index_or, sym, ap}
 use Rattle.ken_drive.proofs.AtEnd.{up-created}
 use Rattle.ken_drive.proofs.Leaving.{up-before}
 use Rattle.ken_drive.proofs.run.Run.node_at.Goals as goal

@@ -1,9 +1,9 @@
 -- One call after another, as long as there is one to make.
-use Rattle.std.proofs.Common.{◌≡◌, inl, inr, refl, subst}
-use Rattle.ken_flow.specs.Standstill.{Emits, Rested, Written}
+use Rattle.std.proofs.Common.{inl, inr, refl}
+use Rattle.ken_flow.specs.Standstill.{Emits}
 use Rattle.ken_drive.proofs.Leaving.{handed-on, stays-first, still-works}
 use Rattle.ken_drive.proofs.Moves.{moves-none, moves-then}
-use Rattle.ken_drive.proofs.Visits.{MayEmit, less-then, may-emit-then, moves-worked, rested-then, written-none, written-then}
+use Rattle.ken_drive.proofs.Visits.{MayEmit, less-then, may-emit-then}
 use Rattle.ken_drive.proofs.run.Run.outputs.Goals as goal
 use Rattle.ken_drive.proofs.AccountsRestarts.{accounts-handed-on}
 

@@ -1,6 +1,5 @@
 -- One visit after another.
-use Rattle.std.proofs.Common.{◌≡◌, ◌<◌, ◌∙◌, sym, subst, arith}
-use Rattle.ken_flow.specs.Standstill.{VisitedTo}
+use Rattle.std.proofs.Common.{◌<◌, subst, arith}
 use Rattle.ken_drive.proofs.Leaving.{run-handed-on}
 use Rattle.ken_drive.proofs.Visits.{pass-all, pass-more, pass-none}
 use Rattle.ken_drive.proofs.run.Run.pass.Goals as goal

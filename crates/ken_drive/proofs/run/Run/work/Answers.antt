@@ -1,6 +1,6 @@
 -- The calls of a visit, one after another.
 use Rattle.std.proofs.Common.{arith}
-use Rattle.ken_flow.specs.Standstill.{Emits, Heard, Posted, Rested, Written}
+use Rattle.ken_flow.specs.Standstill.{Heard, Posted, Rested, Written}
 use Rattle.ken_drive.proofs.Leaving.{still-works}
 use Rattle.ken_drive.proofs.Moves.{less-err, moves-less, on-ok-with}
 use Rattle.ken_drive.proofs.Visits.{visit-moves}
