@@ -1,6 +1,7 @@
 // Passes until a run has ended.
 ghost use Rattle.std.specs.Prelude.{◌≡◌, ◌<◌, ◌≤◌, ◌^◌, ℕ, length};
 ghost use Rattle.ken_model.specs.Game.{Game};
+ghost use Rattle.ken_drive.specs.Accounts.{AccountsRunBy, AreAccounted, Terms};
 ghost use Rattle.ken_drive.specs.Draining.{CalmsBy, CameBy, DrainsBy, LessIsOpen, MayDrain, PassedIdly};
 ghost use Rattle.ken_drive.specs.Flowing.{work_at, work_left};
 ghost use Rattle.ken_drive.specs.Running.{IsRunning};
@@ -51,7 +52,8 @@ impl<D: Disk, O: Oracle, U: Outlet> Run<D, O, U> {
     fn pass_on(&mut self, left: u128) -> Result<Came, RunFault>
         requires may { MayDrain ⟦<Watched<D> as Disk>⟧.told ⟦<Watched<D> as Disk>⟧.size U.took self.old }
         requires left { left ≡ work_left self.old }
-        ensures { CameBy ⟦<Watched<D> as Disk>⟧.told ⟦<Watched<D> as Disk>⟧.size U.took (PassedIdly ⟦<Watched<D> as Disk>⟧.told ⟦<Watched<D> as Disk>⟧.size U.took) result self.old self.new }
+        ensures came { CameBy ⟦<Watched<D> as Disk>⟧.told ⟦<Watched<D> as Disk>⟧.size U.took (PassedIdly ⟦<Watched<D> as Disk>⟧.told ⟦<Watched<D> as Disk>⟧.size U.took) result self.old self.new }
+        ensures accounts { (terms : Terms) (g : Game) (made : ℕ) → IsRunning ⟦<Watched<D> as Disk>⟧.told ⟦<Watched<D> as Disk>⟧.size U.took g made self.old → made ≡ g.nodes → AreAccounted ⟦<Watched<D> as Disk>⟧.told ⟦<Watched<D> as Disk>⟧.faults ⟦<Watched<D> as Disk>⟧.fate O.telling terms g made self.old → AccountsRunBy ⟦<Watched<D> as Disk>⟧.told ⟦<Watched<D> as Disk>⟧.faults ⟦<Watched<D> as Disk>⟧.fate O.telling terms g result made self.new }
     {
         self.pass()?;
         if self.has_ended() {
@@ -67,7 +69,8 @@ impl<D: Disk, O: Oracle, U: Outlet> Run<D, O, U> {
     fn three(&mut self, left: u128) -> Result<Came, RunFault>
         requires may { MayDrain ⟦<Watched<D> as Disk>⟧.told ⟦<Watched<D> as Disk>⟧.size U.took self.old }
         requires left { left ≡ work_left self.old }
-        ensures { CameBy ⟦<Watched<D> as Disk>⟧.told ⟦<Watched<D> as Disk>⟧.size U.took LessIsOpen result self.old self.new }
+        ensures came { CameBy ⟦<Watched<D> as Disk>⟧.told ⟦<Watched<D> as Disk>⟧.size U.took LessIsOpen result self.old self.new }
+        ensures accounts { (terms : Terms) (g : Game) (made : ℕ) → IsRunning ⟦<Watched<D> as Disk>⟧.told ⟦<Watched<D> as Disk>⟧.size U.took g made self.old → made ≡ g.nodes → AreAccounted ⟦<Watched<D> as Disk>⟧.told ⟦<Watched<D> as Disk>⟧.faults ⟦<Watched<D> as Disk>⟧.fate O.telling terms g made self.old → AccountsRunBy ⟦<Watched<D> as Disk>⟧.told ⟦<Watched<D> as Disk>⟧.faults ⟦<Watched<D> as Disk>⟧.fate O.telling terms g result made self.new }
     {
         match self.pass_on(left)? {
             Came::Nothing => (),
@@ -83,7 +86,8 @@ impl<D: Disk, O: Oracle, U: Outlet> Run<D, O, U> {
     // Passes until the run has ended, which is answered, or a node made a turn or was restarted.
     fn calm(&mut self) -> Result<bool, RunFault>
         requires { MayDrain ⟦<Watched<D> as Disk>⟧.told ⟦<Watched<D> as Disk>⟧.size U.took self.old }
-        ensures { CalmsBy ⟦<Watched<D> as Disk>⟧.told ⟦<Watched<D> as Disk>⟧.size U.took result self.old self.new }
+        ensures calms { CalmsBy ⟦<Watched<D> as Disk>⟧.told ⟦<Watched<D> as Disk>⟧.size U.took result self.old self.new }
+        ensures accounts { (terms : Terms) (g : Game) (made : ℕ) → IsRunning ⟦<Watched<D> as Disk>⟧.told ⟦<Watched<D> as Disk>⟧.size U.took g made self.old → made ≡ g.nodes → AreAccounted ⟦<Watched<D> as Disk>⟧.told ⟦<Watched<D> as Disk>⟧.faults ⟦<Watched<D> as Disk>⟧.fate O.telling terms g made self.old → AccountsRunBy ⟦<Watched<D> as Disk>⟧.told ⟦<Watched<D> as Disk>⟧.faults ⟦<Watched<D> as Disk>⟧.fate O.telling terms g result made self.new }
     {
         let left = self.left();
         'passes: loop {
@@ -99,7 +103,8 @@ impl<D: Disk, O: Oracle, U: Outlet> Run<D, O, U> {
     /// before the first pass and after each. The errors are those of a pass, and what stands after them too.
     pub fn drain(&mut self) -> Result<(), RunFault>
         requires { MayDrain ⟦<Watched<D> as Disk>⟧.told ⟦<Watched<D> as Disk>⟧.size U.took self.old }
-        ensures { (g : Game) (made : ℕ) → IsRunning ⟦<Watched<D> as Disk>⟧.told ⟦<Watched<D> as Disk>⟧.size U.took g made self.old → made ≡ g.nodes → DrainsBy ⟦<Watched<D> as Disk>⟧.told ⟦<Watched<D> as Disk>⟧.size U.took result g made self.new }
+        ensures drains { (g : Game) (made : ℕ) → IsRunning ⟦<Watched<D> as Disk>⟧.told ⟦<Watched<D> as Disk>⟧.size U.took g made self.old → made ≡ g.nodes → DrainsBy ⟦<Watched<D> as Disk>⟧.told ⟦<Watched<D> as Disk>⟧.size U.took result g made self.new }
+        ensures accounts { (terms : Terms) (g : Game) (made : ℕ) → IsRunning ⟦<Watched<D> as Disk>⟧.told ⟦<Watched<D> as Disk>⟧.size U.took g made self.old → made ≡ g.nodes → AreAccounted ⟦<Watched<D> as Disk>⟧.told ⟦<Watched<D> as Disk>⟧.faults ⟦<Watched<D> as Disk>⟧.fate O.telling terms g made self.old → AccountsRunBy ⟦<Watched<D> as Disk>⟧.told ⟦<Watched<D> as Disk>⟧.faults ⟦<Watched<D> as Disk>⟧.fate O.telling terms g result made self.new }
     {
         let mut ended = self.has_ended();
         'passes: while !ended {
