@@ -33,7 +33,7 @@ use Rattle.ken_node.specs.First.{AreFirst, IsNewRing}
 use Rattle.ken_node.specs.Meeting.{IsEmptied}
 use Rattle.ken_node.specs.Restarting.{IsCreatedAnew, RecoversBy, none_made}
 use Rattle.ken_node.specs.Restarts.{IsUpAgain}
-use Rattle.ken_node.specs.Stages.{HasDisks, IsUncreated, emissions_in}
+use Rattle.ken_node.specs.Stages.{HasDisks, IsUncreated, emissions_in, refusals_in}
 use Rattle.ken_node.proofs.CreationDown.{creation_goes_down}
 use Rattle.ken_node.proofs.NewWhole.{new_are_whole}
 use Rattle.ken_node.proofs.Recovered.{fresh-first, owner_in, some-is, tell-now}
@@ -101,6 +101,13 @@ module _ {D : Type 0} (told : D → Option Story) (size count : D → ℕ) (fate
   anew-emissions x first (Err fault) c =
       ap emissions_in c.err.stage_is ∙ ap (λ (y : Part). y.emissions) c.err.first.part ∙ sym (ap (λ (y : Part). y.emissions) first.part)
 
+  -- and none of its outputs was refused
+  pub anew-refusals : (x : Parts) → AreFirst g v x → (answer : Result (Unit {0}) NodeFault) → IsCreation told size count fate g v answer old stage → refusals_in stage ≡ (part_of x.sends).refusals
+  anew-refusals x first (Ok y) c =
+      ap refusals_in c.ok.stage_is ∙ ap (λ (y : Part). y.refusals) c.ok.new.part ∙ sym (ap (λ (y : Part). y.refusals) first.part)
+  anew-refusals x first (Err fault) c =
+      ap refusals_in c.err.stage_is ∙ ap (λ (y : Part). y.refusals) c.err.first.part ∙ sym (ap (λ (y : Part). y.refusals) first.part)
+
   -- what becomes of the disks
   unfailed-since : (a b e : D) → IsSame told count fate a b → IsUnfailed count fate b e → IsUnfailed count fate a e
   unfailed-since a b e same un = record { count = un.count ∙ same.count; falls = un.falls ∙ same.falls }
@@ -154,6 +161,9 @@ module _ {D : Type 0} (told : D → Option Story) (size count : D → ℕ) (fate
 
     pub found-emissions : emissions_in stage ≡ (part_of x.sends).emissions
     found-emissions = anew-emissions told size count fate g v given new stage d.limits x found.2 made.answer made.creation
+
+    pub found-refusals : refusals_in stage ≡ (part_of x.sends).refusals
+    found-refusals = anew-refusals told size count fate g v given new stage d.limits x found.2 made.answer made.creation
 
     pub found-by : (after : Disks D) → HasDisks after stage → IsFaultOfWorker answer → RecoversBy told count fate answer disks after
     found-by after has sound =

@@ -137,7 +137,7 @@ impl<D: Disk> Node<D> {
 }
 
 impl<D: Disk> Node<Watched<D>> {
-    ghost use Rattle.std.specs.Prelude.{◌≡◌, ℕ, List, IfOk, OnErr};
+    ghost use Rattle.std.specs.Prelude.{◌≡◌, ◌≤◌, ℕ, List, IfOk, OnErr};
     ghost use Rattle.ken_model.specs.Game.{Game};
     ghost use Rattle.ken_core.specs.Calls.{Doubt};
     ghost use Rattle.ken_core.specs.Nodes.{Node as Stood};
@@ -146,7 +146,7 @@ impl<D: Disk> Node<Watched<D>> {
     ghost use Rattle.ken_node.specs.Down.{IsDown, MayRestart};
     ghost use Rattle.ken_node.specs.Faults.{IsFaultOfWorker};
     ghost use Rattle.ken_node.specs.Restarts.{IsUpAgain, RestartsBy};
-    ghost use Rattle.ken_node.specs.Stages.{HasDisks, emissions_in};
+    ghost use Rattle.ken_node.specs.Stages.{HasDisks, emissions_in, refusals_in};
     ghost use Rattle.ken_node.specs.Synced.{IsSynced};
 
     /// Restarts the node: its workers meet, all its disks are restarted, and the node goes on with what they hold then. It
@@ -160,6 +160,7 @@ impl<D: Disk> Node<Watched<D>> {
         ensures synced { (g : Game) (v : ℕ) (given : List Packet) (n : Stood) (doubt : Doubt) → IsDown ⟦<Watched<D> as Disk>⟧.told g v given n doubt self.old.stage → IsSynced ⟦<Watched<D> as Disk>⟧.told ⟦<Watched<D> as Disk>⟧.faults g v self.old.stage → IsSynced ⟦<Watched<D> as Disk>⟧.told ⟦<Watched<D> as Disk>⟧.faults g v self.new.stage }
         ensures sound { IsFaultOfWorker result }
         ensures emissions { emissions_in self.new.stage ≡ emissions_in self.old.stage }
+        ensures refusals { refusals_in self.new.stage ≤ refusals_in self.old.stage }
         ensures disks { (old new : Has (Watched D)) → HasDisks old self.old.stage → HasDisks new self.new.stage → RestartsBy ⟦<Watched<D> as Disk>⟧.told ⟦<Watched<D> as Disk>⟧.faults ⟦<Watched<D> as Disk>⟧.fate result old new }
     {
         let (stage, result) = mem::replace(&mut self.stage, Stage::Moved).restarted();

@@ -9,6 +9,7 @@ ghost use Rattle.ken_node.specs.News.{AreInputs};
 ghost use Rattle.ken_node.specs.Restarts.{kept_turns};
 ghost use Rattle.ken_node.specs.Restarting.{ArePartsOf, AreUnchanged, HaveResumed, IsSameParts, with_turn};
 ghost use Rattle.ken_ship.specs.Fits.{IsMailFrom};
+ghost use Rattle.ken_ship.specs.Parts.{part_of};
 ghost use Rattle.ken_store.specs.Apart.{disks_apart};
 
 use crate::effects::effects_of;
@@ -164,6 +165,7 @@ impl Parts {
         requires sent { length state.now.sent ≡ 8 }
         requires mails { All (IsMailFrom self.old.sends.backlog.node) state.now.messages }
         ensures rest { IsSameParts self.old self.new }
+        ensures refusals { (part_of self.new.sends).refusals ≤ (part_of self.old.sends).refusals }
         ensures ok { OnOk result (HaveResumed state.now records.now self.old self.new) }
         ensures err { OnErr result (AreUnchanged self.old self.new) }
     {

@@ -17,7 +17,7 @@ ghost use Rattle.ken_node.specs.Meeting.{AreJoined};
 ghost use Rattle.ken_node.specs.News.{AreInputs};
 ghost use Rattle.ken_node.specs.Restarting.{GoesOn, HaveCounts, IsCreatedAnew, IsPutBack, LeaveLess, RecoversBy, none_made, stage_of};
 ghost use Rattle.ken_node.specs.Restarts.{IsUpAgain, RestartsBy, WereRestarted};
-ghost use Rattle.ken_node.specs.Stages.{HasDisks, IsUncreated, MayBeCreated, emissions_in, turns_in};
+ghost use Rattle.ken_node.specs.Stages.{HasDisks, IsUncreated, MayBeCreated, emissions_in, refusals_in, turns_in};
 ghost use Rattle.ken_node.specs.Synced.{IsSynced, KeepSyncs, LeavesSynced};
 ghost use Rattle.ken_node.specs.Whole.{AreOfRun};
 
@@ -55,6 +55,7 @@ impl<D: Disk> Stage<Watched<D>> {
         ensures here { result.0 ≡ Stage.Moved → ⊥ }
         ensures sound { IsFaultOfWorker result.1 }
         ensures emissions { emissions_in result.0 ≡ emissions_in self }
+        ensures refusals { refusals_in result.0 ≤ refusals_in self }
         ensures disks { (old new : Has (Watched D)) → HasDisks old self → HasDisks new result.0 → RestartsBy ⟦<Watched<D> as Disk>⟧.told ⟦<Watched<D> as Disk>⟧.faults ⟦<Watched<D> as Disk>⟧.fate result.1 old new }
     {
         match self.taken_apart() {
@@ -74,6 +75,7 @@ impl<D: Disk> Stage<D> {
         requires { MayRestart D.told self }
         ensures down { (g : Game) (v : ℕ) (given : List Packet) (n : Stood) (doubt : Doubt) → IsDown D.told g v given n doubt self → IsDown D.told g v given n doubt (stage_of result) }
         ensures emissions { emissions_in (stage_of result) ≡ emissions_in self }
+        ensures refusals { refusals_in (stage_of result) ≡ refusals_in self }
         ensures disks { (old : Has D) → HasDisks old self → HasDisks old (stage_of result) }
     {
         match self {
@@ -94,6 +96,7 @@ fn parted<D: Disk>(
     ensures of_node { (g : Game) (v : ℕ) → IsWithinLimits g → AreOfRun g v turns sends → IsOfNode g v (stage_of result) }
     ensures turns { turns_in (stage_of result) ≡ turns.turns.items }
     ensures emissions { emissions_in (stage_of result) ≡ (part_of sends).emissions }
+    ensures refusals { refusals_in (stage_of result) ≡ (part_of sends).refusals }
     ensures disks { HasDisks (disks_apart turns.side patches.side) (stage_of result) }
 {
     match meet(&mut turns, &mut patches, &mut sends) {
@@ -127,6 +130,7 @@ fn up_again<D: Disk>(
     ensures here { result.0 ≡ Stage.Moved → ⊥ }
     ensures sound { IsFaultOfWorker result.1 }
     ensures emissions { emissions_in result.0 ≡ (part_of parts.sends).emissions }
+    ensures refusals { refusals_in result.0 ≤ (part_of parts.sends).refusals }
     ensures disks { (new : Has D) → HasDisks new result.0 → RestartsBy D.told D.faults D.fate result.1 disks new }
 {
     match restart_all(&mut disks, pick) {
@@ -145,6 +149,7 @@ fn recovered<D: Disk>(disks: Disks<D>, parts: Parts) -> (Stage<D>, Result<u64, N
     ensures here { result.0 ≡ Stage.Moved → ⊥ }
     ensures sound { IsFaultOfWorker result.1 }
     ensures emissions { emissions_in result.0 ≡ (part_of parts.sends).emissions }
+    ensures refusals { refusals_in result.0 ≤ (part_of parts.sends).refusals }
     ensures disks { (new : Has D) → HasDisks new result.0 → RecoversBy D.told D.faults D.fate result.1 disks new }
 {
     match recover(parts.alloc, disks, parts.node, parts.nodes, parts.size) {
@@ -198,6 +203,7 @@ fn gone_on<D: Disk>(
     ensures memory { IfErr result.1 (λ fault. fault ≡ NodeFault.Memory) }
     ensures here { result.0 ≡ Stage.Moved → ⊥ }
     ensures emissions { emissions_in result.0 ≡ (part_of parts.sends).emissions }
+    ensures refusals { refusals_in result.0 ≤ (part_of parts.sends).refusals }
     ensures disks { HasDisks (disks_in store) result.0 }
 {
     match parts.resume(state, records) {

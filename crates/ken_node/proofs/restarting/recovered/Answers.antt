@@ -1,5 +1,5 @@
 use Rattle.ken_node.proofs.RestartSynced.{less-synced, read-work, same-tell, stage-synced}
-use Rattle.std.proofs.Common.{◌≡◌, ℕ, List, Result, Ok, Err, refl, subst, sym}
+use Rattle.std.proofs.Common.{◌≡◌, ℕ, List, Result, Ok, Err, refl, subst, sym, arith}
 use Rattle.ken_node.specs.declared.stage.Stage.TheVariants.{Uncreated}
 use Rattle.std.specs.Prelude.{OnOk}
 use Rattle.ken_record.specs.declared.record.Record.{Record}
@@ -9,7 +9,7 @@ use Rattle.ken_store.specs.Answers.{disks_in}
 use Rattle.ken_ship.specs.declared.faults.NodeFault.{NodeFault}
 use Rattle.ken_node.specs.Faults.{IsFaultOfWorker}
 use Rattle.ken_node.specs.Restarting.{GoesOn}
-use Rattle.ken_node.proofs.Fresh.{found-by, found-down, found-emissions, found-up, uncreated}
+use Rattle.ken_node.proofs.Fresh.{found-by, found-down, found-emissions, found-refusals, found-up, uncreated}
 use Rattle.ken_node.proofs.Recovered.{IsFound, on-err, read-less, recovers-sound, state-mails, tell-now}
 use Rattle.ken_node.proofs.Restarted.{down-on}
 use Rattle.ken_node.proofs.WholeAgain.{backs-down, whole-up}
@@ -65,6 +65,17 @@ returns-in-Ok-Fresh-clause-emissions g c =
     let new = c.in-Ok-Fresh.disks in
     let made = c.created_anew.ensures.creation r.game r.node new (uncreated g.D.Disk.told g.D.Disk.size g.D.Disk.faults g.D.Disk.fate r.game r.node r.given r.stood_for r.doubt c.args.disks new c.args.parts r.down c.requires.rests f.answers f.reads) in
     found-emissions g.D.Disk.told g.D.Disk.size g.D.Disk.faults g.D.Disk.fate r.game r.node r.given r.stood_for r.doubt c.args.disks new c.args.parts r.down c.requires.rests f.answers f.reads f.ready c.created_anew.result.0 c.created_anew.result.1 made
+
+pub returns-in-Ok-Fresh-clause-refusals : goal.returns-in-Ok-Fresh-clause-refusals
+returns-in-Ok-Fresh-clause-refusals g c =
+    let r = c.requires.down in
+    let e = c.in-Ok-Fresh.ensures in
+    let is : c.in-Ok-Fresh.field-0 ≡ found.Fresh c.in-Ok-Fresh.disks = cc in
+    let f = subst (IsFound g.D.Disk.told g.D.Disk.size g.D.Disk.faults g.D.Disk.fate c.args.disks c.args.parts) is (record { answers = e.answers; records = e.records; ready = e.ready; reads = e.reads }) in
+    let new = c.in-Ok-Fresh.disks in
+    let made = c.created_anew.ensures.creation r.game r.node new (uncreated g.D.Disk.told g.D.Disk.size g.D.Disk.faults g.D.Disk.fate r.game r.node r.given r.stood_for r.doubt c.args.disks new c.args.parts r.down c.requires.rests f.answers f.reads) in
+    let same = found-refusals g.D.Disk.told g.D.Disk.size g.D.Disk.faults g.D.Disk.fate r.game r.node r.given r.stood_for r.doubt c.args.disks new c.args.parts r.down c.requires.rests f.answers f.reads f.ready c.created_anew.result.0 c.created_anew.result.1 made in
+    omega (arith, same)
 
 pub returns-in-Ok-Fresh-clause-disks : goal.returns-in-Ok-Fresh-clause-disks
 returns-in-Ok-Fresh-clause-disks g c = λ after has.
