@@ -36,3 +36,4 @@ pub mod Opening
 pub mod Draining
 pub mod Turning
 pub mod AtEnd
+pub mod Refusals

@@ -14,3 +14,4 @@ pub mod Flowing
 pub mod Open
 pub mod Draining
 pub mod Endings
+pub mod Refusals

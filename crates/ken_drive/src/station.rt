@@ -1,5 +1,5 @@
 // A node of a run with all that is its own.
-ghost use Rattle.std.specs.Prelude.{◌≡◌, ◌<◌, ◌+◌, ◌^◌, ℕ, [], List, length, OnOk};
+ghost use Rattle.std.specs.Prelude.{◌≡◌, ◌<◌, ◌≤◌, ◌+◌, ◌^◌, ℕ, [], List, length, OnOk};
 ghost use Rattle.ken_app.specs.Oracles.{Answers, HasAnswered};
 ghost use Rattle.ken_model.specs.declared.messages.Out.{Out};
 ghost use Rattle.ken_model.specs.Game.{Game};
@@ -7,6 +7,9 @@ ghost use Rattle.ken_core.specs.Calls.{Doubt};
 ghost use Rattle.ken_core.specs.Nodes as core;
 ghost use Rattle.ken_core.specs.Packets.{Packet};
 ghost use Rattle.ken_store.specs.declared.disks.Disks.{Disks};
+ghost use Rattle.ken_ship.specs.Causes.{HasCause};
+ghost use Rattle.ken_ship.specs.Emitting.{outlet_answer};
+ghost use Rattle.ken_ship.specs.Fates.{Follows, Suffers};
 ghost use Rattle.ken_ship.specs.Outlets.{also_took};
 ghost use Rattle.ken_node.specs.Down.{IsDown, MayRestart};
 ghost use Rattle.ken_node.specs.NodeCalls.{DisksFailBy, EmitStepsBy, HearSteps, SendSteps, UnlessMemory};
@@ -111,6 +114,8 @@ impl<D: Disk, O: Oracle, U: Outlet> Station<D, O, U> {
         ensures steps { (g : Game) (v : ℕ) (n : core.Node) → IsUp ⟦<Watched<D> as Disk>⟧.told ⟦<Watched<D> as Disk>⟧.size g v n self.old.node.stage → EmitStepsBy ⟦<Watched<D> as Disk>⟧.told ⟦<Watched<D> as Disk>⟧.size result g v n (λ (taken : List Out). U.took self.new.out ≡ also_took taken (U.took self.old.out)) self.old.node.stage self.new.node.stage }
         ensures disks { (old new : Disks (Watched D)) → HasDisks old self.old.node.stage → HasDisks new self.new.node.stage → new ≡ old }
         ensures synced { (g : Game) (v : ℕ) → IsSynced ⟦<Watched<D> as Disk>⟧.told ⟦<Watched<D> as Disk>⟧.faults g v self.old.node.stage → IsSynced ⟦<Watched<D> as Disk>⟧.told ⟦<Watched<D> as Disk>⟧.faults g v self.new.node.stage }
+        ensures cause { UnlessMemory result (HasCause (U.faults self.old.out) (U.faults self.new.out) (outlet_answer result)) }
+        ensures fate { UnlessMemory result (Follows (Suffers (outlet_answer result)) (U.fate self.old.out) (U.fate self.new.out)) }
         ensures rest { self.new ≡ record self.old { node = self.new.node; out = self.new.out } }
     {
         self.node.emit(&mut self.out)
@@ -122,6 +127,7 @@ impl<D: Disk, O: Oracle, U: Outlet> Station<D, O, U> {
         requires tries { self.old.restarts + 1 < 2 ^ 64 }
         ensures back { (g : Game) (v : ℕ) (given : List Packet) (n : core.Node) (doubt : Doubt) → IsDown ⟦<Watched<D> as Disk>⟧.told g v given n doubt self.old.node.stage → RestartsStation ⟦<Watched<D> as Disk>⟧.told ⟦<Watched<D> as Disk>⟧.size result g v given n doubt self.old self.new }
         ensures emissions { emissions_in self.new.node.stage ≡ emissions_in self.old.node.stage }
+        ensures refusals { refusals_in self.new.node.stage ≤ refusals_in self.old.node.stage }
         ensures accounts { (terms : Terms) (g : Game) (v : ℕ) → IsHeld ⟦<Watched<D> as Disk>⟧.told ⟦<Watched<D> as Disk>⟧.faults ⟦<Watched<D> as Disk>⟧.fate O.telling terms g v self.old → self.old.restarts < terms.most → AccountsStation ⟦<Watched<D> as Disk>⟧.told ⟦<Watched<D> as Disk>⟧.faults ⟦<Watched<D> as Disk>⟧.fate O.telling terms g result v self.new }
         ensures rest { self.new ≡ record self.old { node = self.new.node; restarts = self.new.restarts; lines = self.new.lines } }
     {

@@ -1,13 +1,14 @@
 -- An output of one node is emitted.
 use Rattle.std.proofs.Common.{◌≡◌, ◌∙◌, ◌<◌, slice_index_or, slice_set, refl, sym, ap, subst}
 use Rattle.std.specs.Vec.{with_item}
-use Rattle.ken_flow.specs.Standstill.{Emits}
 use Rattle.ken_drive.specs.Left.{outputs_left}
 use Rattle.ken_drive.proofs.Leaving.{emit-fewer, emit-leaves, fewer-at, may-call, up-before}
+use Rattle.ken_drive.proofs.AccountsCalls.{emit-accounts, own-accounts}
+use Rattle.ken_drive.proofs.Refusals.{emit-refused}
+use Rattle.ken_drive.proofs.run.Run.emit.Goals as goal
+use Rattle.ken_flow.specs.Standstill.{Emits}
 use Rattle.ken_drive.proofs.Moves.{moves-from}
 use Rattle.ken_drive.proofs.Moving.{emit-less, emit-moves}
-use Rattle.ken_drive.proofs.run.Run.emit.Goals as goal
-use Rattle.ken_drive.proofs.AccountsCalls.{emit-accounts, own-accounts}
 
 pub emit-requires : goal.emit-requires
 emit-requires g c =
@@ -59,3 +60,9 @@ returns-clause-less g c = λ was.
     let up = up-before (λ w. g.D.Disk.told w.disk) (λ w. g.D.Disk.size w.disk) g.U.Outlet.took game made c.args.self.now c.args.node c.index_mut.result.now running low is in
     emit-less (λ w. g.D.Disk.told w.disk) (λ w. g.D.Disk.size w.disk) g.U.Outlet.took game made c.args.self.now (record c.args.self.now { stations = with_item c.args.self.now.stations c.from.result c.emit.new.self }) c.args.node c.index_mut.result.now c.emit.new.self running low is (refl, refl) (ap (λ k. slice_set c.args.self.now.stations.items k c.emit.new.self) c.from.ensures) refl
     c.emit.ensures.rest refl c.emit.result was (c.emit.ensures.steps game c.args.node (running.nodes c.args.node) up)
+
+pub returns-clause-refused : goal.returns-clause-refused
+returns-clause-refused g c = λ made low are.
+    let is : slice_index_or c.args.self.now.stations.items c.args.node c.index_mut.result.now ≡ c.index_mut.result.now = sym (c.index_mut.ensures.value ∙ ap (λ k. slice_index_or c.args.self.now.stations.items k c.index_mut.result.now) c.from.ensures) in
+    let up = up-before (λ w. g.D.Disk.told w.disk) (λ w. g.D.Disk.size w.disk) g.U.Outlet.took c.requires.game c.requires.made c.args.self.now c.args.node c.index_mut.result.now c.requires.running c.requires.known is in
+    emit-refused g.U.Outlet.faults g.U.Outlet.fate made c.args.self.now (record c.args.self.now { stations = with_item c.args.self.now.stations c.from.result c.emit.new.self }) c.args.node c.index_mut.result.now c.emit.new.self low (subst (λ n. c.args.node < n) (sym c.requires.running.stands.width) c.requires.known) is (ap (λ k. slice_set c.args.self.now.stations.items k c.emit.new.self) c.from.ensures) are (λ w. g.D.Disk.told w.disk) (λ w. g.D.Disk.size w.disk) c.requires.game (c.requires.running.nodes c.args.node) _ c.emit.result (c.emit.ensures.steps c.requires.game c.args.node (c.requires.running.nodes c.args.node) up) c.emit.ensures.cause c.emit.ensures.fate

@@ -1,10 +1,11 @@
 -- One node takes acknowledgements.
-use Rattle.std.proofs.Common.{◌≡◌, ◌∙◌, slice_index_or, slice_set, refl, sym, ap}
+use Rattle.std.proofs.Common.{◌≡◌, ◌∙◌, slice_index_or, slice_set, refl, sym, ap, arith, subst, ◌<◌}
 use Rattle.std.specs.Vec.{with_item}
 use Rattle.ken_drive.proofs.Leaving.{may-call-on, hear-leaves, own-station, up-before}
-use Rattle.ken_drive.proofs.Moving.{hear-moves}
-use Rattle.ken_drive.proofs.run.Run.hear.Goals as goal
 use Rattle.ken_drive.proofs.AccountsCalls.{heard-no-further, hear-accounts, own-accounts}
+use Rattle.ken_drive.proofs.Refusals.{still-refused}
+use Rattle.ken_drive.proofs.run.Run.hear.Goals as goal
+use Rattle.ken_drive.proofs.Moving.{hear-moves}
 
 pub hear-requires-clause-may : goal.hear-requires-clause-may
 hear-requires-clause-may g c =
@@ -40,3 +41,9 @@ returns-clause-moves g c = λ game made running low.
     let steps = c.in_ok-hear.ensures.steps game c.args.node (running.nodes c.args.node) up (sym own.mail.from) in
     hear-moves (λ w. g.D.Disk.told w.disk) (λ w. g.D.Disk.size w.disk) g.U.Outlet.took game made c.args.self.now (record c.args.self.now { stations = with_item c.args.self.now.stations c.from.result c.hear.new.self; waiting = c.hear.new.waiting }) c.args.node c.index_mut.result.now c.hear.new.self running low is (refl, refl) (ap (λ k. slice_set c.args.self.now.stations.items k c.hear.new.self) c.from.ensures) refl
     c.in_ok-hear.ensures.emissions c.in_ok-hear.ensures.refusals steps.0 c.in_ok-hear.ensures.put c.in_ok-hear.ensures.rest steps.1
+
+pub returns-clause-refused : goal.returns-clause-refused
+returns-clause-refused g c = λ made low are.
+    let is : slice_index_or c.args.self.now.stations.items c.args.node c.index_mut.result.now ≡ c.index_mut.result.now = sym (c.index_mut.ensures.value ∙ ap (λ k. slice_index_or c.args.self.now.stations.items k c.index_mut.result.now) c.from.ensures) in
+    let same = c.in_ok-hear.ensures.refusals in
+    still-refused g.U.Outlet.faults g.U.Outlet.fate made c.args.self.now (record c.args.self.now { stations = with_item c.args.self.now.stations c.from.result c.hear.new.self; waiting = c.hear.new.waiting }) c.args.node c.index_mut.result.now c.hear.new.self low (subst (λ n. c.args.node < n) (sym c.requires.running.stands.width) c.requires.known) is (ap (λ k. slice_set c.args.self.now.stations.items k c.hear.new.self) c.from.ensures) are (omega (arith, same)) (ap (λ x. x.out) c.in_ok-hear.ensures.rest)

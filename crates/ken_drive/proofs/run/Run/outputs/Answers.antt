@@ -1,11 +1,12 @@
 -- One call after another, as long as there is one to make.
+use Rattle.ken_drive.proofs.AccountsRestarts.{accounts-handed-on}
+use Rattle.ken_drive.proofs.Leaving.{handed-on, still-works, stays-first}
+use Rattle.ken_drive.proofs.Refusals.{refused-handed-on}
+use Rattle.ken_drive.proofs.run.Run.outputs.Goals as goal
 use Rattle.std.proofs.Common.{inl, inr, refl}
 use Rattle.ken_flow.specs.Standstill.{Emits}
-use Rattle.ken_drive.proofs.Leaving.{handed-on, stays-first, still-works}
 use Rattle.ken_drive.proofs.Moves.{moves-none, moves-then}
 use Rattle.ken_drive.proofs.Visits.{MayEmit, less-then, may-emit-then}
-use Rattle.ken_drive.proofs.run.Run.outputs.Goals as goal
-use Rattle.ken_drive.proofs.AccountsRestarts.{accounts-handed-on}
 
 pub emit-requires : goal.emit-requires
 emit-requires g c = still-works (λ w. g.D.Disk.told w.disk) (λ w. g.D.Disk.size w.disk) g.U.Outlet.took c.args.node c.args.self.now c.outputs.self c.outputs.invariant.up c.requires
@@ -15,6 +16,7 @@ outputs-init g c = record {
   up = stays-first (λ w. g.D.Disk.told w.disk) (λ w. g.D.Disk.size w.disk) g.U.Outlet.took c.args.node c.args.self.now;
   moved = moves-none (λ w. g.D.Disk.told w.disk) (λ w. g.D.Disk.size w.disk) g.U.Outlet.took (λ game. MayEmit c.args.node) c.args.node c.args.self.now (λ game f. inl refl);
   accounts = λ terms game made running low accounted. accounted;
+  refused = λ made low are. are;
 }
 
 pub returns-in_err-emit-clause-leaves : goal.returns-in_err-emit-clause-leaves
@@ -35,6 +37,7 @@ outputs-preserved g c = record {
   up = λ game made running low. c.in_ok-emit.ensures.leaves game made (c.outputs.invariant.up game made running low) low;
   moved = moves-then (λ w. g.D.Disk.told w.disk) (λ w. g.D.Disk.size w.disk) g.U.Outlet.took (λ game. MayEmit c.args.node) (λ game. Emits c.args.node) (λ game. MayEmit c.args.node) c.args.node c.args.self.now c.outputs.self c.emit.new.self (λ game f f2 f3 a b. inr (may-emit-then c.args.node f f2 f3 a b)) c.outputs.invariant.moved c.in_ok-emit.ensures.moves;
   accounts = λ terms game made running low accounted. c.in_ok-emit.ensures.accounts terms game made (c.outputs.invariant.up game made running low) low (c.outputs.invariant.accounts terms game made running low accounted);
+  refused = λ made low are. c.in_ok-emit.ensures.refused made low (c.outputs.invariant.refused made low are);
 }
 
 pub returns-clause-leaves : goal.returns-clause-leaves
@@ -45,3 +48,10 @@ returns-clause-accounts g c = λ terms game made running low accounted. c.in_ok-
 
 pub returns-clause-moves : goal.returns-clause-moves
 returns-clause-moves g c = moves-then (λ w. g.D.Disk.told w.disk) (λ w. g.D.Disk.size w.disk) g.U.Outlet.took (λ game. MayEmit c.args.node) (λ game. Emits c.args.node) (λ game. Emits c.args.node) c.args.node c.args.self.now c.outputs.self c.emit.new.self (λ game. may-emit-then c.args.node) c.outputs.invariant.moved c.in_ok-emit.ensures.moves
+
+pub returns-in_err-emit-clause-refused : goal.returns-in_err-emit-clause-refused
+returns-in_err-emit-clause-refused g c = λ made low are.
+    refused-handed-on g.U.Outlet.faults g.U.Outlet.fate made c.emit.new.self c.args.node c.from_residual.result c.in_err-emit.field-0.0 c.from_residual.ensures.1 (c.in_err-emit.ensures.refused made low (c.outputs.invariant.refused made low are))
+
+pub returns-clause-refused : goal.returns-clause-refused
+returns-clause-refused g c = λ made low are. c.in_ok-emit.ensures.refused made low (c.outputs.invariant.refused made low are)

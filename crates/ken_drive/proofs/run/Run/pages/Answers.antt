@@ -1,10 +1,11 @@
 -- One call after another, as long as there is one to make.
+use Rattle.ken_drive.proofs.AccountsRestarts.{accounts-handed-on}
+use Rattle.ken_drive.proofs.Leaving.{handed-on, still-works, stays-first}
+use Rattle.ken_drive.proofs.Refusals.{refused-handed-on}
+use Rattle.ken_drive.proofs.run.Run.pages.Goals as goal
 use Rattle.ken_flow.specs.Standstill.{Written}
-use Rattle.ken_drive.proofs.Leaving.{handed-on, stays-first, still-works}
 use Rattle.ken_drive.proofs.Moves.{moves-none, moves-then}
 use Rattle.ken_drive.proofs.Visits.{less-then, written-none, written-then}
-use Rattle.ken_drive.proofs.run.Run.pages.Goals as goal
-use Rattle.ken_drive.proofs.AccountsRestarts.{accounts-handed-on}
 
 pub patch-requires : goal.patch-requires
 patch-requires g c = still-works (λ w. g.D.Disk.told w.disk) (λ w. g.D.Disk.size w.disk) g.U.Outlet.took c.args.node c.args.self.now c.pages.self c.pages.invariant.up c.requires
@@ -14,6 +15,7 @@ pages-init g c = record {
   up = stays-first (λ w. g.D.Disk.told w.disk) (λ w. g.D.Disk.size w.disk) g.U.Outlet.took c.args.node c.args.self.now;
   moved = moves-none (λ w. g.D.Disk.told w.disk) (λ w. g.D.Disk.size w.disk) g.U.Outlet.took (λ game. Written c.args.node) c.args.node c.args.self.now (λ game. written-none c.args.node);
   accounts = λ terms game made running low accounted. accounted;
+  refused = λ made low are. are;
 }
 
 pub returns-in_err-patch-clause-leaves : goal.returns-in_err-patch-clause-leaves
@@ -34,6 +36,7 @@ pages-preserved g c = record {
   up = λ game made running low. c.in_ok-patch.ensures.leaves game made (c.pages.invariant.up game made running low) low;
   moved = moves-then (λ w. g.D.Disk.told w.disk) (λ w. g.D.Disk.size w.disk) g.U.Outlet.took (λ game. Written c.args.node) (λ game. Written c.args.node) (λ game. Written c.args.node) c.args.node c.args.self.now c.pages.self c.patch.new.self (λ game. written-then c.args.node) c.pages.invariant.moved c.in_ok-patch.ensures.moves;
   accounts = λ terms game made running low accounted. c.in_ok-patch.ensures.accounts terms game made (c.pages.invariant.up game made running low) low (c.pages.invariant.accounts terms game made running low accounted);
+  refused = λ made low are. c.in_ok-patch.ensures.refused made low (c.pages.invariant.refused made low are);
 }
 
 pub returns-clause-leaves : goal.returns-clause-leaves
@@ -44,3 +47,10 @@ returns-clause-accounts g c = λ terms game made running low accounted. c.in_ok-
 
 pub returns-clause-moves : goal.returns-clause-moves
 returns-clause-moves g c = moves-then (λ w. g.D.Disk.told w.disk) (λ w. g.D.Disk.size w.disk) g.U.Outlet.took (λ game. Written c.args.node) (λ game. Written c.args.node) (λ game. Written c.args.node) c.args.node c.args.self.now c.pages.self c.patch.new.self (λ game. written-then c.args.node) c.pages.invariant.moved c.in_ok-patch.ensures.moves
+
+pub returns-in_err-patch-clause-refused : goal.returns-in_err-patch-clause-refused
+returns-in_err-patch-clause-refused g c = λ made low are.
+    refused-handed-on g.U.Outlet.faults g.U.Outlet.fate made c.patch.new.self c.args.node c.from_residual.result c.in_err-patch.field-0.0 c.from_residual.ensures.1 (c.in_err-patch.ensures.refused made low (c.pages.invariant.refused made low are))
+
+pub returns-clause-refused : goal.returns-clause-refused
+returns-clause-refused g c = λ made low are. c.in_ok-patch.ensures.refused made low (c.pages.invariant.refused made low are)

@@ -1,9 +1,10 @@
 use Rattle.std.proofs.Common.{◌≡◌, ◌-◌, ◌≤◌}
-use Rattle.ken_drive.specs.Flowing.{work_left}
+use Rattle.ken_drive.specs.Accounts.{StaysHeld}
 use Rattle.ken_drive.specs.Left.{tries_at}
+use Rattle.ken_drive.specs.Refusals.{StaysRefused}
 use Rattle.ken_drive.specs.Running.{StaysDown}
 use Rattle.ken_drive.proofs.run.Run.restart.Given as goal
-use Rattle.ken_drive.specs.Accounts.{StaysHeld}
+use Rattle.ken_drive.specs.Flowing.{work_left}
 
 abbrev pub invariant-tries : goal.invariant-tries
 invariant-tries g l = record {
@@ -11,6 +12,8 @@ invariant-tries g l = record {
   less : work_left l.self ≤ work_left l.fn.self;
   most_is : l.most ≡ l.self.restarts;
   accounts : StaysHeld (λ w. g.D.Disk.told w.disk) (λ w. g.D.Disk.size w.disk) g.U.Outlet.took (λ w. g.D.Disk.faults w.disk) (λ w. g.D.Disk.fate w.disk) g.O.Oracle.telling l.node l.fn.self l.self;
+  refused : StaysRefused g.U.Outlet.faults g.U.Outlet.fate l.node l.fn.self l.self;
+  most_was : l.self.restarts ≡ l.fn.self.restarts;
 }
 
 abbrev pub decreases-tries : goal.decreases-tries

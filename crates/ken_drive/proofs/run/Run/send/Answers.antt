@@ -1,11 +1,12 @@
 -- What is due at one node is sent.
-use Rattle.std.proofs.Common.{◌≡◌, ◌∙◌, ℕ, [], slice_index_or, slice_set, refl, sym, ap, subst}
+use Rattle.std.proofs.Common.{◌≡◌, ◌∙◌, ℕ, [], slice_index_or, slice_set, refl, sym, ap, subst, arith, ◌<◌}
 use Rattle.std.specs.Vec.{with_item}
 use Rattle.ken_drive.specs.Ends.{WereGiven}
 use Rattle.ken_drive.proofs.Leaving.{may-call-on, send-leaves, own-station, up-before}
-use Rattle.ken_drive.proofs.Moving.{send-moves}
-use Rattle.ken_drive.proofs.run.Run.send.Goals as goal
 use Rattle.ken_drive.proofs.AccountsCalls.{own-accounts, send-accounts}
+use Rattle.ken_drive.proofs.Refusals.{still-refused}
+use Rattle.ken_drive.proofs.run.Run.send.Goals as goal
+use Rattle.ken_drive.proofs.Moving.{send-moves}
 
 pub send-requires-clause-may : goal.send-requires-clause-may
 send-requires-clause-may g c =
@@ -39,3 +40,9 @@ returns-clause-moves g c = λ game made running low.
     let steps = c.in_ok-send.ensures.steps game c.args.node (running.nodes c.args.node) up (sym own.mail.from) in
     send-moves (λ w. g.D.Disk.told w.disk) (λ w. g.D.Disk.size w.disk) g.U.Outlet.took game made c.args.self.now (record c.args.self.now { stations = with_item c.args.self.now.stations c.from.result c.send.new.self; waiting = c.send.new.waiting }) c.args.node c.index_mut.result.now c.send.new.self running low is (refl, refl) (ap (λ k. slice_set c.args.self.now.stations.items k c.send.new.self) c.from.ensures) refl
     c.in_ok-send.ensures.emissions c.in_ok-send.ensures.refusals (subst (λ (u : ℕ). WereGiven u 0 c.args.self.now.waiting.acks c.send.new.waiting.acks []) own.mail.from c.in_ok-send.ensures.given) c.in_ok-send.ensures.rest steps
+
+pub returns-clause-refused : goal.returns-clause-refused
+returns-clause-refused g c = λ made low are.
+    let is : slice_index_or c.args.self.now.stations.items c.args.node c.index_mut.result.now ≡ c.index_mut.result.now = sym (c.index_mut.ensures.value ∙ ap (λ k. slice_index_or c.args.self.now.stations.items k c.index_mut.result.now) c.from.ensures) in
+    let same = c.in_ok-send.ensures.refusals in
+    still-refused g.U.Outlet.faults g.U.Outlet.fate made c.args.self.now (record c.args.self.now { stations = with_item c.args.self.now.stations c.from.result c.send.new.self; waiting = c.send.new.waiting }) c.args.node c.index_mut.result.now c.send.new.self low (subst (λ n. c.args.node < n) (sym c.requires.running.stands.width) c.requires.known) is (ap (λ k. slice_set c.args.self.now.stations.items k c.send.new.self) c.from.ensures) are (omega (arith, same)) (ap (λ x. x.out) c.in_ok-send.ensures.rest)

@@ -1,12 +1,13 @@
 -- The image of one node is synced.
-use Rattle.std.proofs.Common.{◌≡◌, ◌∙◌, slice_index_or, slice_set, refl, sym, ap}
+use Rattle.std.proofs.Common.{◌≡◌, ◌∙◌, slice_index_or, slice_set, refl, sym, ap, arith, subst, ◌<◌}
 use Rattle.std.specs.Vec.{with_item}
-use Rattle.ken_flow.specs.Standstill.{Written}
 use Rattle.ken_drive.proofs.Leaving.{may-call, settle-leaves, up-before}
+use Rattle.ken_drive.proofs.AccountsCalls.{own-accounts, settle-accounts}
+use Rattle.ken_drive.proofs.Refusals.{call-refused, settle-tells-none}
+use Rattle.ken_drive.proofs.run.Run.settle.Goals as goal
+use Rattle.ken_flow.specs.Standstill.{Written}
 use Rattle.ken_drive.proofs.Moves.{moves-from}
 use Rattle.ken_drive.proofs.Moving.{settle-less, settle-moves}
-use Rattle.ken_drive.proofs.run.Run.settle.Goals as goal
-use Rattle.ken_drive.proofs.AccountsCalls.{own-accounts, settle-accounts}
 
 pub settle-requires : goal.settle-requires
 settle-requires g c =
@@ -48,3 +49,11 @@ returns-clause-less g c = λ was.
     let up = up-before (λ w. g.D.Disk.told w.disk) (λ w. g.D.Disk.size w.disk) g.U.Outlet.took game made c.args.self.now c.args.node c.index_mut.result.now running low is in
     settle-less (λ w. g.D.Disk.told w.disk) (λ w. g.D.Disk.size w.disk) g.U.Outlet.took game made c.args.self.now (record c.args.self.now { stations = with_item c.args.self.now.stations c.from.result (record c.index_mut.result.now { node = c.settle.new.self }) }) c.args.node c.index_mut.result.now (record c.index_mut.result.now { node = c.settle.new.self }) running low is (refl, refl) (ap (λ k. slice_set c.args.self.now.stations.items k (record c.index_mut.result.now { node = c.settle.new.self })) c.from.ensures) refl
     refl c.settle.ensures.emissions c.settle.ensures.refusals refl c.settle.result was (c.settle.ensures.steps game c.args.node (running.nodes c.args.node) up)
+
+pub returns-clause-refused : goal.returns-clause-refused
+returns-clause-refused g c = λ made low are.
+    let is : slice_index_or c.args.self.now.stations.items c.args.node c.index_mut.result.now ≡ c.index_mut.result.now = sym (c.index_mut.ensures.value ∙ ap (λ k. slice_index_or c.args.self.now.stations.items k c.index_mut.result.now) c.from.ensures) in
+    let up = up-before (λ w. g.D.Disk.told w.disk) (λ w. g.D.Disk.size w.disk) g.U.Outlet.took c.requires.game c.requires.made c.args.self.now c.args.node c.index_mut.result.now c.requires.running c.requires.known is in
+    let same = c.settle.ensures.refusals in
+    call-refused g.U.Outlet.faults g.U.Outlet.fate made c.args.self.now (record c.args.self.now { stations = with_item c.args.self.now.stations c.from.result (record c.index_mut.result.now { node = c.settle.new.self }) }) c.args.node c.index_mut.result.now (record c.index_mut.result.now { node = c.settle.new.self }) low (subst (λ n. c.args.node < n) (sym c.requires.running.stands.width) c.requires.known) is (ap (λ k. slice_set c.args.self.now.stations.items k (record c.index_mut.result.now { node = c.settle.new.self })) c.from.ensures) are c.settle.result
+    (settle-tells-none (λ w. g.D.Disk.told w.disk) (λ w. g.D.Disk.size w.disk) c.requires.game c.args.node (c.requires.running.nodes c.args.node) c.settle.new.self.stage c.settle.result (c.settle.ensures.steps c.requires.game c.args.node (c.requires.running.nodes c.args.node) up)) (omega (arith, same)) refl

@@ -1,13 +1,14 @@
 -- A turn of one node.
-use Rattle.std.proofs.Common.{◌≡◌, ◌∙◌, ◌<◌, slice_index_or, slice_set, refl, sym, ap, subst}
+use Rattle.std.proofs.Common.{◌≡◌, ◌∙◌, ◌<◌, slice_index_or, slice_set, refl, sym, ap, subst, arith}
 use Rattle.std.specs.Vec.{with_item}
-use Rattle.ken_flow.specs.Standstill.{Rested}
 use Rattle.ken_drive.specs.Left.{turns_left}
 use Rattle.ken_drive.proofs.Leaving.{fewer-at, may-turn, own-station, turn-fewer, turn-leaves, up-before}
+use Rattle.ken_drive.proofs.AccountsCalls.{own-accounts, turn-accounts}
+use Rattle.ken_drive.proofs.Refusals.{call-refused, turn-tells-none}
+use Rattle.ken_drive.proofs.run.Run.turn.Goals as goal
+use Rattle.ken_flow.specs.Standstill.{Rested}
 use Rattle.ken_drive.proofs.Moves.{moves-from}
 use Rattle.ken_drive.proofs.Turning.{turn-less, turn-moves, turn-worked}
-use Rattle.ken_drive.proofs.run.Run.turn.Goals as goal
-use Rattle.ken_drive.proofs.AccountsCalls.{own-accounts, turn-accounts}
 
 pub turn-requires-clause-may : goal.turn-requires-clause-may
 turn-requires-clause-may g c =
@@ -83,3 +84,13 @@ returns-clause-less g c = λ was.
     let steps = c.turn.ensures.steps game c.args.node (running.nodes c.args.node) up (sym own.acks.from) running.stands.handler in
     turn-less (λ w. g.D.Disk.told w.disk) (λ w. g.D.Disk.size w.disk) g.U.Outlet.took game made c.args.self.now (record c.args.self.now { stations = with_item c.args.self.now.stations c.from.result c.turn.new.self; waiting = c.turn.new.waiting }) c.args.node c.index_mut.result.now c.turn.new.self running low is (refl, refl) (ap (λ k. slice_set c.args.self.now.stations.items k c.turn.new.self) c.from.ensures) refl
     steps.0 _ up.handler c.turn.ensures.emissions c.turn.ensures.refusals c.turn.ensures.rest c.turn.result was steps.1
+
+pub returns-clause-refused : goal.returns-clause-refused
+returns-clause-refused g c = λ made low are.
+    let is : slice_index_or c.args.self.now.stations.items c.args.node c.index_mut.result.now ≡ c.index_mut.result.now = sym (c.index_mut.ensures.value ∙ ap (λ k. slice_index_or c.args.self.now.stations.items k c.index_mut.result.now) c.from.ensures) in
+    let up = up-before (λ w. g.D.Disk.told w.disk) (λ w. g.D.Disk.size w.disk) g.U.Outlet.took c.requires.game c.requires.made c.args.self.now c.args.node c.index_mut.result.now c.requires.running c.requires.known is in
+    let own = own-station (λ w. g.D.Disk.told w.disk) (λ w. g.D.Disk.size w.disk) g.U.Outlet.took c.requires.game c.requires.made c.args.self.now c.args.node c.index_mut.result.now c.requires.running c.requires.known is in
+    let steps = c.turn.ensures.steps c.requires.game c.args.node (c.requires.running.nodes c.args.node) up (sym own.acks.from) c.requires.running.stands.handler in
+    let same = c.turn.ensures.refusals in
+    call-refused g.U.Outlet.faults g.U.Outlet.fate made c.args.self.now (record c.args.self.now { stations = with_item c.args.self.now.stations c.from.result c.turn.new.self; waiting = c.turn.new.waiting }) c.args.node c.index_mut.result.now c.turn.new.self low (subst (λ n. c.args.node < n) (sym c.requires.running.stands.width) c.requires.known) is (ap (λ k. slice_set c.args.self.now.stations.items k c.turn.new.self) c.from.ensures) are c.turn.result
+    (turn-tells-none (λ w. g.D.Disk.told w.disk) (λ w. g.D.Disk.size w.disk) c.requires.game c.args.node (c.requires.running.nodes c.args.node) _ _ _ 0 steps.0 up.handler c.turn.new.self.node.stage c.turn.result steps.1) (omega (arith, same)) (ap (λ x. x.out) c.turn.ensures.rest)

@@ -1,11 +1,12 @@
 -- One call after another, as long as there is one to make.
+use Rattle.ken_drive.proofs.AccountsRestarts.{accounts-handed-on}
+use Rattle.ken_drive.proofs.Leaving.{handed-on, still-works, stays-first}
+use Rattle.ken_drive.proofs.Refusals.{refused-handed-on}
+use Rattle.ken_drive.proofs.run.Run.turns.Goals as goal
 use Rattle.std.proofs.Common.{◌≡◌, refl}
 use Rattle.ken_flow.specs.Standstill.{Rested}
-use Rattle.ken_drive.proofs.Leaving.{handed-on, stays-first, still-works}
 use Rattle.ken_drive.proofs.Moves.{moves-none, moves-then}
 use Rattle.ken_drive.proofs.Visits.{less-then, moves-worked, rested-then}
-use Rattle.ken_drive.proofs.run.Run.turns.Goals as goal
-use Rattle.ken_drive.proofs.AccountsRestarts.{accounts-handed-on}
 
 pub turn-requires : goal.turn-requires
 turn-requires g c = still-works (λ w. g.D.Disk.told w.disk) (λ w. g.D.Disk.size w.disk) g.U.Outlet.took c.args.node c.args.self.now c.turns.self c.turns.invariant.up c.requires
@@ -15,6 +16,7 @@ turns-init g c = record {
   up = stays-first (λ w. g.D.Disk.told w.disk) (λ w. g.D.Disk.size w.disk) g.U.Outlet.took c.args.node c.args.self.now;
   moved = moves-none (λ w. g.D.Disk.told w.disk) (λ w. g.D.Disk.size w.disk) g.U.Outlet.took (λ game f f2. f2 ≡ f) c.args.node c.args.self.now (λ game f. refl);
   accounts = λ terms game made running low accounted. accounted;
+  refused = λ made low are. are;
 }
 
 pub returns-in_err-turn-clause-leaves : goal.returns-in_err-turn-clause-leaves
@@ -35,6 +37,7 @@ turns-preserved g c = record {
   up = λ game made running low. c.in_ok-turn.ensures.leaves game made (c.turns.invariant.up game made running low) low;
   moved = moves-worked (λ w. g.D.Disk.told w.disk) (λ w. g.D.Disk.size w.disk) g.U.Outlet.took (λ game f f2. f2 ≡ f) (λ game f f2. f2 ≡ f) c.args.node c.args.self.now c.turns.self c.turn.new.self c.turns.invariant.moved (λ game made running low. c.in_ok-turn.ensures.leaves game made running low) (c.in_ok-turn.ensures.worked (let is = c.in-Turn.is in cc));
   accounts = λ terms game made running low accounted. c.in_ok-turn.ensures.accounts terms game made (c.turns.invariant.up game made running low) low (c.turns.invariant.accounts terms game made running low accounted);
+  refused = λ made low are. c.in_ok-turn.ensures.refused made low (c.turns.invariant.refused made low are);
 }
 
 pub returns-clause-leaves : goal.returns-clause-leaves
@@ -45,3 +48,10 @@ returns-clause-accounts g c = λ terms game made running low accounted. c.in_ok-
 
 pub returns-clause-moves : goal.returns-clause-moves
 returns-clause-moves g c = moves-then (λ w. g.D.Disk.told w.disk) (λ w. g.D.Disk.size w.disk) g.U.Outlet.took (λ game f f2. f2 ≡ f) (λ game. Rested game c.args.node) (λ game. Rested game c.args.node) c.args.node c.args.self.now c.turns.self c.turn.new.self (λ game f f2 f3 same b. rested-then game c.args.node f f2 f3 same b) c.turns.invariant.moved c.in_ok-turn.ensures.moves
+
+pub returns-in_err-turn-clause-refused : goal.returns-in_err-turn-clause-refused
+returns-in_err-turn-clause-refused g c = λ made low are.
+    refused-handed-on g.U.Outlet.faults g.U.Outlet.fate made c.turn.new.self c.args.node c.from_residual.result c.in_err-turn.field-0.0 c.from_residual.ensures.1 (c.in_err-turn.ensures.refused made low (c.turns.invariant.refused made low are))
+
+pub returns-clause-refused : goal.returns-clause-refused
+returns-clause-refused g c = λ made low are. c.in_ok-turn.ensures.refused made low (c.turns.invariant.refused made low are)

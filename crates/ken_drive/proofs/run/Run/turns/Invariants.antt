@@ -1,15 +1,17 @@
-use Rattle.std.proofs.Common.{◌≡◌}
-use Rattle.ken_drive.specs.Flowing.{Moves}
+use Rattle.ken_drive.specs.Accounts.{StaysAccounted}
 use Rattle.ken_drive.specs.Left.{left_at, turns_left}
+use Rattle.ken_drive.specs.Refusals.{StaysRefused}
 use Rattle.ken_drive.specs.Running.{StaysUp}
 use Rattle.ken_drive.proofs.run.Run.turns.Given as goal
-use Rattle.ken_drive.specs.Accounts.{StaysAccounted}
+use Rattle.std.proofs.Common.{◌≡◌}
+use Rattle.ken_drive.specs.Flowing.{Moves}
 
 abbrev pub invariant-turns : goal.invariant-turns
 invariant-turns g l = record {
   up : StaysUp (λ w. g.D.Disk.told w.disk) (λ w. g.D.Disk.size w.disk) g.U.Outlet.took l.node l.fn.self l.self;
   moved : Moves (λ w. g.D.Disk.told w.disk) (λ w. g.D.Disk.size w.disk) g.U.Outlet.took (λ game f f2. f2 ≡ f) l.node l.fn.self l.self;
   accounts : StaysAccounted (λ w. g.D.Disk.told w.disk) (λ w. g.D.Disk.size w.disk) g.U.Outlet.took (λ w. g.D.Disk.faults w.disk) (λ w. g.D.Disk.fate w.disk) g.O.Oracle.telling l.node l.fn.self l.self;
+  refused : StaysRefused g.U.Outlet.faults g.U.Outlet.fate l.node l.fn.self l.self;
 }
 
 abbrev pub decreases-turns : goal.decreases-turns

@@ -1,10 +1,11 @@
 -- A visit of one node.
-use Rattle.std.proofs.Common.{inr, subst}
-use Rattle.ken_flow.specs.Standstill.{Visited}
-use Rattle.ken_drive.specs.Running.{LeavesFault}
-use Rattle.ken_drive.proofs.Visits.{restarted-moves}
-use Rattle.ken_drive.proofs.run.Run.visit.Goals as goal
+use Rattle.std.proofs.Common.{inr, subst, inl}
 use Rattle.ken_drive.specs.Accounts.{AccountsFault}
+use Rattle.ken_drive.specs.Refusals.{RefusedFault}
+use Rattle.ken_drive.specs.Running.{LeavesFault}
+use Rattle.ken_drive.proofs.run.Run.visit.Goals as goal
+use Rattle.ken_flow.specs.Standstill.{Visited}
+use Rattle.ken_drive.proofs.Visits.{restarted-moves}
 
 pub restart-requires : goal.restart-requires
 restart-requires g c = record {
@@ -44,3 +45,15 @@ returns-in-Err-Outlet-clause-leaves g c = λ game made running low.
 pub returns-in-Err-Outlet-clause-accounts : goal.returns-in-Err-Outlet-clause-accounts
 returns-in-Err-Outlet-clause-accounts g c = λ terms game made running low accounted.
     inr (subst (λ x. AccountsFault (λ w. g.D.Disk.told w.disk) (λ w. g.D.Disk.faults w.disk) (λ w. g.D.Disk.fate w.disk) g.O.Oracle.telling terms game x made c.args.node c.work.new.self) c.in-Err-Outlet.field-0-is (c.in-Err-Outlet.ensures.accounts terms game made running low accounted))
+
+pub returns-in-Ok-clause-refused : goal.returns-in-Ok-clause-refused
+returns-in-Ok-clause-refused g c = λ made low are. c.in-Ok.ensures.refused made low are
+
+pub returns-in-Err-Disk-clause-refused : goal.returns-in-Err-Disk-clause-refused
+returns-in-Err-Disk-clause-refused g c = λ made low are.
+    c.restart.ensures.refused made low (subst (λ x. RefusedFault g.U.Outlet.faults g.U.Outlet.fate x made c.args.node c.work.new.self) c.in-Err-Disk.field-0-is (c.in-Err-Disk.ensures.refused made low are))
+
+pub returns-in-Err-Outlet-clause-refused : goal.returns-in-Err-Outlet-clause-refused
+returns-in-Err-Outlet-clause-refused g c = λ made low are.
+    let both = subst (λ x. RefusedFault g.U.Outlet.faults g.U.Outlet.fate x made c.args.node c.work.new.self) c.in-Err-Outlet.field-0-is (c.in-Err-Outlet.ensures.refused made low are) in
+    (both.0, inl both.1)

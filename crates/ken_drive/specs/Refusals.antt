@@ -1,0 +1,67 @@
+-- How often an outlet has failed, one time after the other, that refuses the output which is due.
+use Rattle.std.specs.Prelude.{◌≡◌, ℕ, ◌+◌, ◌-◌, ◌^◌, ◌<◌, ◌≤◌, ◌⊎◌, slice_index_or, Option, Some, Result, Ok, Err}
+use Rattle.std.specs.List.{Contains}
+use Rattle.ken_ship.specs.declared.faults.NodeFault.{NodeFault}
+use Rattle.ken_ship.specs.declared.faults.NodeFault.TheVariants.{Disk, Damaged, Outlet, Memory}
+use Rattle.ken_ship.specs.Fates.{Fate}
+use Rattle.ken_node.specs.Stages.{refusals_in}
+use Rattle.ken_drive.specs.declared.faults.RunFault.{RunFault}
+use Rattle.ken_drive.specs.declared.faults.RunFault.TheVariants.{Down}
+use Rattle.ken_drive.specs.declared.faults.RunFault.TheVariants as run_faults
+use Rattle.ken_drive.specs.declared.run.Run.{Run}
+use Rattle.ken_drive.specs.declared.station.Station.{Station}
+
+-- so many calls were made, and the numbers of the last ones are among those that may fail
+pub record LastFail (often : ℕ) (f : Fate) : Type 0 where
+  pub made : often ≤ f.calls
+  pub each : (call : ℕ) → f.calls < call + often → call ≤ f.calls → Contains f.fails call
+
+-- an outlet has counted so many faults; and so many of its last calls failed, where it tells its calls and can count one more
+pub record HasFailedLast {U : Type 0} (faults : U → ℕ) (fate : U → Option Fate) (often : ℕ) (out : U) : Type 0 where
+  pub counted : often ≤ faults out
+  pub running : (f : Fate) → fate out ≡ Some f → f.calls < 2 ^ 64 - 1 → LastFail often f
+
+module _ {D O U : Type 0} (faults : U → ℕ) (fate : U → Option Fate) where
+  -- the outlet of a station has failed as often as its node counts, which is at most 64 times
+  pub record IsRefused (s : Station D O U) : Type 0 where
+    pub few : refusals_in s.node.stage ≤ 64
+    pub failed : HasFailedLast faults fate (refusals_in s.node.stage) s.out
+
+  -- so of each node that was made, up or down
+  pub record AreRefused (made : ℕ) (r : Run D O U) : Type 0 where
+    pub each : (v : ℕ) (d : Station D O U) → v < made → IsRefused (slice_index_or r.stations.items v d)
+
+  -- the outlet of node v has failed 65 times
+  abbrev pub IsWornOut : ℕ → Run D O U → Type 0
+  IsWornOut v r = (d : Station D O U) → HasFailedLast faults fate 65 (slice_index_or r.stations.items v d).out
+
+  -- by the answer of a call of node v, or several. After want of memory nothing is said
+  abbrev pub RefusedFault : NodeFault → ℕ → ℕ → Run D O U → Type 0
+  RefusedFault Disk made v r = AreRefused made r
+  RefusedFault Memory made v r = Unit {0}
+  RefusedFault Outlet made v r = AreRefused made r × IsWornOut v r
+  RefusedFault (Damaged disk place) made v r = Unit {0}
+
+  abbrev pub RefusedBy : {T : Type 0} → Result T NodeFault → ℕ → ℕ → Run D O U → Type 0
+  RefusedBy (Ok x) made v r = AreRefused made r
+  RefusedBy (Err fault) made v r = RefusedFault fault made v r
+
+  -- node v was restarted as often as it may be
+  abbrev pub IsUsedUpOf : ℕ → Run D O U → Type 0
+  IsUsedUpOf v r = (d : Station D O U) → r.restarts ≤ (slice_index_or r.stations.items v d).restarts
+
+  -- by the answer of visits
+  abbrev pub RefusedRunFault : RunFault → ℕ → Run D O U → Type 0
+  RefusedRunFault (Down v) made r = AreRefused made r × (IsWornOut v r ⊎ IsUsedUpOf v r)
+  RefusedRunFault run_faults.Memory made r = Unit {0}
+
+  abbrev pub RefusedRunBy : {T : Type 0} → Result T RunFault → ℕ → Run D O U → Type 0
+  RefusedRunBy (Ok x) made r = AreRefused made r
+  RefusedRunBy (Err fault) made r = RefusedRunFault fault made r
+
+  -- where it holds, it still does
+  abbrev pub StaysRefused : ℕ → Run D O U → Run D O U → Type 0
+  StaysRefused v old new = (made : ℕ) → v < made → AreRefused made old → AreRefused made new
+
+  abbrev pub StayRefused : Run D O U → Run D O U → Type 0
+  StayRefused old new = (made : ℕ) → old.nodes ≤ made → AreRefused made old → AreRefused made new
