@@ -37,3 +37,4 @@ pub mod Draining
 pub mod Turning
 pub mod AtEnd
 pub mod Refusals
+pub mod RefusalsFirst

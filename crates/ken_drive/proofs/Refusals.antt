@@ -70,7 +70,7 @@ told-same None new follows = follows
 told-same (Some before) new follows = follows.1 ∙ ap Some follows.2
 
 module _ {U : Type 0} (faults : U → ℕ) (fate : U → Option Fate) where
-  failed-none : (out : U) → HasFailedLast faults fate 0 out
+  pub failed-none : (out : U) → HasFailedLast faults fate 0 out
   failed-none out = record { counted = omega arith; running = λ f is room. record { made = omega arith; each = λ call late most. absurd (omega (arith, late, most)) } }
 
   failed-fewer : (often less : ℕ) (out : U) → less ≤ often → HasFailedLast faults fate often out → HasFailedLast faults fate less out
@@ -177,8 +177,8 @@ module _ {D O U T : Type 0} (faults : U → ℕ) (fate : U → Option Fate) (mad
   run-refused-handed-on (Err e) fault same is = subst (λ (x : RunFault). RefusedRunFault faults fate x made r) (sym same) is
 
 -- a node that was restarted as often as it may be
-pub used-up-of : {D O U : Type 0} (faults : U → ℕ) (fate : U → Option Fate) (v : ℕ) (r : Run D O U) → v < length r.stations.items → r.restarts ≤ tries_at r.stations.items v → IsUsedUpOf faults fate v r
-used-up-of faults fate v r low many = λ d. let tries = tries-is r.stations.items v d low in omega (arith, many, tries)
+pub used-up-of : {D O U : Type 0} (v : ℕ) (r : Run D O U) → v < length r.stations.items → r.restarts ≤ tries_at r.stations.items v → IsUsedUpOf v r
+used-up-of v r low many = λ d. let tries = tries-is r.stations.items v d low in omega (arith, many, tries)
 
 -- ---- which calls tell of no outlet
 

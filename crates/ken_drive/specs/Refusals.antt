@@ -21,6 +21,10 @@ pub record HasFailedLast {U : Type 0} (faults : U → ℕ) (fate : U → Option 
   pub counted : often ≤ faults out
   pub running : (f : Fate) → fate out ≡ Some f → f.calls < 2 ^ 64 - 1 → LastFail often f
 
+-- node v was restarted as often as it may be
+abbrev pub IsUsedUpOf : {D O U : Type 0} → ℕ → Run D O U → Type 0
+IsUsedUpOf {D} {O} {U} v r = (d : Station D O U) → r.restarts ≤ (slice_index_or r.stations.items v d).restarts
+
 module _ {D O U : Type 0} (faults : U → ℕ) (fate : U → Option Fate) where
   -- the outlet of a station has failed as often as its node counts, which is at most 64 times
   pub record IsRefused (s : Station D O U) : Type 0 where
@@ -46,10 +50,6 @@ module _ {D O U : Type 0} (faults : U → ℕ) (fate : U → Option Fate) where
   RefusedBy (Ok x) made v r = AreRefused made r
   RefusedBy (Err fault) made v r = RefusedFault fault made v r
 
-  -- node v was restarted as often as it may be
-  abbrev pub IsUsedUpOf : ℕ → Run D O U → Type 0
-  IsUsedUpOf v r = (d : Station D O U) → r.restarts ≤ (slice_index_or r.stations.items v d).restarts
-
   -- by the answer of visits
   abbrev pub RefusedRunFault : RunFault → ℕ → Run D O U → Type 0
   RefusedRunFault (Down v) made r = AreRefused made r × (IsWornOut v r ⊎ IsUsedUpOf v r)
@@ -59,7 +59,7 @@ module _ {D O U : Type 0} (faults : U → ℕ) (fate : U → Option Fate) where
   RefusedRunBy (Ok x) made r = AreRefused made r
   RefusedRunBy (Err fault) made r = RefusedRunFault fault made r
 
-  -- where it holds, it still does
+  -- where this holds before, it does after
   abbrev pub StaysRefused : ℕ → Run D O U → Run D O U → Type 0
   StaysRefused v old new = (made : ℕ) → v < made → AreRefused made old → AreRefused made new
 

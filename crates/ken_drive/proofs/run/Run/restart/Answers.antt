@@ -65,4 +65,4 @@ pub returns-clause-refused : goal.returns-clause-refused
 returns-clause-refused g c = λ made low are.
     let now = c.tries.invariant.down c.requires.game c.requires.made c.requires.stopped in
     let most = c.tries.invariant.most_was in
-    (c.tries.invariant.refused made low are, inr (used-up-of g.U.Outlet.faults g.U.Outlet.fate c.args.node c.tries.self (subst (λ n. c.args.node < n) (sym now.stands.width) now.known) (omega (arith, c.tries-test.false, most))))
+    (c.tries.invariant.refused made low are, inr (used-up-of c.args.node c.tries.self (subst (λ n. c.args.node < n) (sym now.stands.width) now.known) (omega (arith, c.tries-test.false, most))))
