@@ -38,3 +38,4 @@ pub mod Turning
 pub mod AtEnd
 pub mod Refusals
 pub mod RefusalsFirst
+pub mod Driving

@@ -15,3 +15,5 @@ pub mod Open
 pub mod Draining
 pub mod Endings
 pub mod Refusals
+pub mod Finishing
+pub mod Driven

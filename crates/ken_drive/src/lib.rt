@@ -17,7 +17,7 @@ mod timeline;
 mod world;
 
 pub use faults::RunFault;
-pub use laws::a_node_is_recovered;
+pub use laws::{a_node_is_recovered, ended_runs_keep};
 pub use memory::{Kept, MemWorld};
 pub use oracle::MemOracle;
 pub use outlet::MemOutlet;

@@ -3,6 +3,7 @@ use Rattle.std.proofs.Common.{arith}
 use Rattle.ken_drive.specs.Draining.{PassedIdly}
 use Rattle.ken_drive.proofs.Draining.{came-failed, few-stations, may-go-on, may-still, passed-ended, passed-idly, passed-same, passed-whole}
 use Rattle.ken_drive.proofs.AccountsRestarts.{run-accounts-handed-on}
+use Rattle.ken_drive.proofs.Refusals.{run-refused-handed-on}
 use Rattle.ken_drive.proofs.run.Run.pass_on.Goals as goal
 
 pub pass-requires : goal.pass-requires
@@ -47,3 +48,17 @@ returns-then-left-clause-accounts g c = λ terms game made running all accounted
 
 pub returns-clause-accounts : goal.returns-clause-accounts
 returns-clause-accounts g c = λ terms game made running all accounted. c.in_ok-pass.ensures.accounts terms game made running accounted
+
+pub returns-in_err-pass-clause-refused : goal.returns-in_err-pass-clause-refused
+returns-in_err-pass-clause-refused g c = λ game made running all are.
+    let count = running.stands.count in
+    run-refused-handed-on g.U.Outlet.faults g.U.Outlet.fate made c.pass.new.self c.from_residual.result c.in_err-pass.field-0.0 c.from_residual.ensures.1 (c.in_err-pass.ensures.refused made (omega (arith, count)) are)
+
+pub returns-then-has_ended-clause-refused : goal.returns-then-has_ended-clause-refused
+returns-then-has_ended-clause-refused g c = λ game made running all are. let count = running.stands.count in c.in_ok-pass.ensures.refused made (omega (arith, count)) are
+
+pub returns-then-left-clause-refused : goal.returns-then-left-clause-refused
+returns-then-left-clause-refused g c = λ game made running all are. let count = running.stands.count in c.in_ok-pass.ensures.refused made (omega (arith, count)) are
+
+pub returns-clause-refused : goal.returns-clause-refused
+returns-clause-refused g c = λ game made running all are. let count = running.stands.count in c.in_ok-pass.ensures.refused made (omega (arith, count)) are

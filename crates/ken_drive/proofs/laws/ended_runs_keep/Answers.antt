@@ -1,0 +1,6 @@
+use Rattle.ken_drive.proofs.Driving.{keeps-run}
+use Rattle.ken_drive.proofs.laws.ended_runs_keep.Goals as goal
+
+pub returns : goal.returns
+returns g c = λ h r terms l ended report accounts few kept each others.
+    keeps-run (record { told = g.D.Disk.told; faults = g.D.Disk.faults; telling = g.O.Oracle.telling; took = g.U.Outlet.took; refused = g.U.Outlet.faults }) g.D.Disk.size _ h r terms l ended report accounts few c.history_is_legal.ensures c.apart_recovers.ensures c.a_node_has_synced.ensures kept each others

@@ -1,0 +1,105 @@
+-- What a whole run leaves: what its world keeps of each node, beside the lines of its report.
+use Rattle.std.specs.Prelude.{◌≡◌, ◌⊎◌, ℕ, ◌+◌, ◌<◌, ◌≤◌, ◌==◌, List, [], length, map, filter, slice_index_or, Option, Some, None, IfSome}
+use Rattle.std.specs.List.{flat_map}
+use Rattle.ken_disk.specs.Story.{Story}
+use Rattle.ken_model.specs.declared.messages.Out.{Out}
+use Rattle.ken_model.specs.declared.messages.Step.{Step}
+use Rattle.ken_model.specs.declared.reports.Emission.{Emission}
+use Rattle.ken_model.specs.declared.reports.RestartLine.{RestartLine}
+use Rattle.ken_model.specs.Emissions.{emitted_by}
+use Rattle.ken_model.specs.Game.{Game}
+use Rattle.ken_model.specs.Handler.{Handler}
+use Rattle.ken_model.specs.Schedule.{play}
+use Rattle.ken_app.specs.Oracles.{Telling}
+use Rattle.ken_store.specs.declared.disks.Disks.{Disks}
+use Rattle.ken_node.specs.Synced.{HasSynced}
+use Rattle.ken_disk.specs.Fates.{Fate}
+use Rattle.ken_model.specs.declared.reports.Lines.{Lines}
+use Rattle.ken_model.specs.Laws.{steps_of}
+use Rattle.ken_node.specs.declared.watched.Watched.{Watched}
+use Rattle.ken_drive.specs.declared.run.Run.{Run}
+use Rattle.ken_drive.specs.declared.station.Station.{Station}
+use Rattle.ken_drive.specs.Accounts.{AreAccounted, Terms, faults_of}
+use Rattle.ken_drive.specs.Ended.{IsEnded, IsReportOf}
+use Rattle.ken_drive.specs.Finishing.{WasKept}
+use Rattle.ken_drive.specs.Recovering.{RecoversAt}
+use Rattle.ken_drive.specs.Sequences.{IsSubsequence, NeverFall, descents}
+use Rattle.ken_drive.specs.Worlds.{IsOf}
+
+-- what contracts see of a node's devices: the stories of its disks, with their faults; what its oracle tells; what its outlet took, with
+-- its faults
+pub record Views (D O U : Type 0) : Type 0 where
+  pub told : D → Option Story
+  pub faults : D → ℕ
+  pub telling : Telling O
+  pub took : U → Option (List Out)
+  pub refused : U → ℕ
+
+-- the steps of node v
+abbrev pub steps_at : ℕ → List Step → List Step
+steps_at v schedule = filter (λ (s : Step). s.node == v) schedule
+
+-- the clock readings that steps drew, in order, and the random words
+abbrev pub clocks_of : Handler → List Step → List ℕ
+clocks_of handler steps = flat_map (λ (s : Step). handler.clocks s.draws) steps
+
+abbrev pub words_of : Handler → List Step → List ℕ
+words_of handler steps = flat_map (λ (s : Step). handler.words s.draws) steps
+
+-- with how many turns node v went on, each time that it was restarted
+abbrev pub restarts_of : ℕ → List RestartLine → List ℕ
+restarts_of v lines = map (λ (l : RestartLine). l.turns) (filter (λ (l : RestartLine). l.node == v) lines)
+
+-- the numbers of outputs
+abbrev pub out_numbers : List Out → List ℕ
+out_numbers outs = map (λ (o : Out). o.number) outs
+
+-- the restarts of a node have their causes, and they alone are a cause to emit an output again: there are some exactly where calls of its
+-- disks failed, at most so many, and the turns that they went on with never fall
+pub record HaveCauses (faults most turns : ℕ) (restarts numbers : List ℕ) : Type 0 where
+  pub rise : NeverFall 0 restarts turns
+  pub few : length restarts ≤ most
+  pub causes : length restarts ≤ faults
+  pub none : restarts ≡ [] → faults ≡ 0
+  pub again : descents 0 numbers ≤ length restarts
+
+-- what is kept of node v after a run with this schedule, these emissions and restarts: whatever a crash leaves of its disks recovers to its
+-- place in the abstract network; its outlet took what it emitted; what its turns drew is among what its oracle answered, in order; and its
+-- logs were synced for each turn
+pub record KeepsNode {D O U : Type 0} (views : Views D O U) (g : Game) (seed most v : ℕ) (schedule : List Step) (emissions : List Emission) (restarts : List RestartLine) (kept : Option (Disks D × O × U)) : Type 0 where
+  pub disks : Disks D
+  pub luck : O
+  pub out : U
+  pub is : kept ≡ Some (disks, luck, out)
+  pub recovers : RecoversAt views.told g v (play g schedule) disks
+  pub synced : HasSynced views.told views.faults ((play g schedule).place v).turns disks
+  pub took : IfSome (views.took out) (λ told. told ≡ emitted_by v emissions)
+  pub origin : IsOf views.telling luck v seed
+  pub clocks : IfSome (views.telling.clocks luck) (IsSubsequence (clocks_of g.handler (steps_at v schedule)))
+  pub words : IfSome (views.telling.words luck) (IsSubsequence (words_of g.handler (steps_at v schedule)))
+  pub causes : HaveCauses (faults_of views.faults disks) most ((play g schedule).place v).turns (restarts_of v restarts) (out_numbers (emitted_by v emissions))
+
+-- of each node of the run, and of no other
+pub record KeepsRun {D O U : Type 0} (views : Views D O U) (g : Game) (seed most : ℕ) (schedule : List Step) (emissions : List Emission) (restarts : List RestartLine) (kept : ℕ → Option (Disks D × O × U)) : Type 0 where
+  pub each : (v : ℕ) → v < g.nodes → KeepsNode views g seed most v schedule emissions restarts (kept v)
+  pub others : (v : ℕ) → g.nodes ≤ v → kept v ≡ None
+
+-- node v has gone down: calls of its disks failed more often than it may be restarted, or its outlet refused often
+pub record HasGoneDown {D O U : Type 0} (views : Views D O U) (g : Game) (most v : ℕ) (kept : Option (Disks D × O × U)) : Type 0 where
+  pub known : v < g.nodes
+  pub disks : Disks D
+  pub luck : O
+  pub out : U
+  pub is : kept ≡ Some (disks, luck, out)
+  pub cause : (most < faults_of views.faults disks) ⊎ (65 ≤ views.refused out)
+
+-- ---- how they follow
+
+-- a run that has ended and is accounted for leaves them, where its devices are kept
+abbrev pub EndedRunsKeep : {D O U : Type 0} → Views D O U → (D → ℕ) → (Watched D → Option Fate) → Type 0
+EndedRunsKeep {D} {O} {U} views size fate =
+    (g : Game) (r : Run D O U) (terms : Terms) (l : Lines) (ended : IsEnded (λ w. views.told w.disk) (λ w. size w.disk) views.took g r)
+    → IsReportOf (λ w. views.told w.disk) (λ w. size w.disk) views.took g r ended l
+    → AreAccounted (λ w. views.told w.disk) (λ w. views.faults w.disk) fate views.telling terms g ended.made r → terms.most ≤ 1000
+    → (kept : ℕ → Option (Disks D × O × U)) → ((v : ℕ) (d : Station D O U) → v < length r.stations.items → WasKept (slice_index_or r.stations.items v d) (kept v)) → ((v : ℕ) → length r.stations.items ≤ v → kept v ≡ None)
+    → KeepsRun views g terms.seed terms.most (steps_of l.turns) l.emissions l.restarts kept
