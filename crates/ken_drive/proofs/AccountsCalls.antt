@@ -172,7 +172,7 @@ module _ {D O U : Type 0} (told : Watched D → Option Story) (count : Watched D
       books = books-still was.books;
       drew = drew;
       causes = subst (λ (k : ℕ). HasFailedOften count k s2.node.stage) (sym tries) (often-still told count fate s.restarts s.node.stage s2.node.stage has unfailed was.causes);
-      fates = subst (λ (k : ℕ). HasFates fate (AreRaised (terms.cuts v) k) s2.node.stage) (sym tries) (fates-still told count fate s.node.stage s2.node.stage has.0 has.1 (AreRaised (terms.cuts v) s.restarts) unfailed was.fates);
+      fates = subst (λ (k : ℕ). HasFates fate terms.scripted (AreRaised (terms.cuts v) k) s2.node.stage) (sym tries) (fates-still told count fate terms.scripted s.node.stage s2.node.stage has.0 has.1 (AreRaised (terms.cuts v) s.restarts) unfailed was.fates);
       calm = λ none. none-still told count fate s.restarts s.node.stage s2.node.stage has unfailed (was.calm (sym lines ∙ none));
       again = let again = was.again in let long : length s2.lines.items ≡ length s.lines.items = ap length lines in omega (arith, again, fewer, long);
     }
@@ -187,7 +187,7 @@ module _ {D O U : Type 0} (told : Watched D → Option Story) (count : Watched D
       down = down;
       drew = drew;
       causes = subst (λ (k : ℕ). HasFailedOften count (k + 1) s2.node.stage) (sym tries) (often-more told count fate s.restarts s.node.stage s2.node.stage has failed was.causes);
-      fates = subst (λ (k : ℕ). HasFates fate (HaveFallen (terms.cuts v) (k + 1)) s2.node.stage) (sym tries) (fates-failed told count fate s.node.stage s2.node.stage has.0 has.1 (terms.cuts v) s.restarts failed was.fates);
+      fates = subst (λ (k : ℕ). HasFates fate terms.scripted (HaveFallen (terms.cuts v) (k + 1)) s2.node.stage) (sym tries) (fates-failed told count fate terms.scripted s.node.stage s2.node.stage has.0 has.1 (terms.cuts v) s.restarts failed was.fates);
       again =
           let again = was.again in
           let front = descents-front 0 (numbers_of (emissions_in s.node.stage)) (emitted_through s.node.stage + 1) in

@@ -23,7 +23,7 @@ use Rattle.ken_node.specs.Stages.{HasDisks, emissions_in, turns_in}
 use Rattle.ken_node.specs.Synced.{IsSynced}
 use Rattle.ken_node.proofs.Fresh.{has-one}
 use Rattle.ken_drive.specs.declared.station.Station.{Station}
-use Rattle.ken_drive.specs.Accounts.{AreRaised, HasBooks, HasDrawn, HasFailedOften, HasFates, HaveFallen, IsAccounted, IsHeld, Terms, draws_of, emitted_through, faults_of, numbers_of}
+use Rattle.ken_drive.specs.Accounts.{AreFated, AreRaised, HasBooks, HasDrawn, HasFailedOften, HasFates, HaveFallen, IsAccounted, IsHeld, Terms, draws_of, emitted_through, faults_of, numbers_of}
 use Rattle.ken_drive.specs.Sequences.{IsSubsequence, NeverFall, descents}
 use Rattle.ken_drive.specs.Worlds.{IsOf}
 use Rattle.ken_drive.proofs.AccountsCalls.{failed-sum, unfailed-sum}
@@ -66,7 +66,7 @@ first-descent x = rw (first-rises x) refl
 
 module _ {D O U : Type 0} (told : Watched D → Option Story) (count : Watched D → ℕ) (fate : Watched D → Option Fate) (telling : Telling O) (terms : Terms) (g : Game) (v : ℕ) (s : Station D O U) (old : Disks (Watched D))
     (no_line : s.lines.items ≡ []) (no_restart : s.restarts ≡ 0) (origin : IsOf telling s.luck v terms.seed) (synced : IsSynced told count g v s.node.stage) (turns : turns_in s.node.stage ≡ []) (emissions : emissions_in s.node.stage ≡ [])
-    (none : faults_of count old ≡ 0) (falls : (l i k : Fate) → fate old.log ≡ Some l → fate old.image ≡ Some i → fate old.second ≡ Some k → AreRaised (terms.cuts v) 0 l i k) where
+    (none : faults_of count old ≡ 0) (falls : AreFated fate terms.scripted (AreRaised (terms.cuts v) 0) old) where
   first-books : HasBooks told count fate telling terms g v s
   first-books = record {
     synced = synced;
@@ -85,7 +85,7 @@ module _ {D O U : Type 0} (told : Watched D → Option Story) (count : Watched D
     books = first-books;
     drew = first-drew;
     causes = λ d has. omega (arith, no_restart);
-    fates = subst (λ (k : ℕ). HasFates fate (AreRaised (terms.cuts v) k) s.node.stage) (sym no_restart) (λ d has. unfailed-fated told count fate (AreRaised (terms.cuts v) 0) old d (unfailed d has) falls);
+    fates = subst (λ (k : ℕ). HasFates fate terms.scripted (AreRaised (terms.cuts v) k) s.node.stage) (sym no_restart) (λ d has. unfailed-fated told count fate terms.scripted (AreRaised (terms.cuts v) 0) old d (unfailed d has) falls);
     calm = λ no d has. unfailed-sum told count fate old d (unfailed d has) ∙ none;
     again =
         let nothing : descents 0 (numbers_of (emissions_in s.node.stage) ++ (emitted_through s.node.stage + 1) ∷ []) ≡ 0 =
@@ -103,6 +103,6 @@ module _ {D O U : Type 0} (told : Watched D → Option Story) (count : Watched D
     down = down;
     drew = subst (λ (ts : List Effects). HasDrawn telling g.handler s.luck (draws_of ts ++ [])) (sym turns) (record { clocks = none-drawn (telling.clocks s.luck); words = none-drawn (telling.words s.luck) });
     causes = subst (λ (k : ℕ). HasFailedOften count (k + 1) s.node.stage) (sym no_restart) (λ d has. failed-sum told count fate 0 old d (failed d has) (omega arith));
-    fates = subst (λ (k : ℕ). HasFates fate (HaveFallen (terms.cuts v) (k + 1)) s.node.stage) (sym no_restart) (λ d has. failed-fated told count fate (terms.cuts v) 0 old d (failed d has) falls);
+    fates = subst (λ (k : ℕ). HasFates fate terms.scripted (HaveFallen (terms.cuts v) (k + 1)) s.node.stage) (sym no_restart) (λ d has. failed-fated told count fate terms.scripted (terms.cuts v) 0 old d (failed d has) falls);
     again = let nothing : descents 0 (numbers_of (emissions_in s.node.stage)) ≡ 0 = ap (λ (es : List Emission). descents 0 (numbers_of es)) emissions in omega (arith, nothing);
   }

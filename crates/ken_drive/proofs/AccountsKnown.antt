@@ -41,7 +41,7 @@ module _ {D O U : Type 0} (told : Watched D → Option Story) (count : Watched D
 
     -- and where the disks tell of their falls, they were handed more cuts
     pub used-up-cuts : (l i s : Fate) → fate disks.log ≡ Some l → fate disks.image ≡ Some i → fate disks.second ≡ Some s → terms.most < terms.cuts v
-    used-up-cuts l i s x y z = let often = is.none_left d in let falls = (is.held.held d).fates disks has l i s x y z in omega (arith, often, falls)
+    used-up-cuts l i s x y z = let often = is.none_left d in let falls = ((is.held.held d).fates disks has).falls l i s x y z in omega (arith, often, falls)
 
 -- ---- by the node of the core
 

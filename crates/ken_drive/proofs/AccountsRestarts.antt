@@ -102,7 +102,7 @@ module _ {D O U : Type 0} (told : Watched D → Option Story) (size : Watched D 
             let end = unfailed-sum told count fate by.0 d2 by.1.1 in
             let so = h.causes h.down.disks h.down.has in
             omega (arith, mid, end, so, tried);
-        fates = subst (λ (k : ℕ). HasFates fate (AreRaised (terms.cuts v) k) s2.node.stage) (sym tried) (fates-raised told count fate s.node.stage s2.node.stage h.down.disks h.down.has (terms.cuts v) (s.restarts + 1) disks h.fates);
+        fates = subst (λ (k : ℕ). HasFates fate terms.scripted (AreRaised (terms.cuts v) k) s2.node.stage) (sym tried) (fates-raised told count fate terms.scripted s.node.stage s2.node.stage h.down.disks h.down.has (terms.cuts v) (s.restarts + 1) disks h.fates);
         calm = λ none. absurd (let empty : length s2.lines.items ≡ 0 = ap (λ (ls : List ℕ). length ls) none in omega (arith, empty, long));
         again =
             let again = h.again in
@@ -134,7 +134,7 @@ module _ {D O U : Type 0} (told : Watched D → Option Story) (size : Watched D 
             let so : min (s.restarts + 1) (2 ^ 64 - 1) ≤ faults_of count h.down.disks = h.causes h.down.disks h.down.has in
             let end : min (s.restarts + 1 + 1) (2 ^ 64 - 1) ≤ faults_of count d2 = failed-sum told count fate (s.restarts + 1) by.0 d2 by.1.1 (omega (arith, mid, so)) in
             omega (arith, end, tried);
-        fates = subst (λ (k : ℕ). HasFates fate (HaveFallen (terms.cuts v) (k + 1)) s2.node.stage) (sym tried) (fates-failed-again told count fate s.node.stage s2.node.stage h.down.disks h.down.has (terms.cuts v) (s.restarts + 1) disks h.fates);
+        fates = subst (λ (k : ℕ). HasFates fate terms.scripted (HaveFallen (terms.cuts v) (k + 1)) s2.node.stage) (sym tried) (fates-failed-again told count fate terms.scripted s.node.stage s2.node.stage h.down.disks h.down.has (terms.cuts v) (s.restarts + 1) disks h.fates);
         again =
             let again = h.again in
             let same : descents 0 (numbers_of (emissions_in s2.node.stage)) ≡ descents 0 (numbers_of (emissions_in s.node.stage)) = ap (λ (es : List Emission). descents 0 (numbers_of es)) emissions in

@@ -38,4 +38,10 @@ pub mod Turning
 pub mod AtEnd
 pub mod Refusals
 pub mod RefusalsFirst
-pub mod Driving
+pub mod Keeping
+pub mod Giving
+pub mod StartingNode
+pub mod StartingRun
+pub mod StartingAll
+pub mod Acts
+pub mod Stopping

@@ -1,12 +1,10 @@
 -- A node that is up is recovered at its place of the network.
-use Rattle.std.proofs.Common.{arith, ◌≡◌, ◌≢◌, ◌∙◌, ℕ, ◌<◌, ◌≤◌, inl, inr, ⊎_elim, List, length, drop, slice_index, Option, Some, sym, ap, subst, refl}
+use Rattle.std.proofs.Common.{arith, ◌≡◌, ◌≢◌, ◌∙◌, ℕ, ◌<◌, ◌≤◌, List, length, drop, slice_index, Option, Some, sym, ap, subst}
 use Rattle.ken_disk.specs.Story.{Story}
-use Rattle.ken_model.specs.declared.messages.Out.{Out}
 use Rattle.ken_model.specs.declared.reports.Emission.{Emission}
 use Rattle.ken_model.specs.declared.reports.TurnLine.{TurnLine}
 use Rattle.ken_model.specs.Game.{Game}
 use Rattle.ken_model.specs.Laws.{steps_of}
-use Rattle.ken_model.specs.Limits.{IsWithinLimits}
 use Rattle.ken_model.specs.History.{consumed}
 use Rattle.ken_model.specs.Network.{Network, Turn, outside}
 use Rattle.ken_model.specs.Reading.{read_value}
@@ -14,19 +12,15 @@ use Rattle.ken_model.specs.Schedule.{play}
 use Rattle.ken_core.specs.Accord.{Accord}
 use Rattle.ken_core.specs.Laws.{IsPlayedBy}
 use Rattle.ken_core.specs.Nodes.{Node}
-use Rattle.ken_core.specs.Turns.{consumed_from, mails_to, outs_of, sealed}
+use Rattle.ken_core.specs.Turns.{consumed_from, sealed}
 use Rattle.ken_core.proofs.Numbers.{consumed-sealed, length-outputs_from}
-use Rattle.ken_order.specs.Consumed.{IsSender, place}
 use Rattle.ken_store.specs.declared.disks.Disks.{Disks}
 use Rattle.ken_store.specs.declared.owner.Owner.{Owner}
 use Rattle.ken_store.specs.Apart.{ApartRecovers, disks_apart}
 use Rattle.ken_store.specs.Recovered.{Whole}
 use Rattle.ken_store.specs.Standing.{RecoversTo}
 use Rattle.ken_store.specs.Turning.{state_in, turn_pages}
-use Rattle.ken_node.specs.declared.patcher.PatchWorker.{PatchWorker}
 use Rattle.ken_node.specs.declared.stage.Stage.{Stage}
-use Rattle.ken_node.specs.declared.stage.Stage.TheVariants.{Created}
-use Rattle.ken_node.specs.declared.worker.TurnWorker.{TurnWorker}
 use Rattle.ken_node.specs.Created.{owner_of}
 use Rattle.ken_node.specs.Patches.{waits_of}
 use Rattle.ken_node.specs.Stages.{HasDisks}

@@ -1,6 +1,6 @@
 -- What a run keeps account of, for each of its nodes: the syncs of its logs, what its oracle answered, its restarts with their causes, and
 -- what it emitted again.
-use Rattle.std.specs.Prelude.{◌≡◌, ◌≢◌, ℕ, ◌+◌, ◌-◌, ◌^◌, ◌<◌, ◌≤◌, min, ◌⊎◌, List, [], ◌∷◌, ◌++◌, length, map, slice_index_or, false, Option, Some, IfSome, Result, Ok, Err}
+use Rattle.std.specs.Prelude.{◌≡◌, ◌≢◌, ℕ, ◌+◌, ◌-◌, ◌^◌, ◌<◌, ◌≤◌, min, ◌⊎◌, List, [], ◌∷◌, ◌++◌, length, map, slice_index_or, Bool, true, false, Option, Some, IfSome, Result, Ok, Err}
 use Rattle.std.specs.List.{flat_map}
 use Rattle.ken_disk.specs.Fates.{Fate}
 use Rattle.ken_disk.specs.Story.{Story}
@@ -32,11 +32,14 @@ use Rattle.ken_drive.specs.Running.{IsRunning, IsStopped}
 use Rattle.ken_drive.specs.Sequences.{IsSubsequence, NeverFall, descents}
 use Rattle.ken_drive.specs.Worlds.{IsOf}
 
--- the terms of a run: its seed, how often a node may be restarted, and how many cuts were handed to the disks of each node
+-- the terms of a run: its seed, how often a node may be restarted, how many cuts were handed to the disks of each node, and at which calls
+-- its outlet may fail; in a scripted world disks and outlets tell what becomes of them
 pub record Terms : Type 0 where
   pub seed : ℕ
   pub most : ℕ
+  pub scripted : Bool
   pub cuts : ℕ → ℕ
+  pub fails : ℕ → List ℕ
 
 -- ---- of one node
 
@@ -72,9 +75,23 @@ HasFailedOften {D} count often stage = (disks : Disks D) → HasDisks disks stag
 abbrev pub HasNotFailed : {D : Type 0} → (D → ℕ) → Stage D → Type 0
 HasNotFailed {D} count stage = (disks : Disks D) → HasDisks disks stage → faults_of count disks ≡ 0
 
--- what the disks of a stage tell of their falls, where all three do
-abbrev pub HasFates : {D : Type 0} → (D → Option Fate) → (Fate → Fate → Fate → Type 0) → Stage D → Type 0
-HasFates {D} fate P stage = (disks : Disks D) → HasDisks disks stage → (l i s : Fate) → fate disks.log ≡ Some l → fate disks.image ≡ Some i → fate disks.second ≡ Some s → P l i s
+-- three disks tell of their falls
+pub record AreTelling {D : Type 0} (fate : D → Option Fate) (disks : Disks D) : Type 0 where
+  pub log : Fate
+  pub image : Fate
+  pub second : Fate
+  pub log_is : fate disks.log ≡ Some log
+  pub image_is : fate disks.image ≡ Some image
+  pub second_is : fate disks.second ≡ Some second
+
+-- this holds of what three disks tell of their falls, where all do; in a scripted world they do
+pub record AreFated {D : Type 0} (fate : D → Option Fate) (scripted : Bool) (P : Fate → Fate → Fate → Type 0) (disks : Disks D) : Type 0 where
+  pub falls : (l i s : Fate) → fate disks.log ≡ Some l → fate disks.image ≡ Some i → fate disks.second ≡ Some s → P l i s
+  pub tell : scripted ≡ true → AreTelling fate disks
+
+-- so of the disks of a stage
+abbrev pub HasFates : {D : Type 0} → (D → Option Fate) → Bool → (Fate → Fate → Fate → Type 0) → Stage D → Type 0
+HasFates {D} fate scripted P stage = (disks : Disks D) → HasDisks disks stage → AreFated fate scripted P disks
 
 -- three disks have so few falls left that with so many that were met they are no more than the cuts
 abbrev pub HaveFallen : ℕ → ℕ → Fate → Fate → Fate → Type 0
@@ -104,7 +121,7 @@ module _ {D O U : Type 0} (told : Watched D → Option Story) (count : Watched D
     pub books : HasBooks v s
     pub drew : HasDrawn telling g.handler s.luck (draws_of (turns_in s.node.stage))
     pub causes : HasFailedOften count s.restarts s.node.stage
-    pub fates : HasFates fate (AreRaised (terms.cuts v) s.restarts) s.node.stage
+    pub fates : HasFates fate terms.scripted (AreRaised (terms.cuts v) s.restarts) s.node.stage
     pub calm : s.lines.items ≡ [] → HasNotFailed count s.node.stage
     pub again : descents 0 (numbers_of (emissions_in s.node.stage) ++ (emitted_through s.node.stage + 1) ∷ []) ≤ length s.lines.items
 
@@ -117,7 +134,7 @@ module _ {D O U : Type 0} (told : Watched D → Option Story) (count : Watched D
     pub down : IsDown told g v given stood_for doubt s.node.stage
     pub drew : HasDrawn telling g.handler s.luck (draws_of (turns_in s.node.stage) ++ doubted doubt)
     pub causes : HasFailedOften count (s.restarts + 1) s.node.stage
-    pub fates : HasFates fate (HaveFallen (terms.cuts v) (s.restarts + 1)) s.node.stage
+    pub fates : HasFates fate terms.scripted (HaveFallen (terms.cuts v) (s.restarts + 1)) s.node.stage
     pub again : descents 0 (numbers_of (emissions_in s.node.stage)) ≤ length s.lines.items
 
   -- what a restart of node v leaves of it, by the answer
@@ -159,6 +176,7 @@ module _ {D O U : Type 0} (told : Watched D → Option Story) (count : Watched D
 
   -- by the answer of visits
   abbrev pub AccountsRunFault : RunFault → ℕ → Run D O U → Type 0
+  AccountsRunFault (run_faults.Damaged v disk place) made r = Unit {0}
   AccountsRunFault (Down v) made r = IsUsedUp made v r ⊎ AreAccounted made r
   AccountsRunFault run_faults.Memory made r = Unit {0}
 

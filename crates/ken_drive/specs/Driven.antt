@@ -1,5 +1,5 @@
 -- What a whole run leaves: what its world keeps of each node, beside the lines of its report.
-use Rattle.std.specs.Prelude.{◌≡◌, ◌⊎◌, ℕ, ◌+◌, ◌<◌, ◌≤◌, ◌==◌, List, [], length, map, filter, slice_index_or, Option, Some, None, IfSome}
+use Rattle.std.specs.Prelude.{◌≡◌, ◌⊎◌, ℕ, ◌<◌, ◌≤◌, ◌==◌, List, [], length, map, filter, slice_index_or, Option, Some, None, IfSome, Result, Ok, Err}
 use Rattle.std.specs.List.{flat_map}
 use Rattle.ken_disk.specs.Story.{Story}
 use Rattle.ken_model.specs.declared.messages.Out.{Out}
@@ -7,24 +7,30 @@ use Rattle.ken_model.specs.declared.messages.Step.{Step}
 use Rattle.ken_model.specs.declared.reports.Emission.{Emission}
 use Rattle.ken_model.specs.declared.reports.RestartLine.{RestartLine}
 use Rattle.ken_model.specs.Emissions.{emitted_by}
-use Rattle.ken_model.specs.Game.{Game}
+use Rattle.ken_model.specs.Game.{Game, game_of}
 use Rattle.ken_model.specs.Handler.{Handler}
 use Rattle.ken_model.specs.Schedule.{play}
 use Rattle.ken_app.specs.Oracles.{Telling}
+use Rattle.ken_ship.specs.Fates as ship
 use Rattle.ken_store.specs.declared.disks.Disks.{Disks}
 use Rattle.ken_node.specs.Synced.{HasSynced}
 use Rattle.ken_disk.specs.Fates.{Fate}
 use Rattle.ken_model.specs.declared.reports.Lines.{Lines}
 use Rattle.ken_model.specs.Laws.{steps_of}
 use Rattle.ken_node.specs.declared.watched.Watched.{Watched}
+use Rattle.ken_script.specs.declared.scripts.Script.{Script}
+use Rattle.ken_drive.specs.declared.faults.RunFault.{RunFault}
+use Rattle.ken_drive.specs.declared.faults.RunFault.TheVariants.{Down}
+use Rattle.ken_drive.specs.declared.faults.RunFault.TheVariants as run_faults
 use Rattle.ken_drive.specs.declared.run.Run.{Run}
 use Rattle.ken_drive.specs.declared.station.Station.{Station}
-use Rattle.ken_drive.specs.Accounts.{AreAccounted, Terms, faults_of}
-use Rattle.ken_drive.specs.Ended.{IsEnded, IsReportOf}
+use Rattle.ken_drive.specs.Accounts.{AreAccounted, IsUsedUp, Terms, faults_of}
+use Rattle.ken_drive.specs.Ended.{IsEnded, IsReportOf, IsRunOf}
 use Rattle.ken_drive.specs.Finishing.{WasKept}
 use Rattle.ken_drive.specs.Recovering.{RecoversAt}
+use Rattle.ken_drive.specs.Refusals.{AreRefused, IsWornOut}
 use Rattle.ken_drive.specs.Sequences.{IsSubsequence, NeverFall, descents}
-use Rattle.ken_drive.specs.Worlds.{IsOf}
+use Rattle.ken_drive.specs.Worlds.{HasKeptNothing, IsOf}
 
 -- what contracts see of a node's devices: the stories of its disks, with their faults; what its oracle tells; what its outlet took, with
 -- its faults
@@ -92,6 +98,39 @@ pub record HasGoneDown {D O U : Type 0} (views : Views D O U) (g : Game) (most v
   pub out : U
   pub is : kept ≡ Some (disks, luck, out)
   pub cause : (most < faults_of views.faults disks) ⊎ (65 ≤ views.refused out)
+
+-- what a run leaves that was drained and then told what it says, by the answer: it has ended, with a report and its accounts; or a node has
+-- failed too often
+module _ {D O U : Type 0} (told : Watched D → Option Story) (size : Watched D → ℕ) (count : Watched D → ℕ) (fate : Watched D → Option Fate) (telling : Telling O) (took : U → Option (List Out)) (refused : U → ℕ) (calls : U → Option ship.Fate) (terms : Terms) (g : Game) where
+  pub record HasToldOf (l : Lines) (r : Run D O U) : Type 0 where
+    pub ended : IsEnded told size took g r
+    pub report : IsReportOf told size took g r ended l
+    pub accounts : AreAccounted told count fate telling terms g ended.made r
+
+  pub record HasStoppedAt (v : ℕ) (r : Run D O U) : Type 0 where
+    pub known : v < g.nodes
+    pub width : length r.stations.items ≡ g.nodes
+    pub refusals : AreRefused refused calls terms g.nodes r
+    pub cause : IsUsedUp told count fate telling terms g g.nodes v r ⊎ IsWornOut refused calls terms v r
+
+  abbrev pub EndsBy : Result Lines RunFault → Run D O U → Type 0
+  EndsBy (Ok l) r = HasToldOf l r
+  EndsBy (Err (Down v)) r = HasStoppedAt v r
+  EndsBy (Err run_faults.Memory) r = Unit {0}
+  EndsBy (Err (run_faults.Damaged v disk place)) r = ⊥
+
+-- what a whole run of a script leaves, by the answer: its lines are the report of a run, and the devices that are kept show it; or a node has
+-- gone down, as its devices show. After want of memory nothing is kept
+module _ {D O U : Type 0} (views : Views D O U) (script : Script) (kept : ℕ → Option (Disks D × O × U)) where
+  pub record HasDriven (l : Lines) : Type 0 where
+    pub run : IsRunOf (game_of script.facts) l
+    pub keeps : KeepsRun views (game_of script.facts) script.seed script.restarts (steps_of l.turns) l.emissions l.restarts kept
+
+  abbrev pub DrivesBy : Result Lines RunFault → Type 0
+  DrivesBy (Ok l) = HasDriven l
+  DrivesBy (Err (Down v)) = HasGoneDown views (game_of script.facts) script.restarts v (kept v)
+  DrivesBy (Err run_faults.Memory) = HasKeptNothing kept
+  DrivesBy (Err (run_faults.Damaged v disk place)) = ⊥
 
 -- ---- how they follow
 

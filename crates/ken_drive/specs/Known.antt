@@ -25,5 +25,5 @@ pub record HasAccount {D O U : Type 0} (told : Watched D → Option Story) (coun
   pub most : s.restarts ≤ terms.most
   pub causes : HasFailedOften count s.restarts s.node.stage
   pub calm : s.lines.items ≡ [] → HasNotFailed count s.node.stage
-  pub fates : HasFates fate (AreRaised (terms.cuts v) s.restarts) s.node.stage
+  pub fates : HasFates fate terms.scripted (AreRaised (terms.cuts v) s.restarts) s.node.stage
   pub again : descents 0 (map (λ (o : Out). o.number) outs) ≤ length s.lines.items

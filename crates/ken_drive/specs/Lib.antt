@@ -17,3 +17,5 @@ pub mod Endings
 pub mod Refusals
 pub mod Finishing
 pub mod Driven
+pub mod Starting
+pub mod Sparing

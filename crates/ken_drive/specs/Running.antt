@@ -94,6 +94,7 @@ module _ {D O U : Type 0} (told : Watched D → Option Story) (size : Watched D 
   abbrev pub LeavesRunFault : RunFault → Game → ℕ → Run D O U → Type 0
   LeavesRunFault (Down v) g made r = IsStopped g made v r ⊎ ((v < made) × IsRunning g made r)
   LeavesRunFault run_faults.Memory g made r = Unit {0}
+  LeavesRunFault (run_faults.Damaged v disk place) g made r = ⊥
 
   abbrev pub LeavesRunBy : {T : Type 0} → Result T RunFault → Game → ℕ → Run D O U → Type 0
   LeavesRunBy (Ok x) g made r = IsRunning g made r

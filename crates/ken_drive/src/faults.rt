@@ -5,6 +5,9 @@ use thiserror::Error;
 /// Why a run didn't go on.
 #[derive(Clone, Copy, Debug, Drop, PartialEq, Eq, Error)]
 pub enum RunFault {
+    /// Bytes of a disk are none that a node writes. Over disks that keep the model it never comes.
+    #[error("node {node} disk {disk} is damaged at {place}")]
+    Damaged { node: u8, disk: u8, place: u64 },
     /// A disk of a node failed once more than the node may be restarted, or its outlet refused one output once too often.
     #[error("node {node} is down")]
     Down { node: u8 },

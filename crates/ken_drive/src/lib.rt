@@ -2,9 +2,13 @@
 #![tactic(auto)]
 
 mod copies;
+mod creation;
+mod devices;
 mod drain;
+mod driving;
 mod ending;
 mod faults;
+mod finishing;
 mod inboxes;
 mod laws;
 mod lines;
@@ -12,14 +16,18 @@ mod memory;
 mod oracle;
 mod outlet;
 mod run;
+mod starting;
 mod station;
 mod timeline;
 mod world;
 
+pub use driving::drive;
 pub use faults::RunFault;
+pub use finishing::finish;
 pub use laws::{a_node_is_recovered, ended_runs_keep};
 pub use memory::{Kept, MemWorld};
 pub use oracle::MemOracle;
 pub use outlet::MemOutlet;
 pub use run::Run;
+pub use starting::start;
 pub use world::{DISKS, World};

@@ -7,7 +7,7 @@ ghost use Rattle.ken_node.specs.NodeCalls.{UnlessMemory};
 ghost use Rattle.ken_flow.specs.Standstill.{Emits, Heard, Passed, Posted, Rested, Visited, Written};
 ghost use Rattle.ken_drive.specs.Flowing.{AllMoved, Moves, work_left};
 ghost use Rattle.ken_drive.specs.Left.{left_at, outputs_left, pages_left, tries_at, turns_left};
-ghost use Rattle.ken_drive.specs.Refusals.{AreRefused, RefusedBy, RefusedRunBy};
+ghost use Rattle.ken_drive.specs.Refusals.{AreRefused, RefusedBy, RefusedRunBy, StopsBy};
 ghost use Rattle.ken_drive.specs.Running.{IsRunning, IsStopped, LeavesBy, LeavesRunBy, MayBeRestarted, MayGoOn, MayWork};
 
 use crate::faults::RunFault;
@@ -38,7 +38,7 @@ impl<D: Disk, O: Oracle, U: Outlet> Run<D, O, U> {
         requires { MayWork ⟦<Watched<D> as Disk>⟧.told ⟦<Watched<D> as Disk>⟧.size U.took node self.old }
         ensures leaves { (g : Game) (made : ℕ) → IsRunning ⟦<Watched<D> as Disk>⟧.told ⟦<Watched<D> as Disk>⟧.size U.took g made self.old → node < made → LeavesBy ⟦<Watched<D> as Disk>⟧.told ⟦<Watched<D> as Disk>⟧.size U.took result g made node self.new }
         ensures accounts { (terms : Terms) (g : Game) (made : ℕ) → IsRunning ⟦<Watched<D> as Disk>⟧.told ⟦<Watched<D> as Disk>⟧.size U.took g made self.old → node < made → AreAccounted ⟦<Watched<D> as Disk>⟧.told ⟦<Watched<D> as Disk>⟧.faults ⟦<Watched<D> as Disk>⟧.fate O.telling terms g made self.old → AccountsBy ⟦<Watched<D> as Disk>⟧.told ⟦<Watched<D> as Disk>⟧.faults ⟦<Watched<D> as Disk>⟧.fate O.telling terms g result made node self.new }
-        ensures refused { (made : ℕ) → node < made → AreRefused U.faults U.fate made self.old → RefusedBy U.faults U.fate result made node self.new }
+        ensures refused { (terms : Terms) (made : ℕ) → node < made → AreRefused U.faults U.fate terms made self.old → RefusedBy U.faults U.fate terms result made node self.new }
         ensures fewer { result ≡ Ok Took.Turn → left_at turns_left self.new.stations.items node < left_at turns_left self.old.stations.items node }
         ensures moves { OnOk result (Moves ⟦<Watched<D> as Disk>⟧.told ⟦<Watched<D> as Disk>⟧.size U.took (λ g. Rested g node) node self.old self.new) }
         ensures worked { result ≡ Ok Took.Turn → work_left self.new < work_left self.old }
@@ -52,7 +52,7 @@ impl<D: Disk, O: Oracle, U: Outlet> Run<D, O, U> {
         requires { MayWork ⟦<Watched<D> as Disk>⟧.told ⟦<Watched<D> as Disk>⟧.size U.took node self.old }
         ensures leaves { (g : Game) (made : ℕ) → IsRunning ⟦<Watched<D> as Disk>⟧.told ⟦<Watched<D> as Disk>⟧.size U.took g made self.old → node < made → LeavesBy ⟦<Watched<D> as Disk>⟧.told ⟦<Watched<D> as Disk>⟧.size U.took result g made node self.new }
         ensures accounts { (terms : Terms) (g : Game) (made : ℕ) → IsRunning ⟦<Watched<D> as Disk>⟧.told ⟦<Watched<D> as Disk>⟧.size U.took g made self.old → node < made → AreAccounted ⟦<Watched<D> as Disk>⟧.told ⟦<Watched<D> as Disk>⟧.faults ⟦<Watched<D> as Disk>⟧.fate O.telling terms g made self.old → AccountsBy ⟦<Watched<D> as Disk>⟧.told ⟦<Watched<D> as Disk>⟧.faults ⟦<Watched<D> as Disk>⟧.fate O.telling terms g result made node self.new }
-        ensures refused { (made : ℕ) → node < made → AreRefused U.faults U.fate made self.old → RefusedBy U.faults U.fate result made node self.new }
+        ensures refused { (terms : Terms) (made : ℕ) → node < made → AreRefused U.faults U.fate terms made self.old → RefusedBy U.faults U.fate terms result made node self.new }
         ensures fewer { result ≡ Ok true → left_at pages_left self.new.stations.items node < left_at pages_left self.old.stations.items node }
         ensures moves { OnOk result (Moves ⟦<Watched<D> as Disk>⟧.told ⟦<Watched<D> as Disk>⟧.size U.took (λ g. Written node) node self.old self.new) }
         ensures less { IsErrOf result NodeFault.Disk → work_left self.new ≤ work_left self.old }
@@ -67,7 +67,7 @@ impl<D: Disk, O: Oracle, U: Outlet> Run<D, O, U> {
         ensures accounts { (terms : Terms) (g : Game) (made : ℕ) → IsRunning ⟦<Watched<D> as Disk>⟧.told ⟦<Watched<D> as Disk>⟧.size U.took g made self.old → node < made → AreAccounted ⟦<Watched<D> as Disk>⟧.told ⟦<Watched<D> as Disk>⟧.faults ⟦<Watched<D> as Disk>⟧.fate O.telling terms g made self.old → AccountsBy ⟦<Watched<D> as Disk>⟧.told ⟦<Watched<D> as Disk>⟧.faults ⟦<Watched<D> as Disk>⟧.fate O.telling terms g result made node self.new }
         ensures moves { OnOk result (Moves ⟦<Watched<D> as Disk>⟧.told ⟦<Watched<D> as Disk>⟧.size U.took (λ g. Written node) node self.old self.new) }
         ensures less { IsErrOf result NodeFault.Disk → work_left self.new ≤ work_left self.old }
-        ensures refused { (made : ℕ) → node < made → AreRefused U.faults U.fate made self.old → RefusedBy U.faults U.fate result made node self.new }
+        ensures refused { (terms : Terms) (made : ℕ) → node < made → AreRefused U.faults U.fate terms made self.old → RefusedBy U.faults U.fate terms result made node self.new }
     {
         self.stations[usize::from(node)].node.settle()
     }
@@ -79,7 +79,7 @@ impl<D: Disk, O: Oracle, U: Outlet> Run<D, O, U> {
         ensures accounts { (terms : Terms) (g : Game) (made : ℕ) → IsRunning ⟦<Watched<D> as Disk>⟧.told ⟦<Watched<D> as Disk>⟧.size U.took g made self.old → node < made → AreAccounted ⟦<Watched<D> as Disk>⟧.told ⟦<Watched<D> as Disk>⟧.faults ⟦<Watched<D> as Disk>⟧.fate O.telling terms g made self.old → AccountsBy ⟦<Watched<D> as Disk>⟧.told ⟦<Watched<D> as Disk>⟧.faults ⟦<Watched<D> as Disk>⟧.fate O.telling terms g result made node self.new }
         ensures moves { OnOk result (Moves ⟦<Watched<D> as Disk>⟧.told ⟦<Watched<D> as Disk>⟧.size U.took (λ g. Posted g node) node self.old self.new) }
         ensures less { IsErrOf result NodeFault.Disk → work_left self.new ≤ work_left self.old }
-        ensures refused { (made : ℕ) → node < made → AreRefused U.faults U.fate made self.old → RefusedBy U.faults U.fate result made node self.new }
+        ensures refused { (terms : Terms) (made : ℕ) → node < made → AreRefused U.faults U.fate terms made self.old → RefusedBy U.faults U.fate terms result made node self.new }
     {
         self.stations[usize::from(node)].send(self.alloc, &mut self.waiting)?;
         Ok(())
@@ -92,7 +92,7 @@ impl<D: Disk, O: Oracle, U: Outlet> Run<D, O, U> {
         ensures accounts { (terms : Terms) (g : Game) (made : ℕ) → IsRunning ⟦<Watched<D> as Disk>⟧.told ⟦<Watched<D> as Disk>⟧.size U.took g made self.old → node < made → AreAccounted ⟦<Watched<D> as Disk>⟧.told ⟦<Watched<D> as Disk>⟧.faults ⟦<Watched<D> as Disk>⟧.fate O.telling terms g made self.old → AccountsBy ⟦<Watched<D> as Disk>⟧.told ⟦<Watched<D> as Disk>⟧.faults ⟦<Watched<D> as Disk>⟧.fate O.telling terms g result made node self.new }
         ensures moves { OnOk result (Moves ⟦<Watched<D> as Disk>⟧.told ⟦<Watched<D> as Disk>⟧.size U.took (λ g. Heard g node) node self.old self.new) }
         ensures less { IsErrOf result NodeFault.Disk → work_left self.new ≤ work_left self.old }
-        ensures refused { (made : ℕ) → node < made → AreRefused U.faults U.fate made self.old → RefusedBy U.faults U.fate result made node self.new }
+        ensures refused { (terms : Terms) (made : ℕ) → node < made → AreRefused U.faults U.fate terms made self.old → RefusedBy U.faults U.fate terms result made node self.new }
     {
         self.stations[usize::from(node)].hear(self.alloc, &mut self.waiting)?;
         Ok(())
@@ -103,7 +103,7 @@ impl<D: Disk, O: Oracle, U: Outlet> Run<D, O, U> {
         requires { MayWork ⟦<Watched<D> as Disk>⟧.told ⟦<Watched<D> as Disk>⟧.size U.took node self.old }
         ensures leaves { (g : Game) (made : ℕ) → IsRunning ⟦<Watched<D> as Disk>⟧.told ⟦<Watched<D> as Disk>⟧.size U.took g made self.old → node < made → LeavesBy ⟦<Watched<D> as Disk>⟧.told ⟦<Watched<D> as Disk>⟧.size U.took result g made node self.new }
         ensures accounts { (terms : Terms) (g : Game) (made : ℕ) → IsRunning ⟦<Watched<D> as Disk>⟧.told ⟦<Watched<D> as Disk>⟧.size U.took g made self.old → node < made → AreAccounted ⟦<Watched<D> as Disk>⟧.told ⟦<Watched<D> as Disk>⟧.faults ⟦<Watched<D> as Disk>⟧.fate O.telling terms g made self.old → AccountsBy ⟦<Watched<D> as Disk>⟧.told ⟦<Watched<D> as Disk>⟧.faults ⟦<Watched<D> as Disk>⟧.fate O.telling terms g result made node self.new }
-        ensures refused { (made : ℕ) → node < made → AreRefused U.faults U.fate made self.old → RefusedBy U.faults U.fate result made node self.new }
+        ensures refused { (terms : Terms) (made : ℕ) → node < made → AreRefused U.faults U.fate terms made self.old → RefusedBy U.faults U.fate terms result made node self.new }
         ensures fewer { (number : ℕ) → result ≡ Ok (Done number) → left_at outputs_left self.new.stations.items node < left_at outputs_left self.old.stations.items node }
         ensures moves { OnOk result (Moves ⟦<Watched<D> as Disk>⟧.told ⟦<Watched<D> as Disk>⟧.size U.took (λ g. Emits node) node self.old self.new) }
         ensures less { IsErrOf result NodeFault.Disk → work_left self.new ≤ work_left self.old }
@@ -118,7 +118,7 @@ impl<D: Disk, O: Oracle, U: Outlet> Run<D, O, U> {
         ensures accounts { (terms : Terms) (g : Game) (made : ℕ) → IsRunning ⟦<Watched<D> as Disk>⟧.told ⟦<Watched<D> as Disk>⟧.size U.took g made self.old → node < made → AreAccounted ⟦<Watched<D> as Disk>⟧.told ⟦<Watched<D> as Disk>⟧.faults ⟦<Watched<D> as Disk>⟧.fate O.telling terms g made self.old → AccountsBy ⟦<Watched<D> as Disk>⟧.told ⟦<Watched<D> as Disk>⟧.faults ⟦<Watched<D> as Disk>⟧.fate O.telling terms g result made node self.new }
         ensures moves { OnOk result (Moves ⟦<Watched<D> as Disk>⟧.told ⟦<Watched<D> as Disk>⟧.size U.took (λ g. Rested g node) node self.old self.new) }
         ensures less { IsErrOf result NodeFault.Disk → work_left self.new ≤ work_left self.old }
-        ensures refused { (made : ℕ) → node < made → AreRefused U.faults U.fate made self.old → RefusedBy U.faults U.fate result made node self.new }
+        ensures refused { (terms : Terms) (made : ℕ) → node < made → AreRefused U.faults U.fate terms made self.old → RefusedBy U.faults U.fate terms result made node self.new }
     {
         'turns: while let Took::Turn = self.turn(node)? {}
         Ok(())
@@ -131,7 +131,7 @@ impl<D: Disk, O: Oracle, U: Outlet> Run<D, O, U> {
         ensures accounts { (terms : Terms) (g : Game) (made : ℕ) → IsRunning ⟦<Watched<D> as Disk>⟧.told ⟦<Watched<D> as Disk>⟧.size U.took g made self.old → node < made → AreAccounted ⟦<Watched<D> as Disk>⟧.told ⟦<Watched<D> as Disk>⟧.faults ⟦<Watched<D> as Disk>⟧.fate O.telling terms g made self.old → AccountsBy ⟦<Watched<D> as Disk>⟧.told ⟦<Watched<D> as Disk>⟧.faults ⟦<Watched<D> as Disk>⟧.fate O.telling terms g result made node self.new }
         ensures moves { OnOk result (Moves ⟦<Watched<D> as Disk>⟧.told ⟦<Watched<D> as Disk>⟧.size U.took (λ g. Written node) node self.old self.new) }
         ensures less { IsErrOf result NodeFault.Disk → work_left self.new ≤ work_left self.old }
-        ensures refused { (made : ℕ) → node < made → AreRefused U.faults U.fate made self.old → RefusedBy U.faults U.fate result made node self.new }
+        ensures refused { (terms : Terms) (made : ℕ) → node < made → AreRefused U.faults U.fate terms made self.old → RefusedBy U.faults U.fate terms result made node self.new }
     {
         'pages: while self.patch(node)? {}
         Ok(())
@@ -144,7 +144,7 @@ impl<D: Disk, O: Oracle, U: Outlet> Run<D, O, U> {
         ensures accounts { (terms : Terms) (g : Game) (made : ℕ) → IsRunning ⟦<Watched<D> as Disk>⟧.told ⟦<Watched<D> as Disk>⟧.size U.took g made self.old → node < made → AreAccounted ⟦<Watched<D> as Disk>⟧.told ⟦<Watched<D> as Disk>⟧.faults ⟦<Watched<D> as Disk>⟧.fate O.telling terms g made self.old → AccountsBy ⟦<Watched<D> as Disk>⟧.told ⟦<Watched<D> as Disk>⟧.faults ⟦<Watched<D> as Disk>⟧.fate O.telling terms g result made node self.new }
         ensures moves { OnOk result (Moves ⟦<Watched<D> as Disk>⟧.told ⟦<Watched<D> as Disk>⟧.size U.took (λ g. Emits node) node self.old self.new) }
         ensures less { IsErrOf result NodeFault.Disk → work_left self.new ≤ work_left self.old }
-        ensures refused { (made : ℕ) → node < made → AreRefused U.faults U.fate made self.old → RefusedBy U.faults U.fate result made node self.new }
+        ensures refused { (terms : Terms) (made : ℕ) → node < made → AreRefused U.faults U.fate terms made self.old → RefusedBy U.faults U.fate terms result made node self.new }
     {
         'outputs: while let Emit::Done(_) = self.emit(node)? {}
         Ok(())
@@ -157,7 +157,7 @@ impl<D: Disk, O: Oracle, U: Outlet> Run<D, O, U> {
         ensures accounts { (terms : Terms) (g : Game) (made : ℕ) → IsRunning ⟦<Watched<D> as Disk>⟧.told ⟦<Watched<D> as Disk>⟧.size U.took g made self.old → node < made → AreAccounted ⟦<Watched<D> as Disk>⟧.told ⟦<Watched<D> as Disk>⟧.faults ⟦<Watched<D> as Disk>⟧.fate O.telling terms g made self.old → AccountsBy ⟦<Watched<D> as Disk>⟧.told ⟦<Watched<D> as Disk>⟧.faults ⟦<Watched<D> as Disk>⟧.fate O.telling terms g result made node self.new }
         ensures moves { OnOk result (Moves ⟦<Watched<D> as Disk>⟧.told ⟦<Watched<D> as Disk>⟧.size U.took (λ g. Visited g node) node self.old self.new) }
         ensures less { IsErrOf result NodeFault.Disk → work_left self.new ≤ work_left self.old }
-        ensures refused { (made : ℕ) → node < made → AreRefused U.faults U.fate made self.old → RefusedBy U.faults U.fate result made node self.new }
+        ensures refused { (terms : Terms) (made : ℕ) → node < made → AreRefused U.faults U.fate terms made self.old → RefusedBy U.faults U.fate terms result made node self.new }
     {
         self.turns(node)?;
         self.pages(node)?;
@@ -173,7 +173,7 @@ impl<D: Disk, O: Oracle, U: Outlet> Run<D, O, U> {
         requires left { tries_at self.old.stations.items node < most }
         ensures leaves { (g : Game) (made : ℕ) → IsStopped ⟦<Watched<D> as Disk>⟧.told ⟦<Watched<D> as Disk>⟧.size U.took g made node self.old → LeavesBy ⟦<Watched<D> as Disk>⟧.told ⟦<Watched<D> as Disk>⟧.size U.took result g made node self.new }
         ensures accounts { (terms : Terms) (g : Game) (made : ℕ) → IsStopped ⟦<Watched<D> as Disk>⟧.told ⟦<Watched<D> as Disk>⟧.size U.took g made node self.old → most ≡ terms.most → OneIsHeld ⟦<Watched<D> as Disk>⟧.told ⟦<Watched<D> as Disk>⟧.faults ⟦<Watched<D> as Disk>⟧.fate O.telling terms g made node self.old → AccountsBy ⟦<Watched<D> as Disk>⟧.told ⟦<Watched<D> as Disk>⟧.faults ⟦<Watched<D> as Disk>⟧.fate O.telling terms g result made node self.new }
-        ensures refused { (made : ℕ) → node < made → AreRefused U.faults U.fate made self.old → RefusedBy U.faults U.fate result made node self.new }
+        ensures refused { (terms : Terms) (made : ℕ) → node < made → AreRefused U.faults U.fate terms made self.old → RefusedBy U.faults U.fate terms result made node self.new }
         ensures tried { IsErrOf result NodeFault.Disk → tries_at self.new.stations.items node ≡ tries_at self.old.stations.items node + 1 }
         ensures same { self.new.restarts ≡ self.old.restarts }
         ensures worked { most ≤ self.old.restarts → UnlessMemory result (work_left self.new < work_left self.old) }
@@ -195,13 +195,17 @@ impl<D: Disk, O: Oracle, U: Outlet> Run<D, O, U> {
         ensures leaves { (g : Game) (made : ℕ) → IsStopped ⟦<Watched<D> as Disk>⟧.told ⟦<Watched<D> as Disk>⟧.size U.took g made node self.old → LeavesRunBy ⟦<Watched<D> as Disk>⟧.told ⟦<Watched<D> as Disk>⟧.size U.took result g made self.new }
         ensures accounts { (terms : Terms) (g : Game) (made : ℕ) → IsStopped ⟦<Watched<D> as Disk>⟧.told ⟦<Watched<D> as Disk>⟧.size U.took g made node self.old → OneIsHeld ⟦<Watched<D> as Disk>⟧.told ⟦<Watched<D> as Disk>⟧.faults ⟦<Watched<D> as Disk>⟧.fate O.telling terms g made node self.old → AccountsRunBy ⟦<Watched<D> as Disk>⟧.told ⟦<Watched<D> as Disk>⟧.faults ⟦<Watched<D> as Disk>⟧.fate O.telling terms g result made self.new }
         ensures worked { OnOk result (work_left self.new < work_left self.old) }
-        ensures refused { (made : ℕ) → node < made → AreRefused U.faults U.fate made self.old → RefusedRunBy U.faults U.fate result made self.new }
+        ensures refused { (terms : Terms) (made : ℕ) → node < made → AreRefused U.faults U.fate terms made self.old → RefusedRunBy U.faults U.fate terms result made self.new }
+        ensures stops { (terms : Terms) (g : Game) (made : ℕ) → IsStopped ⟦<Watched<D> as Disk>⟧.told ⟦<Watched<D> as Disk>⟧.size U.took g made node self.old → OneIsHeld ⟦<Watched<D> as Disk>⟧.told ⟦<Watched<D> as Disk>⟧.faults ⟦<Watched<D> as Disk>⟧.fate O.telling terms g made node self.old → StopsBy ⟦<Watched<D> as Disk>⟧.told ⟦<Watched<D> as Disk>⟧.faults ⟦<Watched<D> as Disk>⟧.fate O.telling U.faults U.fate terms g result made self.new }
     {
         let most = self.restarts;
         'tries: while self.tries(node) < most {
             match self.restart_once(node, most) {
                 Ok(()) => return Ok(()),
                 Err(NodeFault::Disk) => (),
+                Err(NodeFault::Damaged { disk, place }) => {
+                    return Err(RunFault::Damaged { node, disk, place });
+                }
                 Err(_) => return Err(RunFault::Memory),
             }
         }
@@ -214,13 +218,15 @@ impl<D: Disk, O: Oracle, U: Outlet> Run<D, O, U> {
         ensures leaves { (g : Game) (made : ℕ) → IsRunning ⟦<Watched<D> as Disk>⟧.told ⟦<Watched<D> as Disk>⟧.size U.took g made self.old → node < made → LeavesRunBy ⟦<Watched<D> as Disk>⟧.told ⟦<Watched<D> as Disk>⟧.size U.took result g made self.new }
         ensures accounts { (terms : Terms) (g : Game) (made : ℕ) → IsRunning ⟦<Watched<D> as Disk>⟧.told ⟦<Watched<D> as Disk>⟧.size U.took g made self.old → node < made → AreAccounted ⟦<Watched<D> as Disk>⟧.told ⟦<Watched<D> as Disk>⟧.faults ⟦<Watched<D> as Disk>⟧.fate O.telling terms g made self.old → AccountsRunBy ⟦<Watched<D> as Disk>⟧.told ⟦<Watched<D> as Disk>⟧.faults ⟦<Watched<D> as Disk>⟧.fate O.telling terms g result made self.new }
         ensures moves { OnOk result (Moves ⟦<Watched<D> as Disk>⟧.told ⟦<Watched<D> as Disk>⟧.size U.took (λ g. Visited g node) node self.old self.new) }
-        ensures refused { (made : ℕ) → node < made → AreRefused U.faults U.fate made self.old → RefusedRunBy U.faults U.fate result made self.new }
+        ensures refused { (terms : Terms) (made : ℕ) → node < made → AreRefused U.faults U.fate terms made self.old → RefusedRunBy U.faults U.fate terms result made self.new }
+        ensures stops { (terms : Terms) (g : Game) (made : ℕ) → IsRunning ⟦<Watched<D> as Disk>⟧.told ⟦<Watched<D> as Disk>⟧.size U.took g made self.old → node < made → AreAccounted ⟦<Watched<D> as Disk>⟧.told ⟦<Watched<D> as Disk>⟧.faults ⟦<Watched<D> as Disk>⟧.fate O.telling terms g made self.old → AreRefused U.faults U.fate terms made self.old → StopsBy ⟦<Watched<D> as Disk>⟧.told ⟦<Watched<D> as Disk>⟧.faults ⟦<Watched<D> as Disk>⟧.fate O.telling U.faults U.fate terms g result made self.new }
     {
         match self.work(node) {
             Ok(()) => Ok(()),
             Err(NodeFault::Disk) => self.restart(node),
             Err(NodeFault::Outlet) => Err(RunFault::Down { node }),
-            Err(_) => Err(RunFault::Memory),
+            Err(NodeFault::Damaged { disk, place }) => Err(RunFault::Damaged { node, disk, place }),
+            Err(NodeFault::Memory) => Err(RunFault::Memory),
         }
     }
 
@@ -233,7 +239,8 @@ impl<D: Disk, O: Oracle, U: Outlet> Run<D, O, U> {
         ensures leaves { (g : Game) (made : ℕ) → IsRunning ⟦<Watched<D> as Disk>⟧.told ⟦<Watched<D> as Disk>⟧.size U.took g made self.old → LeavesRunBy ⟦<Watched<D> as Disk>⟧.told ⟦<Watched<D> as Disk>⟧.size U.took result g made self.new }
         ensures accounts { (terms : Terms) (g : Game) (made : ℕ) → IsRunning ⟦<Watched<D> as Disk>⟧.told ⟦<Watched<D> as Disk>⟧.size U.took g made self.old → AreAccounted ⟦<Watched<D> as Disk>⟧.told ⟦<Watched<D> as Disk>⟧.faults ⟦<Watched<D> as Disk>⟧.fate O.telling terms g made self.old → AccountsRunBy ⟦<Watched<D> as Disk>⟧.told ⟦<Watched<D> as Disk>⟧.faults ⟦<Watched<D> as Disk>⟧.fate O.telling terms g result made self.new }
         ensures moves { OnOk result (AllMoved ⟦<Watched<D> as Disk>⟧.told ⟦<Watched<D> as Disk>⟧.size U.took Passed self.old self.new) }
-        ensures refused { (made : ℕ) → self.old.nodes ≤ made → AreRefused U.faults U.fate made self.old → RefusedRunBy U.faults U.fate result made self.new }
+        ensures refused { (terms : Terms) (made : ℕ) → self.old.nodes ≤ made → AreRefused U.faults U.fate terms made self.old → RefusedRunBy U.faults U.fate terms result made self.new }
+        ensures stops { (terms : Terms) (g : Game) (made : ℕ) → IsRunning ⟦<Watched<D> as Disk>⟧.told ⟦<Watched<D> as Disk>⟧.size U.took g made self.old → AreAccounted ⟦<Watched<D> as Disk>⟧.told ⟦<Watched<D> as Disk>⟧.faults ⟦<Watched<D> as Disk>⟧.fate O.telling terms g made self.old → AreRefused U.faults U.fate terms made self.old → StopsBy ⟦<Watched<D> as Disk>⟧.told ⟦<Watched<D> as Disk>⟧.faults ⟦<Watched<D> as Disk>⟧.fate O.telling U.faults U.fate terms g result made self.new }
     {
         for node in 0..self.nodes {
             self.visit(node)?;

@@ -1,5 +1,5 @@
 -- The facts of a script that breaks no rule are within the limits of a run.
-use Rattle.std.proofs.Common.{◌≡◌, ℕ, suc, ◌+◌, ◌<◌, ◌≤◌, ◌&&◌, List, [], ◌∷◌, length, Bool, true, false, not, cond, if◌then◌else◌, nat_lt, position, Option, Some, None, is_none, option_map, option_and_then, unwrap_or, codes, lit≤, refl, ap, sym, ◌∙◌, arith}
+use Rattle.std.proofs.Common.{◌≡◌, ℕ, suc, ◌+◌, ◌<◌, ◌≤◌, ◌&&◌, List, [], ◌∷◌, length, Bool, true, false, not, cond, if◌then◌else◌, nat_lt, position, Option, Some, None, is_none, option_map, option_and_then, unwrap_or, codes, lit≤, refl, ap, arith}
 use Rattle.std.specs.List.{AllByRecursion, list_all, prefix_len}
 use Rattle.std.proofs.lemmas.Bool.Decides.{nat_tests}
 use Rattle.serde_json.specs.Data.{Data}
@@ -11,10 +11,11 @@ use Rattle.ken_model.specs.Game.{game_of}
 use Rattle.ken_script.specs.declared.scripts.TheConstants.{DEFAULT_PAGES, DEFAULT_TURNS}
 use Rattle.ken_script.specs.declared.scripts.Script.{Script}
 use Rattle.ken_script.specs.Keys.{whole, within, taken_or, items_in}
-use Rattle.ken_script.specs.Inputs.{both, node_of, input, input_of, inputs_of, least, overflow, wrong_input, long_text, is_plain, odd_text}
+use Rattle.ken_script.specs.Lists.{both, least, overflow}
+use Rattle.ken_script.specs.Inputs.{node_of, input, input_of, inputs_of, wrong_input, long_text, is_plain, odd_text}
 use Rattle.ken_script.specs.Faults.{first_of, rules_of, item_fault, node_count}
 use Rattle.ken_script.specs.Says.{States}
-use Rattle.ken_script.proofs.Items.{inputs_of-cons}
+use Rattle.ken_script.proofs.Lists.{all_of-each, length-all_of, false_of_not, true_of_not}
 
 none_broken : (rules : List (ℕ × Option ℕ)) → first_of rules ≡ None → AllByRecursion (λ r. r.1 ≡ None) rules
 none_broken [] e = tt
@@ -24,11 +25,11 @@ none_broken ((rule, Some place) ∷ more) e = absurd cc
 bounded : (least most n m : ℕ) → within least most m ≡ Some n → (least ≤ n) × (n ≤ most)
 bounded least most n m e = grind (arith, nat_tests)
 
-within_bounds : (least most n : ℕ) (o : Option ℕ) → option_and_then (within least most) o ≡ Some n → (least ≤ n) × (n ≤ most)
+pub within_bounds : (least most n : ℕ) (o : Option ℕ) → option_and_then (within least most) o ≡ Some n → (least ≤ n) × (n ≤ most)
 within_bounds least most n None e = absurd cc
 within_bounds least most n (Some m) e = bounded least most n m e
 
-taken_or_bounds : (absent least most n : ℕ) (value : Option Data) → least ≤ absent → absent ≤ most
+pub taken_or_bounds : (absent least most n : ℕ) (value : Option Data) → least ≤ absent → absent ≤ most
     → taken_or absent (λ v. option_and_then (within least most) (whole v)) value ≡ Some n → (least ≤ n) × (n ≤ most)
 taken_or_bounds absent least most n None low high e = let same : absent ≡ n = cc in rw (← same) (low, high)
 taken_or_bounds absent least most n (Some v) low high e = within_bounds least most n (whole v) e
@@ -40,10 +41,6 @@ past_end place end e = grind (arith, nat_tests)
 one_more : (b : Bool) (n m : ℕ) → suc n ≤ cond b (1 + m) 0 → (b ≡ true) × (n ≤ m)
 one_more true n m h = (refl, omega arith)
 one_more false n m h = absurd (omega arith)
-
-false_of_not : (b : Bool) → not b ≡ true → b ≡ false
-false_of_not true e = sym e
-false_of_not false e = refl
 
 all_fail : {T : Type 0} (p : T → Bool) (xs : List T) → length xs ≤ prefix_len (λ x. not (p x)) xs → AllByRecursion (λ x. p x ≡ false) xs
 all_fail p [] h = tt
@@ -58,7 +55,7 @@ none_passes p xs e = all_fail p xs (past_end (prefix_len (λ x. not (p x)) xs) (
 node_below : (nodes n m : ℕ) → ◌≡◌ {A = Option ℕ} (if nat_lt n nodes then Some n else None) (Some m) → m < nodes
 node_below nodes n m e = grind (arith, nat_tests)
 
-node_of_below : (nodes node : ℕ) (o : Option ℕ) → option_and_then (λ n. if nat_lt n nodes then Some n else None) o ≡ Some node → node < nodes
+pub node_of_below : (nodes node : ℕ) (o : Option ℕ) → option_and_then (λ n. if nat_lt n nodes then Some n else None) o ≡ Some node → node < nodes
 node_of_below nodes node None e = absurd cc
 node_of_below nodes node (Some n) e = node_below nodes n node e
 
@@ -76,16 +73,7 @@ input_of-node : (nodes : ℕ) (d : Data) (x : Input) → input_of nodes d ≡ So
 input_of-node nodes d x e = paired nodes (option_and_then both (as_array d)) x e
 
 inputs_of-nodes : (nodes : ℕ) (ds : List Data) (xs : List Input) → inputs_of nodes ds ≡ Some xs → AllByRecursion (λ (i : Input). i.node < nodes) xs
-inputs_of-nodes nodes [] xs e = let none : xs ≡ [] = cc in rw none tt
-inputs_of-nodes nodes (d ∷ ds) xs e =
-    let f = inputs_of-cons nodes d ds xs e in
-    rw f.all (input_of-node nodes d f.one f.first_is, inputs_of-nodes nodes ds f.others f.rest_is)
-
-length-inputs_of : (nodes : ℕ) (ds : List Data) (xs : List Input) → inputs_of nodes ds ≡ Some xs → length xs ≡ length ds
-length-inputs_of nodes [] xs e = let none : xs ≡ [] = cc in rw none
-length-inputs_of nodes (d ∷ ds) xs e =
-    let f = inputs_of-cons nodes d ds xs e in
-    ap length f.all ∙ ap suc (length-inputs_of nodes ds f.others f.rest_is)
+inputs_of-nodes nodes ds xs e = all_of-each (input_of nodes) (λ (i : Input). i.node < nodes) (input_of-node nodes) ds xs e
 
 second_none : (a b : Option ℕ) → least a b ≡ None → b ≡ None
 second_none None b e = e
@@ -97,7 +85,7 @@ items_within : (nodes : ℕ) (items : Option (List Data)) (xs : List Input) → 
 items_within nodes None xs right e = absurd cc
 items_within nodes (Some ds) xs right e =
     let few : length ds ≤ MAX_INPUTS = past_end MAX_INPUTS (length ds) (second_none (position (λ d. is_none (input_of nodes d)) ds) (overflow MAX_INPUTS ds) right) in
-    (rw (length-inputs_of nodes ds xs e) few, inputs_of-nodes nodes ds xs e)
+    (rw (length-all_of (input_of nodes) ds xs e) few, inputs_of-nodes nodes ds xs e)
 
 short_text : (room n : ℕ) → nat_lt room n ≡ false → n ≤ room
 short_text room n e = grind (arith, nat_tests)
@@ -120,10 +108,6 @@ plain_bytes (byte ∷ bytes) e =
     let each = two_true (is_plain byte) (list_all is_plain bytes) e in
     (plain_byte byte each.0, plain_bytes bytes each.1)
 
-true_of_not : (b : Bool) → not b ≡ false → b ≡ true
-true_of_not true e = refl
-true_of_not false e = sym e
-
 plain_texts : (xs : List Input) → AllByRecursion (λ (i : Input). not (list_all is_plain i.text) ≡ false) xs → AllByRecursion (λ (i : Input). ArePlain i.text) xs
 plain_texts [] h = tt
 plain_texts (x ∷ xs) h = (plain_bytes x.text (true_of_not (list_all is_plain x.text) h.0), plain_texts xs h.1)
@@ -136,8 +120,8 @@ module _ (d : Data) (s : Script) (states : States d s) where
       let turns = taken_or_bounds DEFAULT_TURNS 1 MAX_TURNS s.facts.turns (get (codes "turns") d) (lit≤ tt) (lit≤ tt) states.turns in
       let pages = taken_or_bounds DEFAULT_PAGES 1 MAX_PAGES states.pages (get (codes "pages") d) (lit≤ tt) (lit≤ tt) states.told_pages in
       let count : node_count d ≡ s.facts.nodes = ap (λ o. unwrap_or o 0) states.nodes in
-      let items = items_within (node_count d) (items_in d) s.facts.inputs unbroken.1.1.1.1.1.1.0 states.inputs in
-      let long : long_text s.facts.inputs ≡ None = rw states.inputs at unbroken.1.1.1.1.1.1.1.0 in
+      let items = items_within (node_count d) (items_in d) s.facts.inputs unbroken.1.1.1.1.1.1.1.0 states.inputs in
+      let long : long_text s.facts.inputs ≡ None = rw states.inputs at unbroken.1.1.1.1.1.1.1.1.0 in
       record {
         some_node = nodes.0;
         few_nodes = nodes.1;
@@ -151,5 +135,5 @@ module _ (d : Data) (s : Script) (states : States d s) where
   pub plain_run_of : IsPlainRun (game_of s.facts)
   plain_run_of =
       let unbroken = none_broken (rules_of d) states.right in
-      let odd : odd_text s.facts.inputs ≡ None = rw states.inputs at unbroken.1.1.1.1.1.1.1.1.0 in
+      let odd : odd_text s.facts.inputs ≡ None = rw states.inputs at unbroken.1.1.1.1.1.1.1.1.1.0 in
       plain_texts s.facts.inputs (none_passes (λ (i : Input). not (list_all is_plain i.text)) s.facts.inputs odd)

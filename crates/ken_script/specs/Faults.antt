@@ -1,11 +1,17 @@
 -- The rules of a script, in the order in which they are tried.
-use Rattle.std.specs.Prelude.{◌≡◌, ℕ, List, [], ◌∷◌, Option, Some, None, ⊤, unwrap_or, option_and_then}
+use Rattle.std.specs.Prelude.{◌≡◌, ℕ, List, [], ◌∷◌, Option, Some, None, ⊤, codes, unwrap_or, option_and_then}
 use Rattle.serde_json.specs.Data.{Data}
 use Rattle.ken_model.specs.declared.facts.Input.{Input}
 use Rattle.ken_script.specs.declared.faults.ScriptFault.{ScriptFault}
 use Rattle.ken_script.specs.declared.faults.ScriptFault.TheVariants.{Rule, Memory}
-use Rattle.ken_script.specs.Keys.{unknown_key, nodes_of, kind_in, pages_of, seed_of, turns_of, items_in}
+use Rattle.ken_net.specs.declared.act.LinkAct.{LinkAct}
+use Rattle.ken_script.specs.declared.scripts.TheConstants.{MAX_CUTS, MAX_ACTS, MAX_OUT_FAILS}
+use Rattle.ken_script.specs.declared.scripts.DiskCut.{DiskCut}
+use Rattle.ken_script.specs.declared.scripts.OutFail.{OutFail}
+use Rattle.ken_script.specs.Keys.{unknown_key, nodes_of, kind_in, pages_of, seed_of, turns_of, restarts_of, items_in, list_under}
+use Rattle.ken_script.specs.Lists.{all_of, wrong_item}
 use Rattle.ken_script.specs.Inputs.{inputs_of, wrong_input, long_text, odd_text}
+use Rattle.ken_script.specs.Mishaps.{cut_of, cut_spot, link_act_of, link_spot, out_fail_of, out_spot}
 use Rattle.ken_script.specs.Object.{IsObject}
 
 -- that place, where there is no value
@@ -26,6 +32,18 @@ node_count d = unwrap_or (nodes_of d) 0
 abbrev pub inputs_in : Data → Option (List Input)
 inputs_in d = option_and_then (inputs_of (node_count d)) (items_in d)
 
+-- the cuts of the script, if each item is one
+abbrev pub cuts_in : Data → Option (List DiskCut)
+cuts_in d = option_and_then (all_of (cut_of (node_count d))) (list_under (codes "cuts") d)
+
+-- the acts of the script under a key, if each item is one
+abbrev pub acts_in : List ℕ → Data → Option (List LinkAct)
+acts_in key d = option_and_then (all_of (link_act_of (node_count d))) (list_under key d)
+
+-- the failing calls of outlets of the script, if each item is one
+abbrev pub out_fails_in : Data → Option (List OutFail)
+out_fails_in d = option_and_then (all_of (out_fail_of (node_count d))) (list_under (codes "outlets") d)
+
 -- the first rule that is broken, with its place
 abbrev pub first_of : List (ℕ × Option ℕ) → Option (ℕ × ℕ)
 first_of [] = None
@@ -33,8 +51,9 @@ first_of ((rule, None) ∷ more) = first_of more
 first_of ((rule, Some index) ∷ more) = Some (rule, index)
 
 -- each rule of an object by its number, with the least place at which it is broken: 2, each key is known; 3, the number
--- of nodes; 4, the kind; 5, the pages of each heap; 6, the seed; 7, the most turns of a node, at place 1; 8, the items of
--- `inputs`; 9, the lengths of their texts; 10, the bytes of their texts
+-- of nodes; 4, the kind; 5, the pages of each heap; 6, the seed; 7, the most turns of a node, at place 1, and its
+-- most restarts, at place 2; 8, the items of `inputs`; 9, the lengths of their texts; 10, the bytes of their texts; 11, the items
+-- of `cuts`; 12, of `mail`; 13, of `acks`; 14, of `outlets`
 abbrev pub rules_of : Data → List (ℕ × Option ℕ)
 rules_of d =
     (2, unknown_key d)
@@ -43,9 +62,14 @@ rules_of d =
     ∷ (5, missing 0 (pages_of d))
     ∷ (6, missing 0 (seed_of d))
     ∷ (7, missing 1 (turns_of d))
+    ∷ (7, missing 2 (restarts_of d))
     ∷ (8, item_fault (wrong_input (node_count d)) (items_in d))
     ∷ (9, option_and_then long_text (inputs_in d))
     ∷ (10, option_and_then odd_text (inputs_in d))
+    ∷ (11, item_fault (wrong_item (cut_of (node_count d)) cut_spot MAX_CUTS) (list_under (codes "cuts") d))
+    ∷ (12, item_fault (wrong_item (link_act_of (node_count d)) link_spot MAX_ACTS) (list_under (codes "mail") d))
+    ∷ (13, item_fault (wrong_item (link_act_of (node_count d)) link_spot MAX_ACTS) (list_under (codes "acks") d))
+    ∷ (14, item_fault (wrong_item (out_fail_of (node_count d)) out_spot MAX_OUT_FAILS) (list_under (codes "outlets") d))
     ∷ []
 
 -- the first rule that an object breaks, with the least place at which it does

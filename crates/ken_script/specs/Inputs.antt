@@ -1,20 +1,16 @@
 -- The inputs of a script, and the first item at which one of their rules is broken.
-use Rattle.std.specs.Prelude.{ℕ, ◌&&◌, List, [], ◌∷◌, length, Bool, not, if◌then◌else◌, min, position, nat_lt, nat_le, Option, Some, None, is_none, option_map, option_and_then}
+use Rattle.std.specs.Prelude.{ℕ, ◌&&◌, List, length, Bool, not, position, nat_lt, nat_le, Option, is_none, option_map, option_and_then}
 use Rattle.std.specs.List.{list_all}
-use Rattle.serde_json.specs.Data.{Data, Items, no_items, item}
+use Rattle.serde_json.specs.Data.{Data}
 use Rattle.serde_json.specs.Find.{as_array, as_str}
 use Rattle.ken_model.specs.declared.facts.Input.{Input}
 use Rattle.ken_model.specs.declared.facts.TheConstants.{MAX_INPUTS, MAX_TEXT}
-use Rattle.ken_script.specs.Keys.{whole}
-
--- the items of a list of two
-abbrev pub both : Items → Option (Data × Data)
-both (item a (item b no_items)) = Some (a, b)
-both _ = None
+use Rattle.ken_script.specs.Keys.{whole, below}
+use Rattle.ken_script.specs.Lists.{both, all_of, least, overflow}
 
 -- the number of one of the nodes
 abbrev pub node_of : ℕ → Data → Option ℕ
-node_of nodes d = option_and_then (λ n. if nat_lt n nodes then Some n else None) (whole d)
+node_of nodes d = option_and_then (below nodes) (whole d)
 
 -- an input of its parts
 abbrev pub input : ℕ → List ℕ → Input
@@ -26,18 +22,7 @@ input_of nodes d = option_and_then (λ p. option_and_then (λ node. option_map (
 
 -- all items as inputs, if each is one
 abbrev pub inputs_of : ℕ → List Data → Option (List Input)
-inputs_of nodes [] = Some []
-inputs_of nodes (d ∷ ds) = option_and_then (λ first. option_map (λ rest. first ∷ rest) (inputs_of nodes ds)) (input_of nodes d)
-
--- the least of the places that there are
-abbrev pub least : Option ℕ → Option ℕ → Option ℕ
-least None j = j
-least (Some i) None = Some i
-least (Some i) (Some j) = Some (min i j)
-
--- the first place past the room of a list, where the list has it
-abbrev pub overflow : {T : Type 0} → ℕ → List T → Option ℕ
-overflow room xs = if nat_lt room (length xs) then Some room else None
+inputs_of nodes ds = all_of (input_of nodes) ds
 
 -- the first item that is no input, or that is one too many
 abbrev pub wrong_input : ℕ → List Data → Option ℕ

@@ -2,5 +2,8 @@ pub mod Faults
 pub mod Inputs
 pub mod Keys
 pub mod Laws
+pub mod Lists
+pub mod Mishaps
 pub mod Object
 pub mod Says
+pub mod Within

@@ -22,6 +22,14 @@ pub(crate) const TEXT_LENGTHS: u8 = 9;
 
 pub(crate) const TEXT_BYTES: u8 = 10;
 
+pub(crate) const CUTS: u8 = 11;
+
+pub(crate) const MAIL: u8 = 12;
+
+pub(crate) const ACKS: u8 = 13;
+
+pub(crate) const OUTLETS: u8 = 14;
+
 /// Why a script was not read.
 #[derive(Clone, Copy, Debug, Drop, PartialEq, Eq, Error)]
 pub enum ScriptFault {

@@ -7,6 +7,7 @@ ghost use Rattle.ken_script.specs.Inputs.{input, input_of, inputs_of, wrong_inpu
 ghost use Rattle.ken_script.specs.Faults.{Names};
 
 use crate::faults::{INPUTS, ScriptFault};
+use crate::numbers::number_below;
 use ken_model::{Input, MAX_INPUTS, MAX_TEXT, Octets};
 use serde_json::Value;
 use std::alloc::Global;
@@ -18,11 +19,7 @@ fn parts(item: &Value, nodes: u8) -> Option<(u8, &str)>
     let [node, text] = item.as_array()?.as_slice() else {
         return None;
     };
-    let node = node.as_u64()?;
-    if node >= u64::from(nodes) {
-        return None;
-    }
-    Some((node as u8, text.as_str()?))
+    Some((number_below(node, nodes)?, text.as_str()?))
 }
 
 /// The inputs that the items say, if there aren't too many.

@@ -1,9 +1,10 @@
 // What stands under each key of a script.
 ghost use Rattle.std.specs.Prelude.{◌≡◌, option_map};
 ghost use Rattle.serde_json.specs.View.{view, items_view, members_view};
-ghost use Rattle.ken_script.specs.Keys.{is_key, unknown_key, nodes_of, kind_in, pages_of, seed_of, turns_of, items_in, listed};
+ghost use Rattle.ken_script.specs.Keys.{is_key, unknown_key, nodes_of, kind_in, pages_of, seed_of, turns_of, restarts_of, items_in, list_under, listed};
 
-use crate::scripts::{DEFAULT_PAGES, DEFAULT_SEED, DEFAULT_TURNS};
+use crate::numbers::number_within;
+use crate::scripts::{DEFAULT_PAGES, DEFAULT_RESTARTS, DEFAULT_SEED, DEFAULT_TURNS, MAX_RESTARTS};
 use ken_model::{Kind, MAX_NODES, MAX_PAGES, MAX_TURNS};
 use serde_json::Value;
 
@@ -12,7 +13,17 @@ fn is_key(name: &str) -> bool
 {
     matches!(
         name,
-        "nodes" | "kind" | "pages" | "seed" | "turns" | "inputs"
+        "nodes"
+            | "kind"
+            | "pages"
+            | "seed"
+            | "turns"
+            | "inputs"
+            | "restarts"
+            | "cuts"
+            | "mail"
+            | "acks"
+            | "outlets"
     )
 }
 
@@ -48,14 +59,10 @@ pub(crate) fn kind_in(script: &Value) -> Option<Kind>
 pub(crate) fn pages_of(script: &Value) -> Option<u64>
     ensures { result ≡ pages_of (view script.now) }
 {
-    let Some(pages) = script.get("pages") else {
-        return Some(DEFAULT_PAGES);
-    };
-    let pages = pages.as_u64()?;
-    if pages == 0 || pages > MAX_PAGES {
-        return None;
+    match script.get("pages") {
+        None => Some(DEFAULT_PAGES),
+        Some(pages) => number_within(pages, 1, MAX_PAGES),
     }
-    Some(pages)
 }
 
 /// Where the random words start: any `u64`.
@@ -72,14 +79,20 @@ pub(crate) fn seed_of(script: &Value) -> Option<u64>
 pub(crate) fn turns_of(script: &Value) -> Option<u64>
     ensures { result ≡ turns_of (view script.now) }
 {
-    let Some(turns) = script.get("turns") else {
-        return Some(DEFAULT_TURNS);
-    };
-    let turns = turns.as_u64()?;
-    if turns == 0 || turns > MAX_TURNS {
-        return None;
+    match script.get("turns") {
+        None => Some(DEFAULT_TURNS),
+        Some(turns) => number_within(turns, 1, MAX_TURNS),
     }
-    Some(turns)
+}
+
+/// The most restarts of a node, from 0 to `MAX_RESTARTS`.
+pub(crate) fn restarts_of(script: &Value) -> Option<u64>
+    ensures { result ≡ restarts_of (view script.now) }
+{
+    match script.get("restarts") {
+        None => Some(DEFAULT_RESTARTS),
+        Some(restarts) => number_within(restarts, 0, MAX_RESTARTS),
+    }
 }
 
 /// The items of `inputs`, if that is a list.
@@ -87,4 +100,14 @@ pub(crate) fn items_in(script: &Value) -> Option<&[Value]>
     ensures { option_map (λ vs. listed (items_view vs.now)) result ≡ items_in (view script.now) }
 {
     Some(script.get("inputs")?.as_array()?.as_slice())
+}
+
+/// The items of the list under another key: none where the key is absent.
+pub(crate) fn list_under<'a>(script: &'a Value, key: &str) -> Option<&'a [Value]>
+    ensures { option_map (λ vs. listed (items_view vs.now)) result ≡ list_under key.now (view script.now) }
+{
+    match script.get(key) {
+        None => Some(&[]),
+        Some(list) => Some(list.as_array()?.as_slice()),
+    }
 }

@@ -1,17 +1,20 @@
-ghost use Rattle.std.specs.Prelude.{◌≡◌, IfOk, IfErr};
+ghost use Rattle.std.specs.Prelude.{IfOk, IfErr};
 ghost use Rattle.serde_json.specs.View.{view};
-ghost use Rattle.ken_model.specs.Limits.{IsWithinLimits, IsPlainRun};
-ghost use Rattle.ken_model.specs.Game.{game_of};
 ghost use Rattle.ken_script.specs.Object.{IsObject};
 ghost use Rattle.ken_script.specs.Faults.{IsFaultOf, IsFaultIn};
 ghost use Rattle.ken_script.specs.Says.{States, Says};
+ghost use Rattle.ken_script.specs.Within.{KeepsRules};
 
 use crate::faults::{
-    COUNTS, INPUTS, KEYS, KIND, NODES, OBJECT, PAGES, SEED, ScriptFault, TEXT_BYTES, TEXT_LENGTHS,
+    ACKS, COUNTS, CUTS, INPUTS, KEYS, KIND, MAIL, NODES, OBJECT, OUTLETS, PAGES, SEED, ScriptFault,
+    TEXT_BYTES, TEXT_LENGTHS,
 };
 use crate::inputs::{inputs_of, long_text, odd_text};
-use crate::keys::{items_in, kind_in, nodes_of, pages_of, seed_of, turns_of, unknown_key};
-use crate::scripts::{LIMIT, Script};
+use crate::keys::{
+    items_in, kind_in, nodes_of, pages_of, restarts_of, seed_of, turns_of, unknown_key,
+};
+use crate::mishaps::mishaps_in;
+use crate::scripts::{LIMIT, MAX_ACTS, MAX_CUTS, MAX_OUT_FAILS, Script};
 use ken_model::{Facts, Items, PAGE};
 use serde_json::Value;
 use std::alloc::Global;
@@ -54,6 +57,9 @@ fn script_in(alloc: Global, object: &Value) -> Result<Script, ScriptFault>
     let Some(turns) = turns_of(object) else {
         return Err(ScriptFault::at(COUNTS, 1));
     };
+    let Some(restarts) = restarts_of(object) else {
+        return Err(ScriptFault::at(COUNTS, 2));
+    };
     let Some(items) = items_in(object) else {
         return Err(ScriptFault::at(INPUTS, 0));
     };
@@ -64,6 +70,10 @@ fn script_in(alloc: Global, object: &Value) -> Result<Script, ScriptFault>
     if let Some(place) = odd_text(&inputs) {
         return Err(ScriptFault::at(TEXT_BYTES, place));
     }
+    let cuts = mishaps_in(alloc, object, "cuts", nodes, MAX_CUTS, CUTS)?;
+    let mail = mishaps_in(alloc, object, "mail", nodes, MAX_ACTS, MAIL)?;
+    let acks = mishaps_in(alloc, object, "acks", nodes, MAX_ACTS, ACKS)?;
+    let outlets = mishaps_in(alloc, object, "outlets", nodes, MAX_OUT_FAILS, OUTLETS)?;
     Ok(Script {
         facts: Facts {
             nodes,
@@ -73,6 +83,11 @@ fn script_in(alloc: Global, object: &Value) -> Result<Script, ScriptFault>
             inputs: Items::new(inputs),
         },
         seed,
+        restarts,
+        cuts: Items::new(cuts),
+        mail: Items::new(mail),
+        acks: Items::new(acks),
+        outlets: Items::new(outlets),
     })
 }
 
@@ -81,8 +96,7 @@ fn script_in(alloc: Global, object: &Value) -> Result<Script, ScriptFault>
 pub fn read(alloc: Global, bytes: &[u8]) -> Result<Script, ScriptFault>
     ensures says { IfOk result (Says bytes.now) }
     ensures breaks { IfErr result (IsFaultOf bytes.now) }
-    ensures limits { IfOk result (λ script. IsWithinLimits (game_of script.facts)) }
-    ensures plain { IfOk result (λ script. IsPlainRun (game_of script.facts)) }
+    ensures keeps { IfOk result KeepsRules }
 {
     let object = object_in(alloc, bytes)?;
     script_in(alloc, &object)

@@ -1,11 +1,2 @@
-pub mod Turns
-pub mod Turned
-pub mod Running
-pub mod Drive
-pub mod Draws
-pub mod Oracles
-pub mod Timeline
-pub mod Ended
 pub mod Headline
-pub mod InMemory
 pub mod Statuses

@@ -2,34 +2,23 @@
 //! writes the report of its run.
 #![tactic(auto)]
 
-mod drive;
-mod ended;
-mod node;
 mod status;
-mod timeline;
 mod tool;
-mod world;
 
+use ken_drive::MemWorld;
 use ken_io::{StdSink, StdSource};
 use status::Status;
 use std::env;
 use std::process::ExitCode;
 use tool::ken;
-use world::MemWorld;
 
 fn main(rt: HostRuntime) -> ExitCode {
     let status = match command_line(&rt) {
         Ok(words) => {
             let mut source = StdSource::new(rt.stdin());
             let mut sink = StdSink::new(rt.stdout());
-            ken(
-                &rt,
-                rt.alloc(),
-                &words,
-                &mut source,
-                &mut sink,
-                &mut MemWorld::new(),
-            )
+            let mut world = MemWorld::new(rt.alloc());
+            ken(&rt, rt.alloc(), &words, &mut source, &mut sink, &mut world)
         }
         Err(status) => status,
     };

@@ -1,9 +1,9 @@
 // How the program ends.
+use ken_drive::RunFault;
 use ken_io::ReadFault;
 use ken_model::Ending;
 use ken_report::ReportFault;
 use ken_script::ScriptFault;
-use std::alloc::AllocError;
 use std::fmt;
 
 /// How the program ends. It prints as the text for standard error, which is empty for `Settled`.
@@ -17,6 +17,11 @@ pub enum Status {
     Script { rule: u8, index: u64 },
     /// Nodes have made all their turns and something still waits for them, and the report is written.
     Cut,
+    /// Bytes of a disk are none that a node writes, from this place on. Over disks that keep the model it never comes.
+    Damaged { node: u8, disk: u8, place: u64 },
+    /// Calls of that node's disks failed more often than it may be restarted, or its outlet refused an output 65 times running.
+    /// Nothing was written.
+    Down { node: u8 },
     /// The source failed. Nothing was written.
     Read,
     /// The sink failed. A front of the report is out.
@@ -38,6 +43,8 @@ impl Status {
             Status::Usage => 1,
             Status::Script { .. } => 2,
             Status::Cut => 3,
+            Status::Damaged { .. } => 4,
+            Status::Down { .. } => 5,
             Status::Read => 6,
             Status::Write => 7,
             Status::Memory => 8,
@@ -57,6 +64,10 @@ impl fmt::Display for Status {
             Status::Usage => write!(f, "ken: usage"),
             Status::Script { rule, index } => write!(f, "ken: script: rule S{rule} at {index}"),
             Status::Cut => write!(f, "ken: cut"),
+            Status::Damaged { node, disk, place } => {
+                write!(f, "ken: node {node} disk {disk} damaged at {place}")
+            }
+            Status::Down { node } => write!(f, "ken: node {node} is down"),
             Status::Read => write!(f, "ken: read failed"),
             Status::Write => write!(f, "ken: write failed"),
             Status::Memory => write!(f, "ken: out of memory"),
@@ -106,14 +117,18 @@ impl From<ReportFault> for Status {
     }
 }
 
-impl From<AllocError> for Status {
+impl From<RunFault> for Status {
     ghost use Rattle.std.specs.Prelude.{◌≡◌};
-    ghost use Rattle.ken_tool.specs.declared.status.Status.TheVariants.{Memory};
+    ghost use Rattle.ken_tool.specs.Statuses.{of_running};
 
-    ghost from_gives = { λ _ status. status ≡ Memory };
+    ghost from_gives = { λ fault status. status ≡ of_running fault };
 
-    fn from(_refused: AllocError) -> Self {
-        Status::Memory
+    fn from(fault: RunFault) -> Self {
+        match fault {
+            RunFault::Damaged { node, disk, place } => Status::Damaged { node, disk, place },
+            RunFault::Down { node } => Status::Down { node },
+            RunFault::Memory => Status::Memory,
+        }
     }
 }
 

@@ -1,26 +1,26 @@
 // The top call.
-ghost use Rattle.std.specs.Prelude.{◌≡◌, ◌≢◌, ◌↔◌, ◌+◌, ◌≤◌, true, false, map, string_bytes, IfOk, IfErr, OnErr, IsErrOf};
+ghost use Rattle.std.specs.Prelude.{◌≡◌, ◌≢◌, ◌↔◌, ◌+◌, ◌≤◌, true, false, map, string_bytes, IfOk, IfErr, IsErrOf};
 ghost use Rattle.ken_io.specs.Causes.{Rose};
 ghost use Rattle.ken_io.specs.Transfers.{TakesAtMost};
-ghost use Rattle.ken_tool.specs.Headline.{are_plain, Ran, IsQuiet, IsComplete, IsRunOfSource, IsRefusal, IsOut};
-ghost use Rattle.ken_tool.specs.Draws.{HasKeptNothing};
+ghost use Rattle.ken_drive.specs.Worlds.{HasKeptNothing};
+ghost use Rattle.ken_tool.specs.Headline.{are_plain, Ran, IsQuiet, IsComplete, IsLet, IsRunOfSource, IsRefusal, IsOut};
 
 #[cfg(test)]
 mod tests;
 
-use crate::drive;
 use crate::status::Status;
-use crate::world::World;
+use ken_drive::{World, drive};
 use ken_io::{Sink, Source, read_all};
 use ken_model::Lines;
 use ken_report::print;
 use ken_script::LIMIT;
 use std::alloc::Global;
 
-/// Does what the program does: reads a script, runs it, and writes its report. `words` begins with the program's name.
+/// Does what the program does: reads a script, runs it over the world's devices, and writes its report. `words` begins with the
+/// program's name.
 ///
 /// Whatever the status, a call waits for nobody and returns. `Memory` comes where memory is wanted, and else as each
-/// status says.
+/// status says. The world keeps the devices of a run that has ended, or of which a node is down, before anything is written.
 pub fn ken<R, S: Source, K: Sink, W: World>(
     _rt: &R,
     alloc: Global,
@@ -31,8 +31,10 @@ pub fn ken<R, S: Source, K: Sink, W: World>(
 ) -> Status
     requires { HasKeptNothing (W.kept world.old) }
     ensures usage { (result ≡ Status.Usage) ↔ (are_plain (map string_bytes words.now) ≡ false) }
-    ensures runs { Ran W.Luck.telling (W.kept world.new) (S.left source.old) (K.took sink.old) (K.took sink.new) result }
+    ensures runs { Ran (record { told = W.Dev.told; faults = W.Dev.faults; telling = W.Luck.telling; took = W.Out.took; refused = W.Out.faults }) (W.kept world.new) (S.left source.old) (K.took sink.old) (K.took sink.new) result }
+    ensures down { W.scripted ≡ true → IsLet (S.left source.old) result }
     ensures complete { are_plain (map string_bytes words.now) ≡ true
+        → W.scripted ≡ true
         → (Rose (S.faults source.old) (S.faults source.new) → ⊥)
         → (Rose (K.faults sink.old) (K.faults sink.new) → ⊥)
         → IsComplete (S.left source.old) result }
@@ -68,9 +70,9 @@ fn is_plain(words: &[String]) -> bool
 /// Reads a script and runs it.
 fn run<S: Source, W: World>(alloc: Global, source: &mut S, world: &mut W) -> Result<Lines, Status>
     requires { HasKeptNothing (W.kept world.old) }
-    ensures ran { IfOk result (IsRunOfSource W.Luck.telling (W.kept world.new) (S.left source.old)) }
-    ensures refused { IfErr result (IsRefusal (S.left source.old)) }
-    ensures kept { OnErr result (HasKeptNothing (W.kept world.new)) }
+    ensures ran { IfOk result (IsRunOfSource (record { told = W.Dev.told; faults = W.Dev.faults; telling = W.Luck.telling; took = W.Out.took; refused = W.Out.faults }) (W.kept world.new) (S.left source.old)) }
+    ensures refused { IfErr result (IsRefusal (record { told = W.Dev.told; faults = W.Dev.faults; telling = W.Luck.telling; took = W.Out.took; refused = W.Out.faults }) (W.kept world.new) (S.left source.old)) }
+    ensures lets { W.scripted ≡ true → IfErr result (IsLet (S.left source.old)) }
     ensures read { IsErrOf result Status.Read → Rose (S.faults source.old) (S.faults source.new) }
     ensures no_failed_read { (IsErrOf result Status.Read → ⊥) → S.faults source.new ≡ S.faults source.old }
     ensures taken { TakesAtMost (LIMIT + 1) (S.left source.old) (S.left source.new) }
@@ -78,7 +80,7 @@ fn run<S: Source, W: World>(alloc: Global, source: &mut S, world: &mut W) -> Res
 {
     let bytes = read_all(alloc, source, LIMIT)?;
     let script = ken_script::read(alloc, bytes.as_slice())?;
-    let lines = drive::run(alloc, &script, world)?;
+    let lines = drive(alloc, &script, world)?;
     Ok(lines)
 }
 

@@ -12,6 +12,8 @@ mod heap_pages;
 #[cfg(test)]
 mod kinds;
 #[cfg(test)]
+mod mishaps;
+#[cfg(test)]
 mod model;
 #[cfg(test)]
 mod networks;

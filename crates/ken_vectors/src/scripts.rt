@@ -11,7 +11,7 @@ fn with_items(alloc: Global, nodes: u64, items: &str) -> Result<String, AllocErr
 }
 
 /// A ring of three nodes with these further keys, each after a comma.
-fn with_keys(alloc: Global, keys: &str) -> Result<String, AllocError> {
+pub(crate) fn with_keys(alloc: Global, keys: &str) -> Result<String, AllocError> {
     format!(in alloc; "{{\"nodes\":3,\"kind\":\"ring\",\"inputs\":[]{keys}}}")
 }
 
@@ -26,7 +26,7 @@ fn repeated(alloc: Global, part: &str, times: usize, last: &str) -> Result<Strin
 }
 
 // A text, the first rule that it breaks, and its index: 0 and 0 where it breaks none.
-type Row = (&'static str, u8, u64);
+pub(crate) type Row = (&'static str, u8, u64);
 
 // Further keys, and the size, the seed and the turns that a script with them has.
 const SIZES: [(&str, u64, u64, u64); 6] = [
@@ -64,7 +64,7 @@ const RANGES: [Row; 22] = [
     (",\"turns\":null", 7, 1),
     // A rule of lower number goes first.
     (",\"turns\":0,\"seed\":-1", 6, 0),
-    (",\"turns\":0,\"restarts\":1", 2, 3),
+    (",\"turns\":0,\"rounds\":1", 2, 3),
     (",\"pages\":0,\"seed\":-1", 5, 0),
     (",\"pages\":4097", 5, 0),
     (",\"pages\":\"16\"", 5, 0),
@@ -97,7 +97,7 @@ const TEXTS: [Row; 29] = [
         0,
     ),
     (
-        "{\"nodes\":3,\"kind\":\"ring\",\"inputs\":[[0,\"2\"]],\"restarts\":1}",
+        "{\"nodes\":3,\"kind\":\"ring\",\"inputs\":[[0,\"2\"]],\"rounds\":1}",
         2,
         3,
     ),
@@ -181,7 +181,7 @@ fn broken_by(alloc: Global, text: &str) -> Result<(u8, u64), AllocError> {
     }
 }
 
-fn broken_by_keys(alloc: Global, keys: &str) -> Result<(u8, u64), AllocError> {
+pub(crate) fn broken_by_keys(alloc: Global, keys: &str) -> Result<(u8, u64), AllocError> {
     broken_by(alloc, &with_keys(alloc, keys)?)
 }
 

@@ -1,15 +1,16 @@
-ghost use Rattle.std.specs.Prelude.{◌≤◌, None, slice_index_or};
-ghost use Rattle.ken_tool.specs.Draws.{HasKeptNothing};
-ghost use Rattle.ken_tool.specs.InMemory.{HasEnded, RanInMemory};
+ghost use Rattle.std.specs.Prelude.{◌≤◌};
 
 mod abstract_run;
+mod cuts;
+mod faults;
+mod own_world;
 
 use super::*;
-use crate::world::MemWorld;
+use ken_drive::MemWorld;
 use ken_io::{MemSink, MemSource};
 use ken_model::{Items, Octets};
 use std::alloc::AllocError;
-use std::str::from_utf8;
+use std::str::{Utf8Error, from_utf8};
 use std::test::Fail;
 
 // Three nodes pass a count of 2 on, from node 0.
@@ -59,51 +60,72 @@ fn sink(alloc: Global, failing: u64, piece: usize) -> Result<MemSink, AllocError
     MemSink::new(alloc, WHOLE, Items::new(fails), piece)
 }
 
-// A call over a world in memory: after a run each oracle that was kept is its node's, with the script's seed, and tells all
-// that the node's turns drew.
-fn ken_in_memory<S: Source, K: Sink>(
-    rt: &HostRuntime,
-    words: &[String],
-    source: &mut S,
-    sink: &mut K,
-    world: &mut MemWorld,
-) -> Status
-    requires { HasKeptNothing (λ v. slice_index_or world.old v None) }
-    ensures { HasEnded result → RanInMemory (λ v. slice_index_or world.new v None) (S.left source.old) (K.took sink.old) (K.took sink.new) }
-{
-    ken(rt, rt.alloc(), words, source, sink, world)
+// The words of a command line.
+fn words_in(alloc: Global, line: &str) -> Result<Vec<String>, AllocError> {
+    let mut words = Vec::new(alloc);
+    for word in line.split_whitespace() {
+        words.push(String::from_str(alloc, word)?)?;
+    }
+    Ok(words)
 }
 
-// The status of a call with these words.
+// What a run leaves: how it ends, the sink with what is out, and the world with the devices.
+#[derive(Drop)]
+struct Ran {
+    status: Status,
+    sink: MemSink,
+    world: MemWorld,
+}
+
+impl Ran {
+    // The status, and what is out.
+    fn ending(&self) -> Result<(Status, &str), Utf8Error> {
+        Ok((self.status, from_utf8(self.sink.bytes())?))
+    }
+}
+
+// Calls the program with these words over a world in memory.
 fn call(
     rt: &HostRuntime,
-    words: &str,
+    line: &str,
     source: &mut MemSource,
-    sink: &mut MemSink,
-) -> Result<Status, AllocError> {
-    let mut texts = Vec::new(rt.alloc());
-    for word in words.split_whitespace() {
-        texts.push(String::from_str(rt.alloc(), word)?)?;
-    }
-    Ok(ken_in_memory(rt, &texts, source, sink, &mut MemWorld::new()))
+    mut sink: MemSink,
+) -> Result<Ran, AllocError> {
+    let words = words_in(rt.alloc(), line)?;
+    let mut world = MemWorld::new(rt.alloc());
+    let status = ken(rt, rt.alloc(), &words, source, &mut sink, &mut world);
+    Ok(Ran {
+        status,
+        sink,
+        world,
+    })
 }
 
-// How the run of a script ends, and the sink with what is out.
-fn run_of(rt: &HostRuntime, script: &str) -> Result<(Status, MemSink), AllocError> {
+// Runs a script.
+fn run_of(rt: &HostRuntime, script: &str) -> Result<Ran, AllocError> {
     let mut source = source(rt.alloc(), script, 0)?;
-    let mut sink = sink(rt.alloc(), 0, WHOLE)?;
-    let status = call(rt, RUN, &mut source, &mut sink)?;
-    Ok((status, sink))
+    let sink = sink(rt.alloc(), 0, WHOLE)?;
+    call(rt, RUN, &mut source, sink)
+}
+
+// A report without its restarts, and with each line once: what is left doesn't tell of faults.
+fn faultless(alloc: Global, report: &str) -> Result<String, AllocError> {
+    let mut text = String::new(alloc);
+    for line in report.lines() {
+        let again = text.lines().any(|before| before == line);
+        if !again && !line.starts_with("restart ") {
+            text.push_str(line)?;
+            text.push_str("\n")?;
+        }
+    }
+    Ok(text)
 }
 
 // One run by itself, so that each of its allocations can be made to fail: then `Memory` comes with a front of the report.
 #[test]
 fn a_count_is_passed_on_along_the_ring(rt: HostRuntime) -> Result<(), Fail> {
-    let (status, sink) = run_of(&rt, THREE_NODES)?;
-    assert_eq!(rt;
-        (status, from_utf8(sink.bytes())?),
-        (Status::Settled, THREE_NODES_REPORT)
-    );
+    let ran = run_of(&rt, THREE_NODES)?;
+    assert_eq!(rt; ran.ending()?, (Status::Settled, THREE_NODES_REPORT));
     Ok(())
 }
 
@@ -150,9 +172,8 @@ fn a_settled_run_is_reported(rt: HostRuntime) -> Result<(), Fail> {
         ),
     ];
     for (nodes, items, report) in cases {
-        let (status, sink) = run_of(&rt, &ring(rt.alloc(), nodes, items)?)?;
-        assert_eq!(rt; status, Status::Settled, "{items}");
-        assert_eq!(rt; from_utf8(sink.bytes())?, report, "{items}");
+        let ran = run_of(&rt, &ring(rt.alloc(), nodes, items)?)?;
+        assert_eq!(rt; ran.ending()?, (Status::Settled, report), "{items}");
     }
     Ok(())
 }
@@ -200,9 +221,8 @@ fn what_a_run_drew_is_reported(rt: HostRuntime) -> Result<(), Fail> {
         ),
     ];
     for (script, report) in cases {
-        let (status, sink) = run_of(&rt, script)?;
-        assert_eq!(rt; status, Status::Settled, "{script}");
-        assert_eq!(rt; from_utf8(sink.bytes())?, report, "{script}");
+        let ran = run_of(&rt, script)?;
+        assert_eq!(rt; ran.ending()?, (Status::Settled, report), "{script}");
     }
     Ok(())
 }
@@ -242,9 +262,8 @@ fn numbers_are_added_up_and_shared_out(rt: HostRuntime) -> Result<(), Fail> {
         ),
     ];
     for (script, report) in cases {
-        let (status, sink) = run_of(&rt, script)?;
-        assert_eq!(rt; status, Status::Settled, "{script}");
-        assert_eq!(rt; from_utf8(sink.bytes())?, report, "{script}");
+        let ran = run_of(&rt, script)?;
+        assert_eq!(rt; ran.ending()?, (Status::Settled, report), "{script}");
     }
     Ok(())
 }
@@ -280,29 +299,28 @@ fn texts_are_kept_by_keys(rt: HostRuntime) -> Result<(), Fail> {
         emit 0 12 none\n\
         heap 0 0 32:3 64:3 96:3 128:3 160:3 192:3 224:3\n\
         end settled 12\n";
-    let (status, sink) = run_of(&rt, script)?;
-    assert_eq!(rt;
-        (status, from_utf8(sink.bytes())?),
-        (Status::Settled, report)
-    );
+    let ran = run_of(&rt, script)?;
+    assert_eq!(rt; ran.ending()?, (Status::Settled, report));
     Ok(())
 }
 
 #[test]
 fn a_run_that_is_cut_is_reported(rt: HostRuntime) -> Result<(), Fail> {
-    let (status, sink) = run_of(&rt, &ring(rt.alloc(), 1, "[0,\"1000\"]")?)?;
-    assert_eq!(rt; status, Status::Cut);
-    assert!(rt; sink.bytes().ends_with(b"\nend cut 1000 1\n"));
+    let ran = run_of(&rt, &ring(rt.alloc(), 1, "[0,\"1000\"]")?)?;
+    assert_eq!(rt; ran.status, Status::Cut);
+    assert!(rt; ran.sink.bytes().ends_with(b"\nend cut 1000 1\n"));
 
     let one_turn = "{\"nodes\":1,\"kind\":\"ring\",\"turns\":1,\"inputs\":[[0,\"5\"]]}";
-    let (status, sink) = run_of(&rt, one_turn)?;
-    assert_eq!(rt; status, Status::Cut);
+    let ran = run_of(&rt, one_turn)?;
     assert_eq!(rt;
-        from_utf8(sink.bytes())?,
-        "turn 1 0 out 1 -\n\
-         emit 0 1 5\n\
-         heap 0 1\n\
-         end cut 1 1\n"
+        ran.ending()?,
+        (
+            Status::Cut,
+            "turn 1 0 out 1 -\n\
+             emit 0 1 5\n\
+             heap 0 1\n\
+             end cut 1 1\n"
+        )
     );
     Ok(())
 }
@@ -325,9 +343,13 @@ fn nothing_is_written_for_a_script_that_breaks_a_rule(rt: HostRuntime) -> Result
         (second.as_str(), (9, 1)),
     ];
     for (script, (rule, index)) in cases {
-        let (status, sink) = run_of(&rt, script)?;
-        assert_eq!(rt; status, Status::Script { rule, index }, "{script}");
-        assert!(rt; sink.bytes().is_empty(), "{script}");
+        let ran = run_of(&rt, script)?;
+        assert_eq!(rt;
+            ran.ending()?,
+            (Status::Script { rule, index }, ""),
+            "{script}"
+        );
+        assert!(rt; ran.world.kept(0).is_none(), "{script}");
     }
     Ok(())
 }
@@ -337,15 +359,13 @@ fn nothing_is_read_for_words_that_are_not_plain(rt: HostRuntime) -> Result<(), F
     let cases = ["", "ken", "ken walk", "ken Run", "ken run run"];
     for words in cases {
         let mut source = source(rt.alloc(), THREE_NODES, 0)?;
-        let mut sink = sink(rt.alloc(), 0, WHOLE)?;
-        let status = call(&rt, words, &mut source, &mut sink)?;
-        assert_eq!(rt; status, Status::Usage, "{words}");
-        assert!(rt; sink.bytes().is_empty(), "{words}");
-        let status = call(&rt, RUN, &mut source, &mut sink)?;
-        assert_eq!(rt; status, Status::Settled, "after {words}");
+        let refused = call(&rt, words, &mut source, sink(rt.alloc(), 0, WHOLE)?)?;
+        assert_eq!(rt; refused.ending()?, (Status::Usage, ""), "{words}");
+        assert!(rt; refused.world.kept(0).is_none(), "{words}");
+        let ran = call(&rt, RUN, &mut source, sink(rt.alloc(), 0, WHOLE)?)?;
         assert_eq!(rt;
-            from_utf8(sink.bytes())?,
-            THREE_NODES_REPORT,
+            ran.ending()?,
+            (Status::Settled, THREE_NODES_REPORT),
             "after {words}"
         );
     }
@@ -363,10 +383,15 @@ fn a_call_of_the_source_or_the_sink_fails(rt: HostRuntime) -> Result<(), Fail> {
     ];
     for ((read, write), piece, want, out) in cases {
         let mut source = source(rt.alloc(), THREE_NODES, read)?;
-        let mut sink = sink(rt.alloc(), write, piece)?;
-        let status = call(&rt, RUN, &mut source, &mut sink)?;
-        assert_eq!(rt; status, want, "read {read}, write {write}");
-        assert_eq!(rt; from_utf8(sink.bytes())?, out, "read {read}, write {write}");
+        let ran = call(&rt, RUN, &mut source, sink(rt.alloc(), write, piece)?)?;
+        assert_eq!(rt; ran.ending()?, (want, out), "read {read}, write {write}");
+
+        // The devices were kept before anything was written.
+        assert_eq!(rt;
+            ran.world.kept(2).is_some(),
+            read == 0,
+            "read {read}, write {write}"
+        );
     }
     Ok(())
 }
@@ -382,6 +407,17 @@ fn a_status_has_a_text_and_an_exit_code(rt: HostRuntime) -> Result<(), Fail> {
             "ken: script: rule S9 at 1",
         ),
         (Status::Cut, 3, "ken: cut"),
+        (
+            Status::Damaged {
+                node: 0,
+                disk: 1,
+                place: 64,
+            },
+            4,
+            "ken: node 0 disk 1 damaged at 64",
+        ),
+        (Status::Down { node: 0 }, 5, "ken: node 0 is down"),
+        (Status::Down { node: 7 }, 5, "ken: node 7 is down"),
         (Status::Read, 6, "ken: read failed"),
         (Status::Write, 7, "ken: write failed"),
         (Status::Memory, 8, "ken: out of memory"),

@@ -1,4 +1,4 @@
-use Rattle.ken_drive.proofs.Driving.{keeps-run}
+use Rattle.ken_drive.proofs.Keeping.{keeps-run}
 use Rattle.ken_drive.proofs.laws.ended_runs_keep.Goals as goal
 
 pub returns : goal.returns

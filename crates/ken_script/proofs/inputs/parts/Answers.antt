@@ -1,5 +1,5 @@
 use Rattle.std.proofs.Common.{rules}
-use Rattle.ken_script.proofs.Items.{both-other}
+use Rattle.ken_script.proofs.Lists.{both-other}
 use Rattle.ken_script.proofs.inputs.parts.Goals as goal
 
 pub returns-in_default : goal.returns-in_default

@@ -1,6 +1,6 @@
 use Rattle.std.proofs.lemmas.Result.{IfOk-weaker, IfErr-weaker}
 use Rattle.serde_json.specs.View.{view}
-use Rattle.ken_script.proofs.Limits.{limits_of, plain_run_of}
+use Rattle.ken_script.proofs.Within.{keeps_rules}
 use Rattle.ken_script.proofs.Objects.{fault_of_text}
 use Rattle.ken_script.proofs.reading.read.Goals as goal
 
@@ -9,8 +9,5 @@ returns-clause-breaks c =
     let d = view c.in_ok-object.object in
     IfErr-weaker c.script_in.result _ _ (λ fault e. fault_of_text c.args.bytes.now d fault c.in_ok-object.ensures.ok e) c.script_in.ensures.err
 
-pub returns-clause-limits : goal.returns-clause-limits
-returns-clause-limits c = IfOk-weaker c.script_in.result _ _ (λ s states. limits_of (view c.in_ok-object.object) s states) c.script_in.ensures.ok
-
-pub returns-clause-plain : goal.returns-clause-plain
-returns-clause-plain c = IfOk-weaker c.script_in.result _ _ (λ s states. plain_run_of (view c.in_ok-object.object) s states) c.script_in.ensures.ok
+pub returns-clause-keeps : goal.returns-clause-keeps
+returns-clause-keeps c = IfOk-weaker c.script_in.result _ _ (λ s states. keeps_rules (view c.in_ok-object.object) s states) c.script_in.ensures.ok

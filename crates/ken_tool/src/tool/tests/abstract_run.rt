@@ -1,4 +1,4 @@
-// Random small scripts, run by the program and played by the abstract network.
+// Random small scripts in which things fail, run by the program and played by the abstract network, in which nothing does.
 ghost use Rattle.std.specs.Prelude.{◌≡◌, ◌≤◌};
 ghost use Rattle.ken_model.specs.Limits.{IsWithinLimits};
 ghost use Rattle.ken_model.specs.Game.{game_of};
@@ -8,7 +8,7 @@ use ken_model::{Actors, Done, Facts, MAX_NODES, OUTSIDE, Step};
 use ken_num::Lcg;
 
 /// How many scripts.
-const SCRIPTS: u64 = 60;
+const SCRIPTS: u64 = 120;
 
 // A command of kind kv: a put of up to 60 bytes, so that a page is soon full, a get, a delete, or none.
 fn random_command(alloc: Global, dice: &mut Lcg) -> Result<String, AllocError> {
@@ -37,17 +37,15 @@ fn random_count(alloc: Global, dice: &mut Lcg) -> Result<String, AllocError> {
     }
 }
 
-// A script of a few inputs, where a count goes on for a few turns.
-fn random_script(alloc: Global, dice: &mut Lcg) -> Result<String, AllocError> {
-    let nodes = dice.next() % 5 + 1;
-    let kind = match dice.next() % 6 {
-        0 => "ring",
-        1 => "tally",
-        2 => "share",
-        3 => "kv",
-        _ => "mix",
-    };
-    let (seed, turns) = (dice.next(), dice.next() % 9 + 1);
+// The inputs of a few nodes, where a count goes on for a few turns.
+fn random_inputs(
+    alloc: Global,
+    dice: &mut Lcg,
+    nodes: u64,
+    kind: &str,
+) -> Result<String, AllocError>
+    requires { 1 ≤ nodes }
+{
     let mut items = String::new(alloc);
     for place in 0..dice.next() % 9 {
         let comma = if place == 0 { "" } else { "," };
@@ -58,8 +56,75 @@ fn random_script(alloc: Global, dice: &mut Lcg) -> Result<String, AllocError> {
         };
         items.push_str(&format!(in alloc; "{comma}[{node},\"{text}\"]")?)?;
     }
+    Ok(items)
+}
+
+// A few cuts. No two are at one call, and no node has more than it may have restarts.
+fn random_cuts(alloc: Global, dice: &mut Lcg, nodes: u64) -> Result<String, AllocError>
+    requires { 1 ≤ nodes }
+{
+    let mut items = String::new(alloc);
+    for place in 0..dice.next() % 5 {
+        let comma = if place == 0 { "" } else { "," };
+        let (node, disk) = (dice.next() % nodes, dice.next() % 3);
+        let (call, pick) = (place * 11 + dice.next() % 11 + 1, dice.next() % 9);
+        items.push_str(&format!(in alloc; "{comma}[{node},{disk},{call},{pick}]")?)?;
+    }
+    Ok(items)
+}
+
+// Acts on a few of the first puts of links, no two on one.
+fn random_acts(alloc: Global, dice: &mut Lcg, nodes: u64) -> Result<String, AllocError>
+    requires { 1 ≤ nodes }
+{
+    let mut items = String::new(alloc);
+    for place in 0..dice.next() % 7 {
+        let comma = if place == 0 { "" } else { "," };
+        let (from, to) = (dice.next() % nodes, dice.next() % nodes);
+        let put = place + dice.next() % 2 * 7 + 1;
+        let act = match dice.next() % 4 {
+            0 => format!(in alloc; "\"lose\"")?,
+            1 => format!(in alloc; "\"repeat\"")?,
+            _ => format!(in alloc; "{}", dice.next() % 8 + 1)?,
+        };
+        items.push_str(&format!(in alloc; "{comma}[{from},{to},{put},{act}]")?)?;
+    }
+    Ok(items)
+}
+
+// A few calls of outlets that fail, no two alike.
+fn random_refusals(alloc: Global, dice: &mut Lcg, nodes: u64) -> Result<String, AllocError>
+    requires { 1 ≤ nodes }
+{
+    let mut items = String::new(alloc);
+    for place in 0..dice.next() % 4 {
+        let comma = if place == 0 { "" } else { "," };
+        let node = dice.next() % nodes;
+        let call = place * 3 + dice.next() % 3 + 1;
+        items.push_str(&format!(in alloc; "{comma}[{node},{call}]")?)?;
+    }
+    Ok(items)
+}
+
+fn random_script(alloc: Global, dice: &mut Lcg) -> Result<String, AllocError> {
+    let nodes = dice.next() % 5 + 1;
+    let kind = match dice.next() % 6 {
+        0 => "ring",
+        1 => "tally",
+        2 => "share",
+        3 => "kv",
+        _ => "mix",
+    };
+    let (seed, turns) = (dice.next(), dice.next() % 9 + 1);
+    let inputs = random_inputs(alloc, dice, nodes, kind)?;
+    let cuts = random_cuts(alloc, dice, nodes)?;
+    let (mail, acks) = (
+        random_acts(alloc, dice, nodes)?,
+        random_acts(alloc, dice, nodes)?,
+    );
+    let outlets = random_refusals(alloc, dice, nodes)?;
     format!(in alloc;
-        "{{\"nodes\":{nodes},\"kind\":\"{kind}\",\"pages\":1,\"seed\":{seed},\"turns\":{turns},\"inputs\":[{items}]}}"
+        "{{\"nodes\":{nodes},\"kind\":\"{kind}\",\"pages\":1,\"seed\":{seed},\"turns\":{turns},\"inputs\":[{inputs}],\"cuts\":[{cuts}],\"mail\":[{mail}],\"acks\":[{acks}],\"outlets\":[{outlets}]}}"
     )
 }
 
@@ -215,11 +280,15 @@ fn replayed(alloc: Global, facts: &Facts, report: &str) -> Result<Option<String>
 #[test]
 fn the_abstract_network_plays_what_is_reported(rt: HostRuntime) -> Result<(), Fail> {
     let mut dice = Lcg::new(2026);
+    let mut restarts = 0_u64;
     for _script in 0..SCRIPTS {
         let text = random_script(rt.alloc(), &mut dice)?;
-        let (status, sink) = run_of(&rt, &text)?;
-        assert!(rt; matches!(status, Status::Settled | Status::Cut), "{text}");
-        let report = from_utf8(sink.bytes())?;
+        let ran = run_of(&rt, &text)?;
+        let (status, report) = ran.ending()?;
+        assert!(rt;
+            matches!(status, Status::Settled | Status::Cut),
+            "{text}: {status}"
+        );
         let Ok(script) = ken_script::read(rt.alloc(), text.as_bytes()) else {
             continue;
         };
@@ -227,7 +296,14 @@ fn the_abstract_network_plays_what_is_reported(rt: HostRuntime) -> Result<(), Fa
             assert!(rt; false, "a step isn't defined: {text}");
             continue;
         };
-        assert_eq!(rt; report, played.as_str(), "{text}");
+        let plain = faultless(rt.alloc(), report)?;
+        assert_eq!(rt; plain.as_str(), played.as_str(), "{text}");
+        if report.contains("\nrestart ") {
+            restarts = restarts.wrapping_add(1);
+        }
     }
+
+    // The faults were there.
+    assert!(rt; restarts > SCRIPTS / 4, "{restarts} runs with restarts");
     Ok(())
 }

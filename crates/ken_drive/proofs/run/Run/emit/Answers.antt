@@ -62,7 +62,7 @@ returns-clause-less g c = λ was.
     c.emit.ensures.rest refl c.emit.result was (c.emit.ensures.steps game c.args.node (running.nodes c.args.node) up)
 
 pub returns-clause-refused : goal.returns-clause-refused
-returns-clause-refused g c = λ made low are.
+returns-clause-refused g c = λ terms made low are.
     let is : slice_index_or c.args.self.now.stations.items c.args.node c.index_mut.result.now ≡ c.index_mut.result.now = sym (c.index_mut.ensures.value ∙ ap (λ k. slice_index_or c.args.self.now.stations.items k c.index_mut.result.now) c.from.ensures) in
     let up = up-before (λ w. g.D.Disk.told w.disk) (λ w. g.D.Disk.size w.disk) g.U.Outlet.took c.requires.game c.requires.made c.args.self.now c.args.node c.index_mut.result.now c.requires.running c.requires.known is in
-    emit-refused g.U.Outlet.faults g.U.Outlet.fate made c.args.self.now (record c.args.self.now { stations = with_item c.args.self.now.stations c.from.result c.emit.new.self }) c.args.node c.index_mut.result.now c.emit.new.self low (subst (λ n. c.args.node < n) (sym c.requires.running.stands.width) c.requires.known) is (ap (λ k. slice_set c.args.self.now.stations.items k c.emit.new.self) c.from.ensures) are (λ w. g.D.Disk.told w.disk) (λ w. g.D.Disk.size w.disk) c.requires.game (c.requires.running.nodes c.args.node) _ c.emit.result (c.emit.ensures.steps c.requires.game c.args.node (c.requires.running.nodes c.args.node) up) c.emit.ensures.cause c.emit.ensures.fate
+    emit-refused g.U.Outlet.faults g.U.Outlet.fate terms made c.args.self.now (record c.args.self.now { stations = with_item c.args.self.now.stations c.from.result c.emit.new.self }) c.args.node c.index_mut.result.now c.emit.new.self low (subst (λ n. c.args.node < n) (sym c.requires.running.stands.width) c.requires.known) is (ap (λ k. slice_set c.args.self.now.stations.items k c.emit.new.self) c.from.ensures) are (λ w. g.D.Disk.told w.disk) (λ w. g.D.Disk.size w.disk) c.requires.game (c.requires.running.nodes c.args.node) _ c.emit.result (c.emit.ensures.steps c.requires.game c.args.node (c.requires.running.nodes c.args.node) up) c.emit.ensures.cause c.emit.ensures.fate

@@ -43,7 +43,7 @@ returns-clause-moves g c = λ game made running low.
     c.in_ok-hear.ensures.emissions c.in_ok-hear.ensures.refusals steps.0 c.in_ok-hear.ensures.put c.in_ok-hear.ensures.rest steps.1
 
 pub returns-clause-refused : goal.returns-clause-refused
-returns-clause-refused g c = λ made low are.
+returns-clause-refused g c = λ terms made low are.
     let is : slice_index_or c.args.self.now.stations.items c.args.node c.index_mut.result.now ≡ c.index_mut.result.now = sym (c.index_mut.ensures.value ∙ ap (λ k. slice_index_or c.args.self.now.stations.items k c.index_mut.result.now) c.from.ensures) in
     let same = c.in_ok-hear.ensures.refusals in
-    still-refused g.U.Outlet.faults g.U.Outlet.fate made c.args.self.now (record c.args.self.now { stations = with_item c.args.self.now.stations c.from.result c.hear.new.self; waiting = c.hear.new.waiting }) c.args.node c.index_mut.result.now c.hear.new.self low (subst (λ n. c.args.node < n) (sym c.requires.running.stands.width) c.requires.known) is (ap (λ k. slice_set c.args.self.now.stations.items k c.hear.new.self) c.from.ensures) are (omega (arith, same)) (ap (λ x. x.out) c.in_ok-hear.ensures.rest)
+    still-refused g.U.Outlet.faults g.U.Outlet.fate terms made c.args.self.now (record c.args.self.now { stations = with_item c.args.self.now.stations c.from.result c.hear.new.self; waiting = c.hear.new.waiting }) c.args.node c.index_mut.result.now c.hear.new.self low (subst (λ n. c.args.node < n) (sym c.requires.running.stands.width) c.requires.known) is (ap (λ k. slice_set c.args.self.now.stations.items k c.hear.new.self) c.from.ensures) are (omega (arith, same)) (ap (λ x. x.out) c.in_ok-hear.ensures.rest)

@@ -16,7 +16,7 @@ outputs-init g c = record {
   up = stays-first (λ w. g.D.Disk.told w.disk) (λ w. g.D.Disk.size w.disk) g.U.Outlet.took c.args.node c.args.self.now;
   moved = moves-none (λ w. g.D.Disk.told w.disk) (λ w. g.D.Disk.size w.disk) g.U.Outlet.took (λ game. MayEmit c.args.node) c.args.node c.args.self.now (λ game f. inl refl);
   accounts = λ terms game made running low accounted. accounted;
-  refused = λ made low are. are;
+  refused = λ terms made low are. are;
 }
 
 pub returns-in_err-emit-clause-leaves : goal.returns-in_err-emit-clause-leaves
@@ -37,7 +37,7 @@ outputs-preserved g c = record {
   up = λ game made running low. c.in_ok-emit.ensures.leaves game made (c.outputs.invariant.up game made running low) low;
   moved = moves-then (λ w. g.D.Disk.told w.disk) (λ w. g.D.Disk.size w.disk) g.U.Outlet.took (λ game. MayEmit c.args.node) (λ game. Emits c.args.node) (λ game. MayEmit c.args.node) c.args.node c.args.self.now c.outputs.self c.emit.new.self (λ game f f2 f3 a b. inr (may-emit-then c.args.node f f2 f3 a b)) c.outputs.invariant.moved c.in_ok-emit.ensures.moves;
   accounts = λ terms game made running low accounted. c.in_ok-emit.ensures.accounts terms game made (c.outputs.invariant.up game made running low) low (c.outputs.invariant.accounts terms game made running low accounted);
-  refused = λ made low are. c.in_ok-emit.ensures.refused made low (c.outputs.invariant.refused made low are);
+  refused = λ terms made low are. c.in_ok-emit.ensures.refused terms made low (c.outputs.invariant.refused terms made low are);
 }
 
 pub returns-clause-leaves : goal.returns-clause-leaves
@@ -50,8 +50,8 @@ pub returns-clause-moves : goal.returns-clause-moves
 returns-clause-moves g c = moves-then (λ w. g.D.Disk.told w.disk) (λ w. g.D.Disk.size w.disk) g.U.Outlet.took (λ game. MayEmit c.args.node) (λ game. Emits c.args.node) (λ game. Emits c.args.node) c.args.node c.args.self.now c.outputs.self c.emit.new.self (λ game. may-emit-then c.args.node) c.outputs.invariant.moved c.in_ok-emit.ensures.moves
 
 pub returns-in_err-emit-clause-refused : goal.returns-in_err-emit-clause-refused
-returns-in_err-emit-clause-refused g c = λ made low are.
-    refused-handed-on g.U.Outlet.faults g.U.Outlet.fate made c.emit.new.self c.args.node c.from_residual.result c.in_err-emit.field-0.0 c.from_residual.ensures.1 (c.in_err-emit.ensures.refused made low (c.outputs.invariant.refused made low are))
+returns-in_err-emit-clause-refused g c = λ terms made low are.
+    refused-handed-on g.U.Outlet.faults g.U.Outlet.fate terms made c.emit.new.self c.args.node c.from_residual.result c.in_err-emit.field-0.0 c.from_residual.ensures.1 (c.in_err-emit.ensures.refused terms made low (c.outputs.invariant.refused terms made low are))
 
 pub returns-clause-refused : goal.returns-clause-refused
-returns-clause-refused g c = λ made low are. c.in_ok-emit.ensures.refused made low (c.outputs.invariant.refused made low are)
+returns-clause-refused g c = λ terms made low are. c.in_ok-emit.ensures.refused terms made low (c.outputs.invariant.refused terms made low are)

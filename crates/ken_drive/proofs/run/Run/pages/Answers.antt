@@ -15,7 +15,7 @@ pages-init g c = record {
   up = stays-first (λ w. g.D.Disk.told w.disk) (λ w. g.D.Disk.size w.disk) g.U.Outlet.took c.args.node c.args.self.now;
   moved = moves-none (λ w. g.D.Disk.told w.disk) (λ w. g.D.Disk.size w.disk) g.U.Outlet.took (λ game. Written c.args.node) c.args.node c.args.self.now (λ game. written-none c.args.node);
   accounts = λ terms game made running low accounted. accounted;
-  refused = λ made low are. are;
+  refused = λ terms made low are. are;
 }
 
 pub returns-in_err-patch-clause-leaves : goal.returns-in_err-patch-clause-leaves
@@ -36,7 +36,7 @@ pages-preserved g c = record {
   up = λ game made running low. c.in_ok-patch.ensures.leaves game made (c.pages.invariant.up game made running low) low;
   moved = moves-then (λ w. g.D.Disk.told w.disk) (λ w. g.D.Disk.size w.disk) g.U.Outlet.took (λ game. Written c.args.node) (λ game. Written c.args.node) (λ game. Written c.args.node) c.args.node c.args.self.now c.pages.self c.patch.new.self (λ game. written-then c.args.node) c.pages.invariant.moved c.in_ok-patch.ensures.moves;
   accounts = λ terms game made running low accounted. c.in_ok-patch.ensures.accounts terms game made (c.pages.invariant.up game made running low) low (c.pages.invariant.accounts terms game made running low accounted);
-  refused = λ made low are. c.in_ok-patch.ensures.refused made low (c.pages.invariant.refused made low are);
+  refused = λ terms made low are. c.in_ok-patch.ensures.refused terms made low (c.pages.invariant.refused terms made low are);
 }
 
 pub returns-clause-leaves : goal.returns-clause-leaves
@@ -49,8 +49,8 @@ pub returns-clause-moves : goal.returns-clause-moves
 returns-clause-moves g c = moves-then (λ w. g.D.Disk.told w.disk) (λ w. g.D.Disk.size w.disk) g.U.Outlet.took (λ game. Written c.args.node) (λ game. Written c.args.node) (λ game. Written c.args.node) c.args.node c.args.self.now c.pages.self c.patch.new.self (λ game. written-then c.args.node) c.pages.invariant.moved c.in_ok-patch.ensures.moves
 
 pub returns-in_err-patch-clause-refused : goal.returns-in_err-patch-clause-refused
-returns-in_err-patch-clause-refused g c = λ made low are.
-    refused-handed-on g.U.Outlet.faults g.U.Outlet.fate made c.patch.new.self c.args.node c.from_residual.result c.in_err-patch.field-0.0 c.from_residual.ensures.1 (c.in_err-patch.ensures.refused made low (c.pages.invariant.refused made low are))
+returns-in_err-patch-clause-refused g c = λ terms made low are.
+    refused-handed-on g.U.Outlet.faults g.U.Outlet.fate terms made c.patch.new.self c.args.node c.from_residual.result c.in_err-patch.field-0.0 c.from_residual.ensures.1 (c.in_err-patch.ensures.refused terms made low (c.pages.invariant.refused terms made low are))
 
 pub returns-clause-refused : goal.returns-clause-refused
-returns-clause-refused g c = λ made low are. c.in_ok-patch.ensures.refused made low (c.pages.invariant.refused made low are)
+returns-clause-refused g c = λ terms made low are. c.in_ok-patch.ensures.refused terms made low (c.pages.invariant.refused terms made low are)

@@ -3,7 +3,7 @@ use Rattle.std.proofs.Common.{arith}
 use Rattle.ken_drive.specs.Draining.{PassedIdly}
 use Rattle.ken_drive.proofs.Draining.{came-failed, few-stations, may-go-on, may-still, passed-ended, passed-idly, passed-same, passed-whole}
 use Rattle.ken_drive.proofs.AccountsRestarts.{run-accounts-handed-on}
-use Rattle.ken_drive.proofs.Refusals.{run-refused-handed-on}
+use Rattle.ken_drive.proofs.Refusals.{run-refused-handed-on, stops-handed-on}
 use Rattle.ken_drive.proofs.run.Run.pass_on.Goals as goal
 
 pub pass-requires : goal.pass-requires
@@ -50,15 +50,19 @@ pub returns-clause-accounts : goal.returns-clause-accounts
 returns-clause-accounts g c = λ terms game made running all accounted. c.in_ok-pass.ensures.accounts terms game made running accounted
 
 pub returns-in_err-pass-clause-refused : goal.returns-in_err-pass-clause-refused
-returns-in_err-pass-clause-refused g c = λ game made running all are.
+returns-in_err-pass-clause-refused g c = λ terms game made running all are.
     let count = running.stands.count in
-    run-refused-handed-on g.U.Outlet.faults g.U.Outlet.fate made c.pass.new.self c.from_residual.result c.in_err-pass.field-0.0 c.from_residual.ensures.1 (c.in_err-pass.ensures.refused made (omega (arith, count)) are)
+    run-refused-handed-on g.U.Outlet.faults g.U.Outlet.fate terms made c.pass.new.self c.from_residual.result c.in_err-pass.field-0.0 c.from_residual.ensures.1 (c.in_err-pass.ensures.refused terms made (omega (arith, count)) are)
 
 pub returns-then-has_ended-clause-refused : goal.returns-then-has_ended-clause-refused
-returns-then-has_ended-clause-refused g c = λ game made running all are. let count = running.stands.count in c.in_ok-pass.ensures.refused made (omega (arith, count)) are
+returns-then-has_ended-clause-refused g c = λ terms game made running all are. let count = running.stands.count in c.in_ok-pass.ensures.refused terms made (omega (arith, count)) are
 
 pub returns-then-left-clause-refused : goal.returns-then-left-clause-refused
-returns-then-left-clause-refused g c = λ game made running all are. let count = running.stands.count in c.in_ok-pass.ensures.refused made (omega (arith, count)) are
+returns-then-left-clause-refused g c = λ terms game made running all are. let count = running.stands.count in c.in_ok-pass.ensures.refused terms made (omega (arith, count)) are
 
 pub returns-clause-refused : goal.returns-clause-refused
-returns-clause-refused g c = λ game made running all are. let count = running.stands.count in c.in_ok-pass.ensures.refused made (omega (arith, count)) are
+returns-clause-refused g c = λ terms game made running all are. let count = running.stands.count in c.in_ok-pass.ensures.refused terms made (omega (arith, count)) are
+
+pub returns-in_err-pass-clause-stops : goal.returns-in_err-pass-clause-stops
+returns-in_err-pass-clause-stops g c = λ terms game made running all accounted are.
+    stops-handed-on (λ w. g.D.Disk.told w.disk) (λ w. g.D.Disk.faults w.disk) (λ w. g.D.Disk.fate w.disk) g.O.Oracle.telling g.U.Outlet.faults g.U.Outlet.fate terms game made c.pass.new.self c.from_residual.result c.in_err-pass.field-0.0 c.from_residual.ensures.1 (c.in_err-pass.ensures.stops terms game made running accounted are)

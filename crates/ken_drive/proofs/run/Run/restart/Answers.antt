@@ -11,7 +11,7 @@ use Rattle.ken_node.specs.NodeCalls.{UnlessMemory}
 use Rattle.ken_drive.specs.Flowing.{work_left}
 
 pub tries-init : goal.tries-init
-tries-init g c = record { refused = λ made low are. are; most_was = refl; accounts = λ terms game made stopped held. held; down = λ game made stopped. stopped; less = omega arith; most_is = refl }
+tries-init g c = record { refused = λ terms made low are. are; most_was = refl; accounts = λ terms game made stopped held. held; down = λ game made stopped. stopped; less = omega arith; most_is = refl }
 
 pub tries-requires : goal.tries-requires
 tries-requires g c = let stopped = c.tries.invariant.down c.requires.game c.requires.made c.requires.stopped in subst (λ n. c.args.node < n) (sym stopped.stands.width) stopped.known
@@ -45,8 +45,8 @@ tries-preserved g c = record {
   most_is = c.tries.invariant.most_is ∙ sym c.restart_once.ensures.same;
   accounts = λ terms game made stopped held.
       subst (λ x. AccountsFault (λ w. g.D.Disk.told w.disk) (λ w. g.D.Disk.faults w.disk) (λ w. g.D.Disk.fate w.disk) g.O.Oracle.telling terms game x made c.args.node c.restart_once.new.self) c.in-Err-Disk.field-0-is (c.in-Err-Disk.ensures.accounts terms game made (c.tries.invariant.down game made stopped) held.most (c.tries.invariant.accounts terms game made stopped held));
-  refused = λ made low are.
-      subst (λ x. RefusedFault g.U.Outlet.faults g.U.Outlet.fate x made c.args.node c.restart_once.new.self) c.in-Err-Disk.field-0-is (c.in-Err-Disk.ensures.refused made low (c.tries.invariant.refused made low are));
+  refused = λ terms made low are.
+      subst (λ x. RefusedFault g.U.Outlet.faults g.U.Outlet.fate terms x made c.args.node c.restart_once.new.self) c.in-Err-Disk.field-0-is (c.in-Err-Disk.ensures.refused terms made low (c.tries.invariant.refused terms made low are));
   most_was = c.in-Err-Disk.ensures.same ∙ c.tries.invariant.most_was;
 }
 
@@ -59,10 +59,19 @@ returns-clause-accounts g c = λ terms game made stopped held.
     inl (used-up (λ w. g.D.Disk.told w.disk) (λ w. g.D.Disk.faults w.disk) (λ w. g.D.Disk.fate w.disk) g.O.Oracle.telling terms game made c.args.node c.tries.self (subst (λ n. c.args.node < n) (sym now.stands.width) now.known) (omega (arith, c.tries-test.false, held.most)) (c.tries.invariant.accounts terms game made stopped held))
 
 pub returns-in-Ok-clause-refused : goal.returns-in-Ok-clause-refused
-returns-in-Ok-clause-refused g c = λ made low are. c.in-Ok.ensures.refused made low (c.tries.invariant.refused made low are)
+returns-in-Ok-clause-refused g c = λ terms made low are. c.in-Ok.ensures.refused terms made low (c.tries.invariant.refused terms made low are)
 
 pub returns-clause-refused : goal.returns-clause-refused
-returns-clause-refused g c = λ made low are.
+returns-clause-refused g c = λ terms made low are.
     let now = c.tries.invariant.down c.requires.game c.requires.made c.requires.stopped in
     let most = c.tries.invariant.most_was in
-    (c.tries.invariant.refused made low are, inr (used-up-of c.args.node c.tries.self (subst (λ n. c.args.node < n) (sym now.stands.width) now.known) (omega (arith, c.tries-test.false, most))))
+    (c.tries.invariant.refused terms made low are, inr (used-up-of c.args.node c.tries.self (subst (λ n. c.args.node < n) (sym now.stands.width) now.known) (omega (arith, c.tries-test.false, most))))
+
+pub returns-clause-stops : goal.returns-clause-stops
+returns-clause-stops g c = λ terms game made stopped held.
+    let now = c.tries.invariant.down game made stopped in
+    inl (used-up (λ w. g.D.Disk.told w.disk) (λ w. g.D.Disk.faults w.disk) (λ w. g.D.Disk.fate w.disk) g.O.Oracle.telling terms game made c.args.node c.tries.self (subst (λ n. c.args.node < n) (sym now.stands.width) now.known) (omega (arith, c.tries-test.false, held.most)) (c.tries.invariant.accounts terms game made stopped held))
+
+pub returns-in-Err-Damaged-clause-leaves : goal.returns-in-Err-Damaged-clause-leaves
+returns-in-Err-Damaged-clause-leaves g c = λ game made stopped.
+    subst (λ x. LeavesFault (λ w. g.D.Disk.told w.disk) (λ w. g.D.Disk.size w.disk) g.U.Outlet.took x game made c.args.node c.restart_once.new.self) c.in-Err-Damaged.field-0-is (c.in-Err-Damaged.ensures.leaves game made (c.tries.invariant.down game made stopped))

@@ -63,10 +63,10 @@ returns-clause-worked g c = λ within.
     (c.restart.ensures.back c.requires.may.game c.args.node stopped.given (stopped.nodes c.args.node) stopped.doubt (subst (λ x. IsDown (λ w. g.D.Disk.told w.disk) c.requires.may.game c.args.node stopped.given (stopped.nodes c.args.node) stopped.doubt x.node.stage) is (stopped.down c.index_mut.result.now)))
 
 pub returns-clause-refused : goal.returns-clause-refused
-returns-clause-refused g c = λ made low are.
+returns-clause-refused g c = λ terms made low are.
     let is : slice_index_or c.args.self.now.stations.items c.args.node c.index_mut.result.now ≡ c.index_mut.result.now = sym (c.index_mut.ensures.value ∙ ap (λ k. slice_index_or c.args.self.now.stations.items k c.index_mut.result.now) c.from.ensures) in
     let stopped = c.requires.may.stopped in
-    call-refused g.U.Outlet.faults g.U.Outlet.fate made c.args.self.now (record c.args.self.now { stations = with_item c.args.self.now.stations c.from.result c.restart.new.self }) c.args.node c.index_mut.result.now c.restart.new.self low (subst (λ n. c.args.node < n) (sym stopped.stands.width) stopped.known) is (ap (λ k. slice_set c.args.self.now.stations.items k c.restart.new.self) c.from.ensures) are c.restart.result
+    call-refused g.U.Outlet.faults g.U.Outlet.fate terms made c.args.self.now (record c.args.self.now { stations = with_item c.args.self.now.stations c.from.result c.restart.new.self }) c.args.node c.index_mut.result.now c.restart.new.self low (subst (λ n. c.args.node < n) (sym stopped.stands.width) stopped.known) is (ap (λ k. slice_set c.args.self.now.stations.items k c.restart.new.self) c.from.ensures) are c.restart.result
     (restart-tells-none (λ w. g.D.Disk.told w.disk) (λ w. g.D.Disk.size w.disk) c.requires.may.game c.args.node stopped.given (stopped.nodes c.args.node) stopped.doubt c.index_mut.result.now c.restart.new.self c.restart.result
     (c.restart.ensures.back c.requires.may.game c.args.node stopped.given (stopped.nodes c.args.node) stopped.doubt (subst (λ x. IsDown (λ w. g.D.Disk.told w.disk) c.requires.may.game c.args.node stopped.given (stopped.nodes c.args.node) stopped.doubt x.node.stage) is (stopped.down c.index_mut.result.now))))
     c.restart.ensures.refusals (ap (λ x. x.out) c.restart.ensures.rest)

@@ -86,11 +86,11 @@ returns-clause-less g c = λ was.
     steps.0 _ up.handler c.turn.ensures.emissions c.turn.ensures.refusals c.turn.ensures.rest c.turn.result was steps.1
 
 pub returns-clause-refused : goal.returns-clause-refused
-returns-clause-refused g c = λ made low are.
+returns-clause-refused g c = λ terms made low are.
     let is : slice_index_or c.args.self.now.stations.items c.args.node c.index_mut.result.now ≡ c.index_mut.result.now = sym (c.index_mut.ensures.value ∙ ap (λ k. slice_index_or c.args.self.now.stations.items k c.index_mut.result.now) c.from.ensures) in
     let up = up-before (λ w. g.D.Disk.told w.disk) (λ w. g.D.Disk.size w.disk) g.U.Outlet.took c.requires.game c.requires.made c.args.self.now c.args.node c.index_mut.result.now c.requires.running c.requires.known is in
     let own = own-station (λ w. g.D.Disk.told w.disk) (λ w. g.D.Disk.size w.disk) g.U.Outlet.took c.requires.game c.requires.made c.args.self.now c.args.node c.index_mut.result.now c.requires.running c.requires.known is in
     let steps = c.turn.ensures.steps c.requires.game c.args.node (c.requires.running.nodes c.args.node) up (sym own.acks.from) c.requires.running.stands.handler in
     let same = c.turn.ensures.refusals in
-    call-refused g.U.Outlet.faults g.U.Outlet.fate made c.args.self.now (record c.args.self.now { stations = with_item c.args.self.now.stations c.from.result c.turn.new.self; waiting = c.turn.new.waiting }) c.args.node c.index_mut.result.now c.turn.new.self low (subst (λ n. c.args.node < n) (sym c.requires.running.stands.width) c.requires.known) is (ap (λ k. slice_set c.args.self.now.stations.items k c.turn.new.self) c.from.ensures) are c.turn.result
+    call-refused g.U.Outlet.faults g.U.Outlet.fate terms made c.args.self.now (record c.args.self.now { stations = with_item c.args.self.now.stations c.from.result c.turn.new.self; waiting = c.turn.new.waiting }) c.args.node c.index_mut.result.now c.turn.new.self low (subst (λ n. c.args.node < n) (sym c.requires.running.stands.width) c.requires.known) is (ap (λ k. slice_set c.args.self.now.stations.items k c.turn.new.self) c.from.ensures) are c.turn.result
     (turn-tells-none (λ w. g.D.Disk.told w.disk) (λ w. g.D.Disk.size w.disk) c.requires.game c.args.node (c.requires.running.nodes c.args.node) _ _ _ 0 steps.0 up.handler c.turn.new.self.node.stage c.turn.result steps.1) (omega (arith, same)) (ap (λ x. x.out) c.turn.ensures.rest)

@@ -16,7 +16,7 @@ turns-init g c = record {
   up = stays-first (λ w. g.D.Disk.told w.disk) (λ w. g.D.Disk.size w.disk) g.U.Outlet.took c.args.node c.args.self.now;
   moved = moves-none (λ w. g.D.Disk.told w.disk) (λ w. g.D.Disk.size w.disk) g.U.Outlet.took (λ game f f2. f2 ≡ f) c.args.node c.args.self.now (λ game f. refl);
   accounts = λ terms game made running low accounted. accounted;
-  refused = λ made low are. are;
+  refused = λ terms made low are. are;
 }
 
 pub returns-in_err-turn-clause-leaves : goal.returns-in_err-turn-clause-leaves
@@ -37,7 +37,7 @@ turns-preserved g c = record {
   up = λ game made running low. c.in_ok-turn.ensures.leaves game made (c.turns.invariant.up game made running low) low;
   moved = moves-worked (λ w. g.D.Disk.told w.disk) (λ w. g.D.Disk.size w.disk) g.U.Outlet.took (λ game f f2. f2 ≡ f) (λ game f f2. f2 ≡ f) c.args.node c.args.self.now c.turns.self c.turn.new.self c.turns.invariant.moved (λ game made running low. c.in_ok-turn.ensures.leaves game made running low) (c.in_ok-turn.ensures.worked (let is = c.in-Turn.is in cc));
   accounts = λ terms game made running low accounted. c.in_ok-turn.ensures.accounts terms game made (c.turns.invariant.up game made running low) low (c.turns.invariant.accounts terms game made running low accounted);
-  refused = λ made low are. c.in_ok-turn.ensures.refused made low (c.turns.invariant.refused made low are);
+  refused = λ terms made low are. c.in_ok-turn.ensures.refused terms made low (c.turns.invariant.refused terms made low are);
 }
 
 pub returns-clause-leaves : goal.returns-clause-leaves
@@ -50,8 +50,8 @@ pub returns-clause-moves : goal.returns-clause-moves
 returns-clause-moves g c = moves-then (λ w. g.D.Disk.told w.disk) (λ w. g.D.Disk.size w.disk) g.U.Outlet.took (λ game f f2. f2 ≡ f) (λ game. Rested game c.args.node) (λ game. Rested game c.args.node) c.args.node c.args.self.now c.turns.self c.turn.new.self (λ game f f2 f3 same b. rested-then game c.args.node f f2 f3 same b) c.turns.invariant.moved c.in_ok-turn.ensures.moves
 
 pub returns-in_err-turn-clause-refused : goal.returns-in_err-turn-clause-refused
-returns-in_err-turn-clause-refused g c = λ made low are.
-    refused-handed-on g.U.Outlet.faults g.U.Outlet.fate made c.turn.new.self c.args.node c.from_residual.result c.in_err-turn.field-0.0 c.from_residual.ensures.1 (c.in_err-turn.ensures.refused made low (c.turns.invariant.refused made low are))
+returns-in_err-turn-clause-refused g c = λ terms made low are.
+    refused-handed-on g.U.Outlet.faults g.U.Outlet.fate terms made c.turn.new.self c.args.node c.from_residual.result c.in_err-turn.field-0.0 c.from_residual.ensures.1 (c.in_err-turn.ensures.refused terms made low (c.turns.invariant.refused terms made low are))
 
 pub returns-clause-refused : goal.returns-clause-refused
-returns-clause-refused g c = λ made low are. c.in_ok-turn.ensures.refused made low (c.turns.invariant.refused made low are)
+returns-clause-refused g c = λ terms made low are. c.in_ok-turn.ensures.refused terms made low (c.turns.invariant.refused terms made low are)

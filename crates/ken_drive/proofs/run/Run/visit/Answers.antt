@@ -47,13 +47,26 @@ returns-in-Err-Outlet-clause-accounts g c = λ terms game made running low accou
     inr (subst (λ x. AccountsFault (λ w. g.D.Disk.told w.disk) (λ w. g.D.Disk.faults w.disk) (λ w. g.D.Disk.fate w.disk) g.O.Oracle.telling terms game x made c.args.node c.work.new.self) c.in-Err-Outlet.field-0-is (c.in-Err-Outlet.ensures.accounts terms game made running low accounted))
 
 pub returns-in-Ok-clause-refused : goal.returns-in-Ok-clause-refused
-returns-in-Ok-clause-refused g c = λ made low are. c.in-Ok.ensures.refused made low are
+returns-in-Ok-clause-refused g c = λ terms made low are. c.in-Ok.ensures.refused terms made low are
 
 pub returns-in-Err-Disk-clause-refused : goal.returns-in-Err-Disk-clause-refused
-returns-in-Err-Disk-clause-refused g c = λ made low are.
-    c.restart.ensures.refused made low (subst (λ x. RefusedFault g.U.Outlet.faults g.U.Outlet.fate x made c.args.node c.work.new.self) c.in-Err-Disk.field-0-is (c.in-Err-Disk.ensures.refused made low are))
+returns-in-Err-Disk-clause-refused g c = λ terms made low are.
+    c.restart.ensures.refused terms made low (subst (λ x. RefusedFault g.U.Outlet.faults g.U.Outlet.fate terms x made c.args.node c.work.new.self) c.in-Err-Disk.field-0-is (c.in-Err-Disk.ensures.refused terms made low are))
 
 pub returns-in-Err-Outlet-clause-refused : goal.returns-in-Err-Outlet-clause-refused
-returns-in-Err-Outlet-clause-refused g c = λ made low are.
-    let both = subst (λ x. RefusedFault g.U.Outlet.faults g.U.Outlet.fate x made c.args.node c.work.new.self) c.in-Err-Outlet.field-0-is (c.in-Err-Outlet.ensures.refused made low are) in
+returns-in-Err-Outlet-clause-refused g c = λ terms made low are.
+    let both = subst (λ x. RefusedFault g.U.Outlet.faults g.U.Outlet.fate terms x made c.args.node c.work.new.self) c.in-Err-Outlet.field-0-is (c.in-Err-Outlet.ensures.refused terms made low are) in
     (both.0, inl both.1)
+
+pub returns-in-Err-Disk-clause-stops : goal.returns-in-Err-Disk-clause-stops
+returns-in-Err-Disk-clause-stops g c = λ terms game made running low accounted are.
+    c.restart.ensures.stops terms game made (subst (λ x. LeavesFault (λ w. g.D.Disk.told w.disk) (λ w. g.D.Disk.size w.disk) g.U.Outlet.took x game made c.args.node c.work.new.self) c.in-Err-Disk.field-0-is (c.in-Err-Disk.ensures.leaves game made running low))
+    (subst (λ x. AccountsFault (λ w. g.D.Disk.told w.disk) (λ w. g.D.Disk.faults w.disk) (λ w. g.D.Disk.fate w.disk) g.O.Oracle.telling terms game x made c.args.node c.work.new.self) c.in-Err-Disk.field-0-is (c.in-Err-Disk.ensures.accounts terms game made running low accounted))
+
+pub returns-in-Err-Outlet-clause-stops : goal.returns-in-Err-Outlet-clause-stops
+returns-in-Err-Outlet-clause-stops g c = λ terms game made running low accounted are.
+    inr (subst (λ x. RefusedFault g.U.Outlet.faults g.U.Outlet.fate terms x made c.args.node c.work.new.self) c.in-Err-Outlet.field-0-is (c.in-Err-Outlet.ensures.refused terms made low are)).1
+
+pub returns-in-Err-Damaged-clause-leaves : goal.returns-in-Err-Damaged-clause-leaves
+returns-in-Err-Damaged-clause-leaves g c = λ game made running low.
+    subst (λ x. LeavesFault (λ w. g.D.Disk.told w.disk) (λ w. g.D.Disk.size w.disk) g.U.Outlet.took x game made c.args.node c.work.new.self) c.in-Err-Damaged.field-0-is (c.in-Err-Damaged.ensures.leaves game made running low)

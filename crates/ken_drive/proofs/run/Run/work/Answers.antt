@@ -119,36 +119,36 @@ returns-clause-moves g c =
     (λ last. visit-moves (λ w. g.D.Disk.told w.disk) (λ w. g.D.Disk.size w.disk) g.U.Outlet.took c.args.node c.args.self.now c.turns.new.self c.pages.new.self c.settle.new.self c.send.new.self c.hear.new.self c.outputs.new.self c.in_ok-turns.ensures.moves c.in_ok-pages.ensures.moves c.in_ok-settle.ensures.moves c.in_ok-send.ensures.moves c.in_ok-hear.ensures.moves last)
 
 pub returns-in_err-pages-clause-refused : goal.returns-in_err-pages-clause-refused
-returns-in_err-pages-clause-refused g c = λ made low a0.
-    let a1 = c.in_ok-turns.ensures.refused made low a0 in
-    refused-handed-on g.U.Outlet.faults g.U.Outlet.fate made c.pages.new.self c.args.node c.from_residual-in_err-pages.result c.in_err-pages.field-0.0 c.from_residual-in_err-pages.ensures.1 (c.in_err-pages.ensures.refused made low a1)
+returns-in_err-pages-clause-refused g c = λ terms made low a0.
+    let a1 = c.in_ok-turns.ensures.refused terms made low a0 in
+    refused-handed-on g.U.Outlet.faults g.U.Outlet.fate terms made c.pages.new.self c.args.node c.from_residual-in_err-pages.result c.in_err-pages.field-0.0 c.from_residual-in_err-pages.ensures.1 (c.in_err-pages.ensures.refused terms made low a1)
 
 pub returns-in_err-settle-clause-refused : goal.returns-in_err-settle-clause-refused
-returns-in_err-settle-clause-refused g c = λ made low a0.
-    let a1 = c.in_ok-turns.ensures.refused made low a0 in
-    let a2 = c.in_ok-pages.ensures.refused made low a1 in
-    refused-handed-on g.U.Outlet.faults g.U.Outlet.fate made c.settle.new.self c.args.node c.from_residual-in_err-settle.result c.in_err-settle.field-0.0 c.from_residual-in_err-settle.ensures.1 (c.in_err-settle.ensures.refused made low a2)
+returns-in_err-settle-clause-refused g c = λ terms made low a0.
+    let a1 = c.in_ok-turns.ensures.refused terms made low a0 in
+    let a2 = c.in_ok-pages.ensures.refused terms made low a1 in
+    refused-handed-on g.U.Outlet.faults g.U.Outlet.fate terms made c.settle.new.self c.args.node c.from_residual-in_err-settle.result c.in_err-settle.field-0.0 c.from_residual-in_err-settle.ensures.1 (c.in_err-settle.ensures.refused terms made low a2)
 
 pub returns-in_err-send-clause-refused : goal.returns-in_err-send-clause-refused
-returns-in_err-send-clause-refused g c = λ made low a0.
-    let a1 = c.in_ok-turns.ensures.refused made low a0 in
-    let a2 = c.in_ok-pages.ensures.refused made low a1 in
-    let a3 = c.in_ok-settle.ensures.refused made low a2 in
-    refused-handed-on g.U.Outlet.faults g.U.Outlet.fate made c.send.new.self c.args.node c.from_residual-in_err-send.result c.in_err-send.field-0.0 c.from_residual-in_err-send.ensures.1 (c.in_err-send.ensures.refused made low a3)
+returns-in_err-send-clause-refused g c = λ terms made low a0.
+    let a1 = c.in_ok-turns.ensures.refused terms made low a0 in
+    let a2 = c.in_ok-pages.ensures.refused terms made low a1 in
+    let a3 = c.in_ok-settle.ensures.refused terms made low a2 in
+    refused-handed-on g.U.Outlet.faults g.U.Outlet.fate terms made c.send.new.self c.args.node c.from_residual-in_err-send.result c.in_err-send.field-0.0 c.from_residual-in_err-send.ensures.1 (c.in_err-send.ensures.refused terms made low a3)
 
 pub returns-in_err-hear-clause-refused : goal.returns-in_err-hear-clause-refused
-returns-in_err-hear-clause-refused g c = λ made low a0.
-    let a1 = c.in_ok-turns.ensures.refused made low a0 in
-    let a2 = c.in_ok-pages.ensures.refused made low a1 in
-    let a3 = c.in_ok-settle.ensures.refused made low a2 in
-    let a4 = c.in_ok-send.ensures.refused made low a3 in
-    refused-handed-on g.U.Outlet.faults g.U.Outlet.fate made c.hear.new.self c.args.node c.from_residual-in_err-hear.result c.in_err-hear.field-0.0 c.from_residual-in_err-hear.ensures.1 (c.in_err-hear.ensures.refused made low a4)
+returns-in_err-hear-clause-refused g c = λ terms made low a0.
+    let a1 = c.in_ok-turns.ensures.refused terms made low a0 in
+    let a2 = c.in_ok-pages.ensures.refused terms made low a1 in
+    let a3 = c.in_ok-settle.ensures.refused terms made low a2 in
+    let a4 = c.in_ok-send.ensures.refused terms made low a3 in
+    refused-handed-on g.U.Outlet.faults g.U.Outlet.fate terms made c.hear.new.self c.args.node c.from_residual-in_err-hear.result c.in_err-hear.field-0.0 c.from_residual-in_err-hear.ensures.1 (c.in_err-hear.ensures.refused terms made low a4)
 
 pub returns-clause-refused : goal.returns-clause-refused
-returns-clause-refused g c = λ made low a0.
-    let a1 = c.in_ok-turns.ensures.refused made low a0 in
-    let a2 = c.in_ok-pages.ensures.refused made low a1 in
-    let a3 = c.in_ok-settle.ensures.refused made low a2 in
-    let a4 = c.in_ok-send.ensures.refused made low a3 in
-    let a5 = c.in_ok-hear.ensures.refused made low a4 in
-    c.outputs.ensures.refused made low a5
+returns-clause-refused g c = λ terms made low a0.
+    let a1 = c.in_ok-turns.ensures.refused terms made low a0 in
+    let a2 = c.in_ok-pages.ensures.refused terms made low a1 in
+    let a3 = c.in_ok-settle.ensures.refused terms made low a2 in
+    let a4 = c.in_ok-send.ensures.refused terms made low a3 in
+    let a5 = c.in_ok-hear.ensures.refused terms made low a4 in
+    c.outputs.ensures.refused terms made low a5

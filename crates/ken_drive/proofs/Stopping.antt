@@ -1,0 +1,183 @@
+-- What stops a run, by the devices that are kept and by its script.
+use Rattle.std.proofs.Common.{◌≡◌, ◌∙◌, ℕ, suc, zero, ◌+◌, ◌-◌, ◌^◌, ◌<◌, ◌≤◌, ◌==◌, min, inl, inr, ⊎_elim, ◌⊎◌, Bool, true, false, cond, List, [], ◌∷◌, length, map, filter, slice_index_or, Option, Some, None, Result, Ok, Err, refl, sym, subst, arith}
+use Rattle.std.specs.Prelude.{IfErr}
+use Rattle.std.specs.List.{AllByRecursion, Contains}
+use Rattle.std.specs.Result.{IsErrAnd}
+use Rattle.ken_disk.specs.Fates as disk
+use Rattle.ken_disk.specs.Story.{Story}
+use Rattle.ken_model.specs.declared.messages.Out.{Out}
+use Rattle.ken_model.specs.declared.reports.Lines.{Lines}
+use Rattle.ken_model.specs.Game.{Game, game_of}
+use Rattle.ken_app.specs.Oracles.{Telling}
+use Rattle.ken_script.specs.declared.scripts.OutFail.{OutFail}
+use Rattle.ken_script.specs.declared.scripts.Script.{Script}
+use Rattle.ken_script.specs.declared.scripts.TheConstants.{MAX_COUNT}
+use Rattle.ken_script.specs.Within.{AreOutFailsOf, KeepsRules}
+use Rattle.ken_ship.specs.Fates.{Fate}
+use Rattle.ken_store.specs.declared.disks.Disks.{Disks}
+use Rattle.ken_node.specs.declared.watched.Watched.{Watched}
+use Rattle.ken_node.specs.Stages.{HasDisks}
+use Rattle.ken_drive.specs.declared.faults.RunFault.{RunFault}
+use Rattle.ken_drive.specs.declared.faults.RunFault.TheVariants.{Damaged, Down, Memory}
+use Rattle.ken_drive.specs.declared.run.Run.{Run}
+use Rattle.ken_drive.specs.declared.station.Station.{Station}
+use Rattle.ken_drive.specs.Accounts.{IsHeld, IsUsedUp, Terms, faults_of}
+use Rattle.ken_drive.specs.Driven.{DrivesBy, EndsBy, HasGoneDown, HasStoppedAt, Views}
+use Rattle.ken_drive.specs.Finishing.{WasKept, unwatched}
+use Rattle.ken_drive.specs.Refusals.{AreRefused, HasFailedLast, IsWornOut, MayFailAt, RefusedRunFault, StopsBy}
+use Rattle.ken_drive.specs.Running.{IsRunning, IsStopped, LeavesRunFault}
+use Rattle.ken_drive.specs.Sparing.{FailsInARow, IsLetBy, LetsGoDown}
+use Rattle.ken_drive.specs.Starting.{StartsAccountsBy, StartsBy, fails_for, terms_of}
+use Rattle.ken_drive.proofs.StartingAll.{one-of}
+
+-- ---- the calls of outlets that a script lets fail
+
+one-within : (b : Bool) (f : OutFail) (rest : List OutFail) → f.call ≤ MAX_COUNT → AllByRecursion (λ (call : ℕ). call ≤ MAX_COUNT) (map (λ (x : OutFail). x.call) rest) → AllByRecursion (λ (call : ℕ). call ≤ MAX_COUNT) (map (λ (x : OutFail). x.call) (cond b (f ∷ rest) rest))
+one-within true f rest here others = (here, others)
+one-within false f rest here others = others
+
+fails-within : (nodes v : ℕ) (fails : List OutFail) → AreOutFailsOf nodes fails → AllByRecursion (λ (call : ℕ). call ≤ MAX_COUNT) (fails_for v fails)
+fails-within nodes v [] all = tt
+fails-within nodes v (f ∷ fs) all = one-within (f.node == v) f (filter (λ (x : OutFail). x.node == v) fs) all.0.1 (fails-within nodes v fs all.1)
+
+within-at : (calls : List ℕ) (k d : ℕ) → AllByRecursion (λ (call : ℕ). call ≤ MAX_COUNT) calls → k < length calls → slice_index_or calls k d ≤ MAX_COUNT
+within-at [] k d all low = absurd (omega (arith, low))
+within-at (c ∷ cs) zero d all low = all.0
+within-at (c ∷ cs) (suc k) d all low = within-at cs k d all.1 (omega (arith, low))
+
+listed-within : (nodes v : ℕ) (fails : List OutFail) (call : ℕ) → AreOutFailsOf nodes fails → Contains (fails_for v fails) call → call ≤ MAX_COUNT
+listed-within nodes v fails call all found = subst (λ (x : ℕ). x ≤ MAX_COUNT) found.2 (within-at (fails_for v fails) found.0 call (fails-within nodes v fails all) found.1)
+
+-- an outlet that has failed 65 times and tells what may fail has so many of its calls, one after the other, on its list
+row-of : (faults : ℕ) (scripted : Bool) (fails : List ℕ) (fate : Option Fate) → scripted ≡ true → ((call : ℕ) → Contains fails call → call ≤ MAX_COUNT)
+    → ((f : Fate) → fate ≡ Some f → HasFailedLast {U = Unit {0}} (λ x. faults) (λ x. Some f) 65 tt) → MayFailAt scripted fails fate → FailsInARow fails
+row-of faults true fails None tells within last may = absurd may
+row-of faults false fails None tells within last may = absurd (cc)
+row-of faults scripted fails (Some f) tells within last may =
+    let is = last f refl in
+    let late = is.listed (omega arith) f refl in
+    let few : late.call ≤ MAX_COUNT = within late.call (may late.call late.listed) in
+    let below = late.late in
+    let running = is.running f refl (omega (arith, few, below)) in
+    let made = running.made in
+    record { first = f.calls - 64; each = λ call low high. may call (running.each call (omega (arith, low, made)) (omega (arith, high, made))) }
+
+told-one : {U : Type 0} (faults : U → ℕ) (fate : U → Option Fate) (often : ℕ) (out : U) (f : Fate) → fate out ≡ Some f → HasFailedLast faults fate often out → HasFailedLast {U = Unit {0}} (λ x. faults out) (λ x. Some f) often tt
+told-one faults fate often out f is last = record {
+  counted = last.counted;
+  running = λ f2 same room. last.running f2 (is ∙ same) room;
+  listed = λ some f2 same. last.listed some f2 (is ∙ same);
+}
+
+-- ---- a node that has gone down
+
+module _ {D O U : Type 0} (views : Views D O U) (falls : Watched D → Option disk.Fate) (calls : U → Option Fate) (script : Script) (scripted : Bool) (rules : KeepsRules script) where
+  abbrev Held : ℕ → Station D O U → Type 0
+  Held v s = IsHeld (λ w. views.told w.disk) (λ w. views.faults w.disk) falls views.telling (terms_of scripted script) (game_of script.facts) v s
+
+  -- it is down with its restarts used up
+  pub held-gone : (v : ℕ) (s : Station D O U) (kept : Option (Disks D × O × U)) → v < script.facts.nodes → Held v s → s.restarts ≡ script.restarts → WasKept s kept → HasGoneDown views (game_of script.facts) script.restarts v kept
+  held-gone v s kept known held used was =
+      let failed : min (s.restarts + 1) (2 ^ 64 - 1) ≤ faults_of views.faults (unwatched was.disks) = held.causes was.disks was.has in
+      let few = rules.restarts in
+      record { known = known; disks = unwatched was.disks; luck = s.luck; out = s.out; is = was.is; cause = inl (omega (arith, failed, used, few)) }
+
+  pub held-let : (v : ℕ) (s : Station D O U) (disks : Disks (Watched D)) → scripted ≡ true → Held v s → s.restarts ≡ script.restarts → HasDisks disks s.node.stage → LetsGoDown script v
+  held-let v s disks tells held used has =
+      let fated = held.fates disks has in
+      let t = fated.tell tells in
+      let most = fated.falls t.log t.image t.second t.log_is t.image_is t.second_is in
+      inl (omega (arith, most, used))
+
+  -- or its outlet has failed 65 times
+  pub worn-gone : (v : ℕ) (s : Station D O U) (kept : Option (Disks D × O × U)) → v < script.facts.nodes → HasFailedLast views.refused calls 65 s.out → WasKept s kept → HasGoneDown views (game_of script.facts) script.restarts v kept
+  worn-gone v s kept known last was = record { known = known; disks = unwatched was.disks; luck = s.luck; out = s.out; is = was.is; cause = inr last.counted }
+
+  pub worn-let : (v : ℕ) (out : U) → scripted ≡ true → HasFailedLast views.refused calls 65 out → MayFailAt scripted (fails_for v script.outlets) (calls out) → LetsGoDown script v
+  worn-let v out tells last may =
+      inr (row-of (views.refused out) scripted (fails_for v script.outlets) (calls out) tells (λ call found. listed-within script.facts.nodes v script.outlets call rules.outlets found)
+      (λ f is. told-one views.refused calls 65 out f is last) may)
+
+  -- ---- at the start
+
+  module _ (kept : ℕ → Option (Disks D × O × U)) (size : Watched D → ℕ) where
+    pub start-drives : (result : Result Lines RunFault) (fault : RunFault) → IsErrAnd result (λ e. e ≡ fault)
+        → StartsBy (λ w. views.told w.disk) size views.took scripted views.telling views.refused calls script (Err fault) kept
+        → StartsAccountsBy (λ w. views.told w.disk) (λ w. views.faults w.disk) falls views.telling (terms_of scripted script) (game_of script.facts) (Err fault) kept
+        → DrivesBy views script kept result
+    start-drives (Ok x) fault same starts accounts = absurd same
+    start-drives (Err e) (Down v) same starts accounts = subst (λ (x : RunFault). DrivesBy views script kept (Err x)) (sym same) (held-gone v accounts.station (kept v) starts.0 accounts.held accounts.none_left accounts.was)
+    start-drives (Err e) Memory same starts accounts = subst (λ (x : RunFault). DrivesBy views script kept (Err x)) (sym same) starts
+    start-drives (Err e) (Damaged v disk place) same starts accounts = absurd starts
+
+    pub start-lets : (result : Result Lines RunFault) (fault : RunFault) → scripted ≡ true → IsErrAnd result (λ e. e ≡ fault)
+        → StartsBy (λ w. views.told w.disk) size views.took scripted views.telling views.refused calls script (Err fault) kept
+        → StartsAccountsBy (λ w. views.told w.disk) (λ w. views.faults w.disk) falls views.telling (terms_of scripted script) (game_of script.facts) (Err fault) kept
+        → IfErr result (IsLetBy script)
+    start-lets (Ok x) fault tells same starts accounts = tt
+    start-lets (Err e) (Down v) tells same starts accounts = subst (IsLetBy script) (sym same) (held-let v accounts.station accounts.was.disks tells accounts.held accounts.none_left accounts.was.has)
+    start-lets (Err e) Memory tells same starts accounts = subst (IsLetBy script) (sym same) tt
+    start-lets (Err e) (Damaged v disk place) tells same starts accounts = absurd starts
+
+  -- ---- and later
+
+  module _ (size : Watched D → ℕ) (v : ℕ) (r : Run D O U) (stopped : HasStoppedAt (λ w. views.told w.disk) size (λ w. views.faults w.disk) falls views.telling views.took views.refused calls (terms_of scripted script) (game_of script.facts) v r) where
+    abbrev low : v < length r.stations.items
+    low = let known = stopped.known in let width = stopped.width in omega (arith, known, width)
+
+    abbrev s : Station D O U
+    s = let d = one-of r.stations.items v low in slice_index_or r.stations.items v d
+
+    pub stopped-gone : (kept : Option (Disks D × O × U)) → WasKept s kept → HasGoneDown views (game_of script.facts) script.restarts v kept
+    stopped-gone kept was =
+        let d = one-of r.stations.items v low in
+        ⊎_elim
+        (λ (used : IsUsedUp (λ w. views.told w.disk) (λ w. views.faults w.disk) falls views.telling (terms_of scripted script) (game_of script.facts) script.facts.nodes v r). held-gone v s kept stopped.known (used.held.held d) (used.none_left d) was)
+        (λ (worn : IsWornOut views.refused calls (terms_of scripted script) v r). worn-gone v s kept stopped.known (worn d) was)
+        stopped.cause
+
+    pub stopped-let : (disks : Disks (Watched D)) → HasDisks disks s.node.stage → scripted ≡ true → LetsGoDown script v
+    stopped-let disks has tells =
+        let d = one-of r.stations.items v low in
+        ⊎_elim
+        (λ (used : IsUsedUp (λ w. views.told w.disk) (λ w. views.faults w.disk) falls views.telling (terms_of scripted script) (game_of script.facts) script.facts.nodes v r). held-let v s disks tells (used.held.held d) (used.none_left d) has)
+        (λ (worn : IsWornOut views.refused calls (terms_of scripted script) v r). worn-let v s.out tells (worn d) (stopped.refusals.each v d stopped.known).fails)
+        stopped.cause
+
+  -- a run that was driven and may not go on, where its devices are kept
+  module _ (size : Watched D → ℕ) (r : Run D O U) (kept : ℕ → Option (Disks D × O × U)) (given : (v : ℕ) (d : Station D O U) → v < length r.stations.items → WasKept (slice_index_or r.stations.items v d) (kept v)) where
+    pub end-drives : (fault : RunFault) → (fault ≡ Memory → ⊥) → EndsBy (λ w. views.told w.disk) size (λ w. views.faults w.disk) falls views.telling views.took views.refused calls (terms_of scripted script) (game_of script.facts) (Err fault) r → DrivesBy views script kept (Err fault)
+    end-drives (Down v) not stopped = let known = low size v r stopped in stopped-gone size v r stopped (kept v) (given v (one-of r.stations.items v known) known)
+    end-drives Memory not stopped = absurd (not refl)
+    end-drives (Damaged v disk place) not stopped = absurd stopped
+
+    pub end-lets : (fault : RunFault) → scripted ≡ true → EndsBy (λ w. views.told w.disk) size (λ w. views.faults w.disk) falls views.telling views.took views.refused calls (terms_of scripted script) (game_of script.facts) (Err fault) r → IsLetBy script fault
+    end-lets (Down v) tells stopped =
+        let known = low size v r stopped in
+        let was = given v (one-of r.stations.items v known) known in
+        stopped-let size v r stopped was.disks was.has tells
+    end-lets Memory tells stopped = tt
+    end-lets (Damaged v disk place) tells stopped = absurd stopped
+
+-- ---- how a run ends that may not go on
+
+module _ {D O U : Type 0} (told : Watched D → Option Story) (size : Watched D → ℕ) (count : Watched D → ℕ) (falls : Watched D → Option disk.Fate) (telling : Telling O) (took : U → Option (List Out)) (refused : U → ℕ) (calls : U → Option Fate) (terms : Terms) (g : Game) (r : Run D O U) where
+  width-of : (v made : ℕ) → LeavesRunFault told size took (Down v) g made r → (v < made) × (length r.stations.items ≡ made)
+  width-of v made leaves = ⊎_elim (λ (stopped : IsStopped told size took g made v r). (stopped.known, stopped.stands.width)) (λ (running : (v < made) × IsRunning told size took g made r). (running.0, running.1.stands.width)) leaves
+
+  stopped-at : (v made : ℕ) → made ≡ g.nodes → LeavesRunFault told size took (Down v) g made r → StopsBy {T = Unit {0}} told count falls telling refused calls terms g (Err (Down v)) made r → RefusedRunFault refused calls terms (Down v) made r → HasStoppedAt told size count falls telling took refused calls terms g v r
+  stopped-at v made all leaves stops refusals =
+      let at = width-of v made leaves in
+      record {
+        known = subst (λ (k : ℕ). v < k) all at.0;
+        width = at.1 ∙ all;
+        refusals = subst (λ (k : ℕ). AreRefused refused calls terms k r) all refusals.0;
+        cause = subst (λ (k : ℕ). IsUsedUp told count falls telling terms g k v r ⊎ IsWornOut refused calls terms v r) all stops;
+      }
+
+  pub end-failed : (made : ℕ) → made ≡ g.nodes → (result : Result Lines RunFault) (fault : RunFault) → IsErrAnd result (λ e. e ≡ fault) → LeavesRunFault told size took fault g made r → StopsBy {T = Unit {0}} told count falls telling refused calls terms g (Err fault) made r → RefusedRunFault refused calls terms fault made r
+      → EndsBy told size count falls telling took refused calls terms g result r
+  end-failed made all (Ok x) fault same leaves stops refusals = absurd same
+  end-failed made all (Err e) (Down v) same leaves stops refusals = subst (λ (x : RunFault). EndsBy told size count falls telling took refused calls terms g (Err x) r) (sym same) (stopped-at v made all leaves stops refusals)
+  end-failed made all (Err e) Memory same leaves stops refusals = subst (λ (x : RunFault). EndsBy told size count falls telling took refused calls terms g (Err x) r) (sym same) tt
+  end-failed made all (Err e) (Damaged v disk place) same leaves stops refusals = absurd leaves

@@ -1,0 +1,43 @@
+-- The devices of one node after the other.
+use Rattle.std.proofs.Common.{◌∷◌, sym, ap, subst, ◌∙◌, arith, ⊎_elim, inl, inr}
+use Rattle.ken_drive.specs.Finishing.{WasKept}
+use Rattle.ken_drive.proofs.Giving.{none-given, one-given, room-left, all-given, AreGiven}
+use Rattle.ken_drive.proofs.finishing.finish.Goals as goal
+
+pub loop-node-init : goal.loop-node-init
+loop-node-init g c =
+    let is = c.into_iter-node-iterator.ensures.into_iter_gives in
+    let items = ap (λ i. i.b.rest.items) is ∙ c.zip-node-items.ensures.second.0 in
+    let count = ap (λ i. i.a.start) is ∙ ap (λ r. r.start) c.zip-node-items.ensures.first in
+    subst (λ xs. AreGiven (λ s k. WasKept s k) c.args.run.stations.items xs c.into_iter-node-iterator.result.a.start (g.W.World.kept c.args.world.now) (g.W.World.kept c.args.world.now)) (sym items)
+    (subst (λ n. AreGiven (λ s k. WasKept s k) c.args.run.stations.items c.args.run.stations.items n (g.W.World.kept c.args.world.now) (g.W.World.kept c.args.world.now)) (sym count)
+    (none-given (λ s k. WasKept s k) c.args.run.stations.items (g.W.World.kept c.args.world.now)))
+
+pub give_back-requires : goal.give_back-requires
+give_back-requires g c =
+    let steps = c.in-Some.ensures.steps in
+    let room = room-left (λ s k. WasKept s k) c.args.run.stations.items c.in-Some.station c.next.new.self.b.rest.items c.loop-node.node-iterator.a.start 8 (g.W.World.kept c.args.world.now) (g.W.World.kept c.loop-node.world)
+    (subst (λ xs. AreGiven (λ s k. WasKept s k) c.args.run.stations.items xs c.loop-node.node-iterator.a.start (g.W.World.kept c.args.world.now) (g.W.World.kept c.loop-node.world)) steps.1.0 c.loop-node.invariant) c.requires in
+    let at = steps.0.0 in
+    (c.type_bounds.send-W-Dev, (c.type_bounds.send-W-Luck, (c.type_bounds.send-W-Out, omega (arith, at, room))))
+
+pub loop-node-preserved : goal.loop-node-preserved
+loop-node-preserved g c =
+    let steps = c.in-Some.ensures.steps in
+    subst (λ n. AreGiven (λ s k. WasKept s k) c.args.run.stations.items c.next.new.self.b.rest.items n (g.W.World.kept c.args.world.now) (g.W.World.kept c.give_back.new.world)) (sym steps.0.1)
+    (one-given (λ s k. WasKept s k) c.args.run.stations.items c.in-Some.station c.next.new.self.b.rest.items c.in-Some.node (g.W.World.kept c.args.world.now) (g.W.World.kept c.loop-node.world) (g.W.World.kept c.give_back.new.world)
+    (subst (λ n. AreGiven (λ s k. WasKept s k) c.args.run.stations.items (c.in-Some.station ∷ c.next.new.self.b.rest.items) n (g.W.World.kept c.args.world.now) (g.W.World.kept c.loop-node.world)) (sym steps.0.0)
+    (subst (λ xs. AreGiven (λ s k. WasKept s k) c.args.run.stations.items xs c.loop-node.node-iterator.a.start (g.W.World.kept c.args.world.now) (g.W.World.kept c.loop-node.world)) steps.1.0 c.loop-node.invariant))
+    c.give_back.ensures.given c.give_back.ensures.others)
+
+pub returns-clause-given : goal.returns-clause-given
+returns-clause-given g c = λ v d low.
+    let rest = c.loop-node.node-iterator.b.rest in
+    let all = all-given (λ s k. WasKept s k) c.args.run.stations.items rest.items c.loop-node.node-iterator.a.start 8 (g.W.World.kept c.args.world.now) (g.W.World.kept c.loop-node.world) c.loop-node.invariant c.requires (omega arith) (⊎_elim (λ full. inl full.1.0) (λ none. inr (sym rest.ok.0 ∙ none.1.0)) c.in-None.ensures.steps) in
+    c.loop-node.invariant.given v d (omega (arith, all, low))
+
+pub returns-clause-others : goal.returns-clause-others
+returns-clause-others g c = λ v above.
+    let rest = c.loop-node.node-iterator.b.rest in
+    let all = all-given (λ s k. WasKept s k) c.args.run.stations.items rest.items c.loop-node.node-iterator.a.start 8 (g.W.World.kept c.args.world.now) (g.W.World.kept c.loop-node.world) c.loop-node.invariant c.requires (omega arith) (⊎_elim (λ full. inl full.1.0) (λ none. inr (sym rest.ok.0 ∙ none.1.0)) c.in-None.ensures.steps) in
+    c.loop-node.invariant.others v (omega (arith, all, above))

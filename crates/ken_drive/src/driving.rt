@@ -1,0 +1,65 @@
+// A whole run.
+ghost use Rattle.std.specs.Prelude.{◌≡◌, ◌<◌, ◌≤◌, ℕ, true, length, IfErr};
+ghost use Rattle.ken_model.specs.Game.{Game};
+ghost use Rattle.ken_model.specs.Limits.{IsPlainRun};
+ghost use Rattle.ken_script.specs.Within.{KeepsRules};
+ghost use Rattle.ken_drive.specs.Accounts.{AreAccounted, Terms};
+ghost use Rattle.ken_drive.specs.Draining.{MayDrain};
+ghost use Rattle.ken_drive.specs.Driven.{DrivesBy, EndsBy};
+ghost use Rattle.ken_drive.specs.Refusals.{AreRefused};
+ghost use Rattle.ken_drive.specs.Running.{IsRunning};
+ghost use Rattle.ken_drive.specs.Sparing.{IsLetBy};
+ghost use Rattle.ken_drive.specs.Worlds.{HasKeptNothing};
+
+use crate::faults::RunFault;
+use crate::finishing::finish;
+use crate::laws::ended_runs_keep;
+use crate::run::Run;
+use crate::starting::start;
+use crate::world::World;
+use ken_app::Oracle;
+use ken_disk::Disk;
+use ken_model::Lines;
+use ken_node::Watched;
+use ken_script::Script;
+use ken_ship::Outlet;
+use std::alloc::Global;
+
+impl<D: Disk, O: Oracle, U: Outlet> Run<D, O, U> {
+    /// Drains the run, and answers what it says then. The errors are those of `drain` and `lines`.
+    fn told(&mut self) -> Result<Lines, RunFault>
+        requires { MayDrain ⟦<Watched<D> as Disk>⟧.told ⟦<Watched<D> as Disk>⟧.size U.took self.old }
+        ensures { (terms : Terms) (g : Game) (made : ℕ) → IsRunning ⟦<Watched<D> as Disk>⟧.told ⟦<Watched<D> as Disk>⟧.size U.took g made self.old → made ≡ g.nodes → AreAccounted ⟦<Watched<D> as Disk>⟧.told ⟦<Watched<D> as Disk>⟧.faults ⟦<Watched<D> as Disk>⟧.fate O.telling terms g made self.old → AreRefused U.faults U.fate terms made self.old → IsPlainRun g → EndsBy ⟦<Watched<D> as Disk>⟧.told ⟦<Watched<D> as Disk>⟧.size ⟦<Watched<D> as Disk>⟧.faults ⟦<Watched<D> as Disk>⟧.fate O.telling U.took U.faults U.fate terms g result self.new }
+    {
+        self.drain()?;
+        Ok(self.lines()?)
+    }
+}
+
+/// Runs a script over the devices of a world, and answers the lines of its report. The disks, the oracle and the outlet of each node are
+/// given to `World::keep` then. `Down`: that node's disks failed once more than it may be restarted, or its outlet refused one output 65
+/// times running; the devices of each node that was made are given back too. After `Memory` nothing is kept.
+pub fn drive<W: World>(alloc: Global, script: &Script, world: &mut W) -> Result<Lines, RunFault>
+    requires rules { KeepsRules script.now }
+    requires none { HasKeptNothing (W.kept world.old) }
+    ensures drives { DrivesBy (record { told = W.Dev.told; faults = W.Dev.faults; telling = W.Luck.telling; took = W.Out.took; refused = W.Out.faults }) script.now (W.kept world.new) result }
+    ensures lets { W.scripted ≡ true → IfErr result (IsLetBy script.now) }
+{
+    let mut run = start(alloc, script, world)?;
+    match run.told() {
+        Ok(lines) => {
+            finish(run, world);
+            ended_runs_keep::<W::Dev, W::Luck, W::Out>();
+            Ok(lines)
+        }
+        Err(RunFault::Memory) => Err(RunFault::Memory),
+        Err(RunFault::Down { node }) => {
+            finish(run, world);
+            Err(RunFault::Down { node })
+        }
+        Err(RunFault::Damaged { node, disk, place }) => {
+            finish(run, world);
+            Err(RunFault::Damaged { node, disk, place })
+        }
+    }
+}

@@ -1,0 +1,43 @@
+// How a run ends.
+ghost use Rattle.std.specs.Prelude.{◌≡◌, ◌≢◌, ◌<◌, ◌≤◌, ℕ, length, slice_index_or};
+ghost use Rattle.ken_model.specs.declared.facts.TheConstants.{MAX_NODES};
+ghost use Rattle.ken_drive.specs.declared.station.Station.{Station as Stood};
+ghost use Rattle.ken_drive.specs.Finishing.{WasKept};
+
+use crate::run::Run;
+use crate::station::Station;
+use crate::world::World;
+use ken_disk::Disk;
+use ken_store::Disks;
+
+/// Gives the devices of a node to the world.
+fn give_back<W: World>(station: Station<W::Dev, W::Luck, W::Out>, node: u8, world: &mut W)
+    requires { node < MAX_NODES }
+    ensures given { WasKept station (W.kept world.new node) }
+    ensures others { (v : ℕ) → v ≢ node → W.kept world.new v ≡ W.kept world.old v }
+{
+    let Station {
+        node: released,
+        luck,
+        out,
+        ..
+    } = station;
+    let disks = released.release();
+    let disks = Disks {
+        log: disks.log.into_disk(),
+        image: disks.image.into_disk(),
+        second: disks.second.into_disk(),
+    };
+    world.keep(node, disks, luck, out);
+}
+
+/// Ends a run: the disks, the oracle and the outlet of each node are given to `World::keep`, in rising order.
+pub fn finish<W: World>(run: Run<W::Dev, W::Luck, W::Out>, world: &mut W)
+    requires { length run.stations.items ≤ MAX_NODES }
+    ensures given { (v : ℕ) (d : Stood W.Dev W.Luck W.Out) → v < length run.stations.items → WasKept (slice_index_or run.stations.items v d) (W.kept world.new v) }
+    ensures others { (v : ℕ) → length run.stations.items ≤ v → W.kept world.new v ≡ W.kept world.old v }
+{
+    for (node, station) in (0..).zip(run.stations) {
+        give_back(station, node, world);
+    }
+}

@@ -1,0 +1,8 @@
+use Rattle.ken_drive.proofs.Acts.{script-modest}
+use Rattle.ken_drive_vectors.proofs.starts.script.Goals as goal
+
+pub returns-in-Ok-clause-limits : goal.returns-in-Ok-clause-limits
+returns-in-Ok-clause-limits c = c.in-Ok.ensures.keeps.limits
+
+pub returns-in-Ok-clause-modest : goal.returns-in-Ok-clause-modest
+returns-in-Ok-clause-modest c = script-modest c.in-Ok.script c.in-Ok.ensures.keeps

@@ -1,6 +1,0 @@
-use Rattle.std.specs.Vec.Iter.{into_iter_items}
-use Rattle.ken_tool.proofs.Inserted.{IsAdding}
-use Rattle.ken_tool.proofs.timeline.Timeline.add.Given as goal
-
-abbrev pub invariant-loop-turn : goal.invariant-loop-turn
-invariant-loop-turn l = IsAdding l.node l.fn.turns.items l.fn.self l.self-inside.lines.entries (into_iter_items l.turn-iterator)
