@@ -16,9 +16,6 @@ const HIGH: u64 = 1 << 63;
 // A log that ends past this takes no more records.
 const LOG_END: u64 = 1 << 39;
 
-// The length of a base fits four bytes.
-const BASE: u64 = 1 << 32;
-
 // Whether a count of messages is high, of those from or to a node.
 fn has_high_count<D: Disk>(side: &TurnSide<D>) -> bool
     ensures { IsTrue result ↔ ((node : ℕ) × (node < 8) × HasHighCount side.now.numbers node) }
@@ -52,8 +49,7 @@ impl<D: Disk> TurnWorker<D> {
         let told = &self.told;
         let acked = told.progress.acked.as_slice();
         self.side
-            .base_size(told.settled, acked, told.progress.emitted)
-            < BASE
+            .has_short_base(told.settled, acked, told.progress.emitted)
     }
 
     // Whether the node makes no more turns.

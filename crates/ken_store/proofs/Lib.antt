@@ -28,6 +28,7 @@ pub mod BaseStands
 pub mod NextBase
 pub mod Lasts
 pub mod Turned
+pub mod Longest
 pub mod Sizing
 pub mod ApartPages
 pub mod ApartLaws

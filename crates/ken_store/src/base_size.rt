@@ -18,14 +18,14 @@ use ken_model::{MAX_NODES, MAX_PAGES, Out};
 use ken_record::{Due, Record};
 
 // The bytes of a base without its items.
-const FIELDS: u64 = 162;
+pub(crate) const FIELDS: u64 = 162;
 
 // The bytes of a message without its text, of an output without its text, and of a page.
-const DUE: u64 = 19;
+pub(crate) const DUE: u64 = 19;
 
-const OUT: u64 = 10;
+pub(crate) const OUT: u64 = 10;
 
-const PAGE: u64 = 260;
+pub(crate) const PAGE: u64 = 260;
 
 impl<D: Disk> TurnSide<D> {
     /// The length in bytes of the base that a turnover would write with these. It takes no memory.

@@ -21,6 +21,7 @@ mod patch_laws;
 mod patching;
 mod recovery;
 mod resume;
+mod short_base;
 mod state;
 mod store;
 mod syncs;
