@@ -2,15 +2,11 @@
 //! writes the report of its run.
 #![tactic(auto)]
 
-mod status;
-mod tool;
-
 use ken_drive::MemWorld;
 use ken_io::{StdSink, StdSource};
-use status::Status;
+use ken_top::{Status, ken};
 use std::env;
 use std::process::ExitCode;
-use tool::ken;
 
 fn main(rt: HostRuntime) -> ExitCode {
     let status = match command_line(&rt) {

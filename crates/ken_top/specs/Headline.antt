@@ -1,0 +1,143 @@
+-- What a whole run of the program reads and writes, and what its world keeps.
+use Rattle.std.specs.Prelude.{◌≡◌, ◌⊎◌, ℕ, List, [], ◌∷◌, ◌++◌, Bool, false, Option, Some, None, ⊤, bytes_eq, codes}
+use Rattle.std.specs.Io.KnownBytes.{Appends}
+use Rattle.ken_model.specs.declared.reports.Ending.{Ending}
+use Rattle.ken_model.specs.declared.reports.Ending.TheVariants.{Settled, Cut}
+use Rattle.ken_model.specs.declared.reports.Lines.{Lines}
+use Rattle.ken_model.specs.Emissions.{AreLegalEmissions, AreByNode}
+use Rattle.ken_model.specs.Ending.{Ends}
+use Rattle.ken_model.specs.Game.{game_of}
+use Rattle.ken_model.specs.Report.{report, text}
+use Rattle.ken_model.specs.Schedule.{IsLegal, play}
+use Rattle.ken_model.specs.Spelling.{spell}
+use Rattle.ken_io.specs.Transfers.{AppendsFront}
+use Rattle.ken_script.specs.declared.scripts.Script.{Script}
+use Rattle.ken_script.specs.Says.{Says}
+use Rattle.ken_script.specs.Faults.{Breaks}
+use Rattle.ken_store.specs.declared.disks.Disks.{Disks}
+use Rattle.ken_drive.specs.Driven.{HasDriven, HasGoneDown, KeepsRun, Views}
+use Rattle.ken_drive.specs.Sparing.{IsSpared, LetsGoDown}
+use Rattle.ken_drive.specs.Worlds.{HasKeptNothing}
+use Rattle.ken_top.specs.declared.status.Status.{Status}
+use Rattle.ken_top.specs.declared.status.Status.TheVariants as status
+
+-- the words are the program's name and `run`
+abbrev pub are_plain : List (List ℕ) → Bool
+are_plain (name ∷ word ∷ []) = bytes_eq word (codes "run")
+are_plain _ = false
+
+-- the bytes that a source gives, where it tells them
+abbrev pub AreTold : Option (List ℕ) → List ℕ → Type 0
+AreTold None b = ⊤
+AreTold (Some xs) b = b ≡ xs
+
+module _ {D O U : Type 0} (views : Views D O U) (kept : ℕ → Option (Disks D × O × U)) where
+  -- w is the report of a failure-free run of what b says. The run is the one that w spells: its schedule is legal, its turns, heaps and
+  -- ending are those of playing the schedule, and its emissions are legal and stand node by node; and the devices that are kept show it
+  pub record IsReport (b : List ℕ) (ending : Ending) (w : List ℕ) : Type 0 where
+    pub script : Script
+    pub says : Says b script
+    pub text : w ≡ report (game_of script.facts) (spell w).schedule (spell w).emissions (spell w).restarts ending
+    pub legal : IsLegal (game_of script.facts) (spell w).schedule
+    pub emissions : AreLegalEmissions (game_of script.facts) (play (game_of script.facts) (spell w).schedule) (spell w).emissions
+    pub by_node : AreByNode 0 (spell w).emissions
+    pub ends : Ends (game_of script.facts) (play (game_of script.facts) (spell w).schedule) (spell w).emissions ending
+    pub keeps : KeepsRun views (game_of script.facts) script.seed script.restarts (spell w).schedule (spell w).emissions (spell w).restarts kept
+
+  -- w is a front of such a report
+  pub record IsFront (b w : List ℕ) : Type 0 where
+    pub rest : List ℕ
+    pub ending : Ending
+    pub whole : IsReport b ending (w ++ rest)
+
+  -- node v of what b says has gone down, as its devices show
+  pub record IsDown (b : List ℕ) (v : ℕ) : Type 0 where
+    pub script : Script
+    pub says : Says b script
+    pub down : HasGoneDown views (game_of script.facts) script.restarts v (kept v)
+
+  -- what each status says of the bytes that were read, of those that were written, and of the devices that were kept. The disks of a
+  -- world keep the model of a disk, so none is ever damaged
+  abbrev pub Wrote : List ℕ → List ℕ → Status → Type 0
+  Wrote b w status.Settled = IsReport b Settled w
+  Wrote b w status.Cut = IsReport b Cut w
+  Wrote b w (status.Script rule index) = (w ≡ []) × HasKeptNothing kept × Breaks b rule index
+  Wrote b w status.Usage = (w ≡ []) × HasKeptNothing kept
+  Wrote b w (status.Damaged v disk place) = ⊥
+  Wrote b w (status.Down v) = (w ≡ []) × IsDown b v
+  Wrote b w status.Read = (w ≡ []) × HasKeptNothing kept
+  Wrote b w status.Write = IsFront b w
+  Wrote b w status.Memory = ((w ≡ []) × HasKeptNothing kept) ⊎ IsFront b w
+
+  -- what a run of the program had to read, what it wrote, and what its world kept
+  pub record Ran (left took_old took_new : Option (List ℕ)) (status : Status) : Type 0 where
+    pub read : List ℕ
+    pub written : List ℕ
+    pub told : AreTold left read
+    pub out : Appends took_old took_new written
+    pub wrote : Wrote read written status
+
+  -- the lines of the run that the bytes of a source say
+  pub record IsRunOfSource (left : Option (List ℕ)) (l : Lines) : Type 0 where
+    pub read : List ℕ
+    pub told : AreTold left read
+    pub script : Script
+    pub says : Says read script
+    pub driven : HasDriven views script kept l
+
+  -- why there are none
+  abbrev pub IsRefusal : Option (List ℕ) → Status → Type 0
+  IsRefusal left (status.Script rule index) = (b : List ℕ) × AreTold left b × Breaks b rule index × HasKeptNothing kept
+  IsRefusal left (status.Down v) = (b : List ℕ) × AreTold left b × IsDown b v
+  IsRefusal left status.Read = HasKeptNothing kept
+  IsRefusal left status.Memory = HasKeptNothing kept
+  IsRefusal left status.Settled = ⊥
+  IsRefusal left status.Cut = ⊥
+  IsRefusal left (status.Damaged v disk place) = ⊥
+  IsRefusal left status.Usage = ⊥
+  IsRefusal left status.Write = ⊥
+
+-- what was read says a script that lets node v go down
+pub record IsLetDown (left : Option (List ℕ)) (v : ℕ) : Type 0 where
+  pub read : List ℕ
+  pub told : AreTold left read
+  pub script : Script
+  pub says : Says read script
+  pub lets : LetsGoDown script v
+
+-- so where a status tells a node as down
+abbrev pub IsLet : Option (List ℕ) → Status → Type 0
+IsLet left (status.Down v) = IsLetDown left v
+IsLet left _ = ⊤
+
+-- a status with which nothing is written
+abbrev pub IsQuiet : Status → Type 0
+IsQuiet status.Usage = ⊤
+IsQuiet (status.Script rule index) = ⊤
+IsQuiet (status.Damaged v disk place) = ⊤
+IsQuiet (status.Down v) = ⊤
+IsQuiet status.Read = ⊤
+IsQuiet status.Settled = ⊥
+IsQuiet status.Cut = ⊥
+IsQuiet status.Write = ⊥
+IsQuiet status.Memory = ⊥
+
+-- a status with which a run has ended, or memory was short
+abbrev pub IsEnd : Status → Type 0
+IsEnd status.Settled = ⊤
+IsEnd status.Cut = ⊤
+IsEnd status.Memory = ⊤
+IsEnd _ = ⊥
+
+-- if a source tells a script that lets no node go down, its run ends, or memory is short
+abbrev pub IsComplete : Option (List ℕ) → Status → Type 0
+IsComplete None s = ⊤
+IsComplete (Some b) s = (script : Script) → Says b script → IsSpared script → IsEnd s
+
+-- a report is out as its run ended, or a front of it
+abbrev pub IsOut : Option (List ℕ) → Option (List ℕ) → Lines → Status → Type 0
+IsOut old new l status.Settled = (l.ending ≡ Settled) × Appends old new (text l)
+IsOut old new l status.Cut = (l.ending ≡ Cut) × Appends old new (text l)
+IsOut old new l status.Write = AppendsFront old new (text l)
+IsOut old new l status.Memory = AppendsFront old new (text l)
+IsOut old new l _ = ⊥

@@ -1,0 +1,147 @@
+// How the program ends.
+use ken_drive::RunFault;
+use ken_io::ReadFault;
+use ken_model::Ending;
+use ken_report::ReportFault;
+use ken_script::ScriptFault;
+use std::fmt;
+
+/// How the program ends. It prints as the text for standard error, which is empty for `Settled`.
+#[derive(Clone, Copy, Debug, PartialEq, Eq)]
+pub enum Status {
+    /// The run is settled, and its report is written.
+    Settled,
+    /// The command line isn't `run` alone. Nothing was read or written.
+    Usage,
+    /// The script breaks this rule and none before it, first at this index from 0. Nothing was written.
+    Script { rule: u8, index: u64 },
+    /// Nodes have made all their turns and something still waits for them, and the report is written.
+    Cut,
+    /// Bytes of a disk are none that a node writes, from this place on. Over disks that keep the model it never comes.
+    Damaged { node: u8, disk: u8, place: u64 },
+    /// Calls of that node's disks failed more often than it may be restarted, or its outlet refused an output 65 times running.
+    /// Nothing was written.
+    Down { node: u8 },
+    /// The source failed. Nothing was written.
+    Read,
+    /// The sink failed. A front of the report is out.
+    Write,
+    /// There wasn't memory enough. Nothing is out, or a front of the report.
+    Memory,
+}
+
+impl Status {
+    ghost use Rattle.std.specs.Prelude.{◌≡◌};
+    ghost use Rattle.ken_top.specs.Statuses.{exit_code_of};
+
+    /// The exit status of the process.
+    pub fn exit_code(&self) -> u8
+        ensures { result ≡ exit_code_of self.now }
+    {
+        match self {
+            Status::Settled => 0,
+            Status::Usage => 1,
+            Status::Script { .. } => 2,
+            Status::Cut => 3,
+            Status::Damaged { .. } => 4,
+            Status::Down { .. } => 5,
+            Status::Read => 6,
+            Status::Write => 7,
+            Status::Memory => 8,
+        }
+    }
+}
+
+impl fmt::Display for Status {
+    ghost use Rattle.std.specs.Prelude.{Some};
+    ghost use Rattle.ken_top.specs.Statuses.{text_of};
+
+    ghost output = { λ status. Some (text_of status) };
+
+    fn fmt<W: fmt::Write>(&self, f: &mut fmt::Formatter<W>) -> fmt::Result {
+        match self {
+            Status::Settled => Ok(()),
+            Status::Usage => write!(f, "ken: usage"),
+            Status::Script { rule, index } => write!(f, "ken: script: rule S{rule} at {index}"),
+            Status::Cut => write!(f, "ken: cut"),
+            Status::Damaged { node, disk, place } => {
+                write!(f, "ken: node {node} disk {disk} damaged at {place}")
+            }
+            Status::Down { node } => write!(f, "ken: node {node} is down"),
+            Status::Read => write!(f, "ken: read failed"),
+            Status::Write => write!(f, "ken: write failed"),
+            Status::Memory => write!(f, "ken: out of memory"),
+        }
+    }
+}
+
+impl From<ReadFault> for Status {
+    ghost use Rattle.std.specs.Prelude.{◌≡◌};
+    ghost use Rattle.ken_top.specs.Statuses.{of_reading};
+
+    ghost from_gives = { λ fault status. status ≡ of_reading fault };
+
+    fn from(fault: ReadFault) -> Self {
+        match fault {
+            ReadFault::Failed => Status::Read,
+            ReadFault::Memory => Status::Memory,
+        }
+    }
+}
+
+impl From<ScriptFault> for Status {
+    ghost use Rattle.std.specs.Prelude.{◌≡◌};
+    ghost use Rattle.ken_top.specs.Statuses.{of_script};
+
+    ghost from_gives = { λ fault status. status ≡ of_script fault };
+
+    fn from(fault: ScriptFault) -> Self {
+        match fault {
+            ScriptFault::Rule { rule, index } => Status::Script { rule, index },
+            ScriptFault::Memory => Status::Memory,
+        }
+    }
+}
+
+impl From<ReportFault> for Status {
+    ghost use Rattle.std.specs.Prelude.{◌≡◌};
+    ghost use Rattle.ken_top.specs.Statuses.{of_printing};
+
+    ghost from_gives = { λ fault status. status ≡ of_printing fault };
+
+    fn from(fault: ReportFault) -> Self {
+        match fault {
+            ReportFault::Failed => Status::Write,
+            ReportFault::Memory => Status::Memory,
+        }
+    }
+}
+
+impl From<RunFault> for Status {
+    ghost use Rattle.std.specs.Prelude.{◌≡◌};
+    ghost use Rattle.ken_top.specs.Statuses.{of_running};
+
+    ghost from_gives = { λ fault status. status ≡ of_running fault };
+
+    fn from(fault: RunFault) -> Self {
+        match fault {
+            RunFault::Damaged { node, disk, place } => Status::Damaged { node, disk, place },
+            RunFault::Down { node } => Status::Down { node },
+            RunFault::Memory => Status::Memory,
+        }
+    }
+}
+
+impl From<Ending> for Status {
+    ghost use Rattle.std.specs.Prelude.{◌≡◌};
+    ghost use Rattle.ken_top.specs.Statuses.{of_ending};
+
+    ghost from_gives = { λ ending status. status ≡ of_ending ending };
+
+    fn from(ending: Ending) -> Self {
+        match ending {
+            Ending::Settled => Status::Settled,
+            Ending::Cut => Status::Cut,
+        }
+    }
+}
