@@ -38,7 +38,7 @@ impl Pages {
         true
     }
 
-    /// Syncs the image: only what is still to patch isn't clean.
+    /// Syncs the image: all pages are clean then but those waiting to be patched.
     pub(crate) fn sync(&mut self)
         requires { IsPaged self.old }
         ensures image { image_pages self.new ≡ synced_pages (image_pages self.old) }

@@ -70,7 +70,7 @@ pub record IsPatch (i : ImagePages) (p : ℕ) (first : Layer) (rest : List Layer
   pub oldest : i.ahead ≡ first ∷ rest
   pub page : newest_by (λ (c : Change). c.page) p first.changes ≡ Some c
 
--- the image was synced: only what is still to patch isn't clean
+-- the image was synced: all pages are clean but those waiting to be patched
 abbrev pub synced_pages : ImagePages → ImagePages
 synced_pages i = record i { unclean = λ p. among (numbers (pages_of i.ahead)) p; «open» = λ p. false }
 

@@ -21,7 +21,7 @@ pub fn patch_keeps_coverage()
     ensures { PatchKeepsCoverage }
 {}
 
-/// After a sync only what is still to patch isn't clean.
+/// After a sync all pages are clean but those waiting to be patched.
 pub fn sync_keeps_coverage()
     ensures { SyncKeepsCoverage }
 {}

@@ -25,13 +25,13 @@ pub fn crashes()
     ensures restarted { (old new : Story) → WentDown old new → IsImage old.now new.now.seen × IsAtRest new.now × WentOn old new }
 {}
 
-/// Over any run of calls and restarts at most so many calls fail on a disk that is up as it had falls at the start.
+/// Over any run of calls and restarts at most `falls` calls fail while the disk is up: as many as it had falls at the start.
 pub fn falls()
     ensures { (start : Fate) (run : List (Event × Fate)) → IsRun start run → all_fallen start run ≤ start.falls }
 {}
 
-/// Of writes, each with its sync, by their answer: the disk went on, the count of syncs never falls, and rises by each after
-/// Ok, and by fewer after an error. After Ok and after Memory a disk that was at rest is at rest.
+/// Of writes, each with its sync, by their answer: the disk went on. The count of syncs never falls; it rises by one for each write
+/// after Ok, and by fewer after an error. After Ok of one write or more the disk is at rest; after Memory it is so if it was before.
 pub fn synced_writes()
     ensures on { (result : Result (Unit {0}) DiskFault) (writes : List (ℕ × List ℕ)) (old new : Story) → Made result writes old new → WentOn old new }
     ensures never_fall { (result : Result (Unit {0}) DiskFault) (writes : List (ℕ × List ℕ)) (old new : Story) → Made result writes old new → old.now.syncs ≤ new.now.syncs }

@@ -55,7 +55,7 @@ abbrev pub LessIsOpen : {D O U : Type 0} → Run D O U → Run D O U → Type 0
 LessIsOpen old new = open_left new < open_left old
 
 module _ {D O U : Type 0} (told : Watched D → Option Story) (size : Watched D → ℕ) (took : U → Option (List Out)) where
-  -- passes as long as nothing came of them, by the answer: whether the run has ended, or else less work is left
+  -- passes until one makes progress or the run has ended, by the answer: the run has ended, or less work is left
   abbrev pub CalmsBy : Result Bool RunFault → Run D O U → Run D O U → Type 0
   CalmsBy (Ok true) old new = (g : Game) (made : ℕ) → IsRunning told size took g made old → made ≡ g.nodes → HasRun told size took g made new
   CalmsBy (Ok false) old new = StaysWhole told size took old new × (work_left new < work_left old)

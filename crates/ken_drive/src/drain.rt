@@ -15,7 +15,7 @@ use ken_disk::Disk;
 use ken_node::Watched;
 use ken_ship::Outlet;
 
-// What came of passes.
+// Outcome of a pass.
 #[derive(Clone, Copy, Debug, PartialEq, Eq)]
 pub(crate) enum Came {
     // The run has ended.
@@ -68,7 +68,7 @@ impl<D: Disk, O: Oracle, U: Outlet> Run<D, O, U> {
         Ok(Came::Nothing)
     }
 
-    // Three passes, or fewer: where nothing came of them, less is open than before.
+    // Three passes, or fewer. Three without progress leave less in flight.
     fn three(&mut self, left: u128) -> Result<Came, RunFault>
         requires may { MayDrain ⟦<Watched<D> as Disk>⟧.told ⟦<Watched<D> as Disk>⟧.size U.took self.old }
         requires left { left ≡ work_left self.old }

@@ -38,7 +38,7 @@ impl<D: Disk, O: Oracle, U: Outlet> Run<D, O, U> {
 
 /// Runs a script over the devices of a world, and answers the lines of its report. The disks, the oracle and the outlet of each node are
 /// given to `World::keep` then. `Down`: that node's disks failed once more than it may be restarted, or its outlet refused one output 65
-/// times running; the devices of each node that was made are given back too. After `Memory` nothing is kept.
+/// times in a row; the devices of each node that was made are given back too. After `Memory` nothing is kept.
 pub fn drive<W: World>(alloc: Global, script: &Script, world: &mut W) -> Result<Lines, RunFault>
     requires rules { KeepsRules script.now }
     requires none { HasKeptNothing (W.kept world.old) }

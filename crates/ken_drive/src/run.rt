@@ -233,7 +233,7 @@ impl<D: Disk, O: Oracle, U: Outlet> Run<D, O, U> {
     /// Visits each node once, in rising order: it makes all its turns, writes all its pages, syncs its image, sends what is due,
     /// takes acknowledgements, and emits its outputs until one is refused. A node whose disk fails is restarted, until a restart
     /// answers, and the pass goes on with the next one. `Down`: a disk of that node failed and it has no restart left, or its outlet
-    /// refused one output 65 times running; the run may not go on. After `Memory` nothing is known of the run.
+    /// refused one output 65 times in a row; the run may not go on. After `Memory` nothing is known of the run.
     pub fn pass(&mut self) -> Result<(), RunFault>
         requires { MayGoOn ⟦<Watched<D> as Disk>⟧.told ⟦<Watched<D> as Disk>⟧.size U.took self.old }
         ensures leaves { (g : Game) (made : ℕ) → IsRunning ⟦<Watched<D> as Disk>⟧.told ⟦<Watched<D> as Disk>⟧.size U.took g made self.old → LeavesRunBy ⟦<Watched<D> as Disk>⟧.told ⟦<Watched<D> as Disk>⟧.size U.took result g made self.new }

@@ -92,7 +92,7 @@ pub record MakesNoTurn (v : ℕ) (nodes nodes2 : ℕ → Node) : Type 0 where
   pub turns : (nodes2 v).turning.turns ≡ (nodes v).turning.turns
   pub others : (u : ℕ) → u ≢ v → nodes2 u ≡ nodes u
 
--- node v is the receiver of this packet
+-- a packet from a node of the run is one of those that were taken
 abbrev pub IsGiven : ℕ → List (List ℕ) → Packet → Type 0
 IsGiven nodes given p = Contains (packets_from nodes given) p
 

@@ -36,7 +36,7 @@ pub fn known_stays()
     ensures { KnownStays }
 {}
 
-/// What a known inbox gave was put, and what it still has is known.
+/// Every packet taken from a known inbox was put, and what the inbox still has is known.
 pub fn given_are_known()
     ensures { GivenAreKnown }
 {}
@@ -46,7 +46,7 @@ pub fn passed_are_known()
     ensures { PassedAreKnown }
 {}
 
-/// Empty inboxes and new links have nothing unknown.
+/// Empty inboxes and new links are known.
 pub fn first_are_known()
     ensures { FirstAreKnown }
 {}

@@ -127,7 +127,7 @@ impl<D: Disk> Node<D> {
     }
 
     /// Emits the output that is due: `Done` where the outlet took it, `Refused` where the outlet failed, `Nothing` exactly where
-    /// none is due. The errors are `Outlet`: it was refused 64 times running before, and the outlet failed again; and
+    /// none is due. The errors are `Outlet`: it was refused 64 times in a row before, and the outlet failed again; and
     /// `Memory`, after which the node takes no more calls.
     pub fn emit<O: Outlet>(&mut self, out: &mut O) -> Result<Emit, NodeFault>
         requires { MayBeCalled D.told D.size self.old.stage }

@@ -32,7 +32,7 @@ pub enum NodeFault {
     /// Bytes of a disk are none that a node writes.
     #[error("disk {disk} is damaged at {place}")]
     Damaged { disk: u8, place: u64 },
-    /// One output was refused 65 times running.
+    /// One output was refused 65 times in a row.
     #[error("an output was refused too often")]
     Outlet,
     #[error("out of memory")]

@@ -10,7 +10,7 @@ use ken_model::{Emission, Out, State};
 use ken_net::Net;
 use std::alloc::{AllocError, Global};
 
-/// How often running an output may be refused.
+/// How often in a row an output may be refused.
 pub const MOST_REFUSALS: u8 = 64;
 
 /// A node's externaliser. It is handed what its node's turns sent and output, sends until that is acknowledged, and emits.
@@ -186,7 +186,7 @@ impl SendWorker {
 
     /// Emits the oldest output of all that it was handed: `Done` where the outlet took it, `Refused` where the outlet
     /// failed, `Nothing` exactly where none is due. The error is `Memory`, after which nothing was emitted, or `Outlet`: the
-    /// same output was refused 64 times running before, and the outlet failed again. After each answer but `Done` the output
+    /// same output was refused 64 times in a row before, and the outlet failed again. After each answer but `Done` the output
     /// waits still. What a call emits is told to the handler: a slot must be known to be free.
     #[tactic(auto, using(crate::proofs::Lists::none_first))]
     pub fn emit_once<O: Outlet>(&mut self, out: &mut O) -> Result<Emit, NodeFault>

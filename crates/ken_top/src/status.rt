@@ -19,7 +19,7 @@ pub enum Status {
     Cut,
     /// Bytes of a disk are none that a node writes, from this place on. Over disks that keep the model it never comes.
     Damaged { node: u8, disk: u8, place: u64 },
-    /// Calls of that node's disks failed more often than it may be restarted, or its outlet refused an output 65 times running.
+    /// Calls of that node's disks failed more often than it may be restarted, or its outlet refused an output 65 times in a row.
     /// Nothing was written.
     Down { node: u8 },
     /// The source failed. Nothing was written.
