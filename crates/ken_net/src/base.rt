@@ -5,7 +5,7 @@ ghost use Rattle.ken_net.specs.Puts.{Put, MayPut, handing};
 use crate::handed::Handed;
 use ken_model::Octets;
 
-/// One node's end of a network that links stand on. It may lose what is put, and takes no memory.
+/// One node's end of a network that links stand on. It may lose what is put, for a cause that it tells, and takes no memory.
 pub trait Base {
     /// The node whose end it is.
     ghost node: { Self → ℕ };
@@ -16,7 +16,8 @@ pub trait Base {
     /// How many takes have given `None`. An implementation may let the count stand at 2^64 - 1.
     ghost nones: { Self → ℕ };
 
-    /// From the first state to the second exactly these were put, in order. Each may have been lost.
+    /// From the first state to the second exactly these were put, in order. An implementation says here where each may have been
+    /// lost: without that a base that passes nothing on would do.
     ghost put_between: { Self → Self → List Put → Type 0 };
 
     /// From the first state to the second exactly these packets were given, in order.

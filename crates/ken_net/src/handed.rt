@@ -3,12 +3,13 @@ ghost use Rattle.ken_model.specs.declared.messages.Message.{Message};
 
 use std::marker::Brand;
 
-/// What the node that puts a packet hands in with it. Contracts alone see it: a call picks it, or hands on its caller's.
+/// What is handed in with a packet that is put. Contracts alone see it: a call picks it, or hands on its caller's, and shows
+/// there that the node has sealed and consumed so.
 pub trait Handed {
-    /// Messages that it has sealed.
+    /// Messages of the node that puts.
     ghost sealed: { List Message };
 
-    /// Nodes, each with a number up to which it has consumed that node's messages.
+    /// Nodes, each with a number up to which that node's messages are acknowledged.
     ghost consumed: { List (ℕ × ℕ) };
 }
 

@@ -23,7 +23,7 @@ pub trait Net {
     /// The next put for that node may want memory.
     ghost may_want: { Self → ℕ → Type 0 };
 
-    /// From the first state to the second exactly these were put, in order, whatever became of them.
+    /// From the first state to the second exactly these were put, in order. An implementation says here what became of each.
     ghost put_between: { Self → Self → List Put → Type 0 };
 
     /// From the first state to the second exactly these packets were given, in order.

@@ -8,4 +8,5 @@ mod Mails
 mod Whole
 mod Calls
 mod Came
+mod Counted
 pub mod Steps

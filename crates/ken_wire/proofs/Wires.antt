@@ -5,7 +5,7 @@ use Rattle.ken_wire.specs.declared.view.Sent.{Sent}
 use Rattle.ken_wire.specs.declared.send_end.SendEnd.{SendEnd}
 use Rattle.ken_wire.specs.declared.take_end.TakeEnd.{TakeEnd}
 use Rattle.ken_wire.specs.Views.{nothing}
-use Rattle.ken_wire.specs.Ends.{from_of, sent_of, joined_of, SameTaker, IsEndOf, AreEnds, AreNew}
+use Rattle.ken_wire.specs.Ends.{from_of, sent_of, refused_by, joined_of, SameTaker, IsEndOf, AreEnds, AreNew}
 
 -- they are so of the same taking end
 pub ends_same : (n : ℕ) (a b : TakeEnd) (es : List SendEnd) → SameTaker a b → AreEnds n a es → AreEnds n b es
@@ -17,9 +17,9 @@ pub ends_added : (n : ℕ) (take : TakeEnd) (es : List SendEnd) (e : SendEnd) �
 ends_added n take [] e are from is = (from ∙ add-zero n, is, tt)
 ends_added n take (x ∷ xs) e are from is = (are.0, are.1, ends_added (n + 1) take xs e are.2 (omega (arith, from)) is)
 
-pub new_added : (es : List SendEnd) (e : SendEnd) → AreNew es → sent_of e ≡ nothing → AreNew (es ++ e ∷ [])
-new_added [] e are new = (new, tt)
-new_added (x ∷ xs) e are new = (are.0, new_added xs e are.1 new)
+pub new_added : (es : List SendEnd) (e : SendEnd) → AreNew es → sent_of e ≡ nothing → refused_by e ≡ 0 → AreNew (es ++ e ∷ [])
+new_added [] e are new none = (new, none, tt)
+new_added (x ∷ xs) e are new none = (are.0, are.1, new_added xs e are.2 new none)
 
 -- the first of them comes back
 pub ends_left : (a b : TakeEnd) (e : SendEnd) (all es : List SendEnd) → all ≡ e ∷ es → AreEnds (length (joined_of a)) a all → SameTaker a b → joined_of b ≡ joined_of a ++ sent_of e ∷ [] → AreEnds (length (joined_of b)) b es

@@ -22,6 +22,10 @@ to_of e = e.to
 abbrev pub sent_of : SendEnd → Sent
 sent_of e = (view e.pass).sent
 
+-- how many packets it gave back
+abbrev pub refused_by : SendEnd → ℕ
+refused_by e = e.refused
+
 -- the node that the wire goes to
 abbrev pub taker_of : TakeEnd → ℕ
 taker_of t = t.to
@@ -65,10 +69,10 @@ AreEnds n take (e ∷ es) = (from_of e ≡ n) × IsEndOf take e × AreEnds (n + 
 abbrev pub IsWire : List SendEnd → TakeEnd → Type 0
 IsWire sends take = AreEnds 0 take sends × (length sends ≡ made_of take) × (joined_of take ≡ [])
 
--- nothing was put by them
+-- nothing was put by them, and nothing was given back
 abbrev pub AreNew : List SendEnd → Type 0
 AreNew [] = Unit {0}
-AreNew (e ∷ es) = (sent_of e ≡ nothing) × AreNew es
+AreNew (e ∷ es) = (sent_of e ≡ nothing) × (refused_by e ≡ 0) × AreNew es
 
 -- each packet that a node put is one for the wire's node, and stands in what the node has handed in
 abbrev pub PutsFor : ℕ → ℕ → Sent → Type 0

@@ -3,7 +3,7 @@ use Rattle.std.specs.Prelude.{◌≡◌, ℕ, ◌+◌, ◌<◌, List, [], ◌∷
 use Rattle.ken_wire.specs.declared.send_end.SendEnd.{SendEnd}
 use Rattle.ken_wire.specs.declared.take_end.TakeEnd.{TakeEnd}
 use Rattle.ken_wire.specs.Views.{nothing}
-use Rattle.ken_wire.specs.Ends.{from_of, sent_of, taker_of, heard_of, made_of, joined_of, SameTaker, IsEndOf}
+use Rattle.ken_wire.specs.Ends.{from_of, sent_of, refused_by, taker_of, heard_of, made_of, joined_of, SameTaker, IsEndOf}
 
 -- taking ends of the wires to all nodes, by number, which have the sending ends of the nodes before this one
 abbrev pub AreNext : ℕ → List TakeEnd → Type 0
@@ -16,7 +16,7 @@ AreUnused takes = (k : ℕ) (d : TakeEnd) → k < length takes → (heard_of (sl
 -- a wire has one sending end more
 abbrev pub IsSeated : TakeEnd → TakeEnd → SendEnd → Type 0
 IsSeated old new e = SameTaker old new × (heard_of new ≡ heard_of old) × (joined_of new ≡ joined_of old) × (made_of new ≡ made_of old + 1)
-    × (from_of e ≡ made_of old) × IsEndOf new e × (sent_of e ≡ nothing)
+    × (from_of e ≡ made_of old) × IsEndOf new e × (sent_of e ≡ nothing) × (refused_by e ≡ 0)
 
 -- a sending end came back
 abbrev pub IsBackAt : TakeEnd → TakeEnd → SendEnd → Type 0

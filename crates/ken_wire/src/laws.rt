@@ -1,8 +1,9 @@
 // Laws of wires, which no single call shows.
-ghost use Rattle.std.specs.Prelude.{◌≡◌, ◌+◌, ℕ, ◌<◌, true, List, [], ◌∷◌, ◌++◌, length, slice_index_or, sum_by};
+ghost use Rattle.std.specs.Prelude.{◌≡◌, ◌+◌, ◌-◌, ◌^◌, ℕ, ◌<◌, true, List, [], ◌∷◌, ◌++◌, length, map, slice_index_or, sum_by};
 ghost use Rattle.std.specs.List.{Contains};
 ghost use Rattle.crossbeam_queue.specs.Fifo.{Pushes, Pops, Forks, Merges, Learns};
 ghost use Rattle.ken_model.specs.declared.messages.Message.{Message};
+ghost use Rattle.ken_net.specs.History.{puts_for};
 ghost use Rattle.ken_net.specs.Puts.{Put, MayPut};
 ghost use Rattle.ken_wire.specs.declared.view.Sent.{Sent};
 ghost use Rattle.ken_wire.specs.declared.view.View.{View};
@@ -14,9 +15,15 @@ ghost use Rattle.ken_wire.specs.Nets.{Grew, sealed_to, consumed_to};
 /// Where the ends of a wire to node `to` were new, and each went by the puts of its node, each packet heard is one that a
 /// node may have put for `to` with what it handed in with its puts for `to`.
 pub fn delivered()
-    ensures { (to : ℕ) (sents : List Sent) (heard : List (List ℕ)) (puts : ℕ → List Put) → WasHandedIn to sents heard
-        → ((k : ℕ) → k < length sents → Grew to (puts k) nothing (slice_index_or sents k nothing))
+    ensures { (to : ℕ) (sents : List Sent) (heard : List (List ℕ)) (puts : ℕ → List Put) (refused : ℕ → ℕ) → WasHandedIn to sents heard
+        → ((k : ℕ) → k < length sents → Grew to (puts k) nothing 0 (slice_index_or sents k nothing) (refused k))
         → (bytes : List ℕ) → Contains heard bytes → (k : ℕ) × (k < length sents) × MayPut k to (sealed_to to (puts k)) (consumed_to to (puts k)) bytes }
+{}
+
+/// Where an end's count of what it gave back stands still, below its last value, each put for its node was put.
+pub fn no_loss_is_uncounted()
+    ensures { (to refused : ℕ) (puts : List Put) (a b : Sent) → refused < 2 ^ 64 - 1 → Grew to puts a refused b refused
+        → b.put ≡ a.put ++ map (λ (p : Put). p.bytes) (puts_for to puts) }
 {}
 
 /// Each step of a wire keeps its rule, whatever is queued, and whatever the ends with other threads know: a put, with what

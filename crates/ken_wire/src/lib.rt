@@ -12,7 +12,7 @@ mod view;
 mod wire;
 mod wire_net;
 
-pub use laws::{delivered, each_step_keeps_the_rule, nothing_is_lost};
+pub use laws::{delivered, each_step_keeps_the_rule, no_loss_is_uncounted, nothing_is_lost};
 pub use rounds::{hand_out, take_back, takers};
 pub use rule::Carries;
 pub use send_end::SendEnd;

@@ -32,7 +32,7 @@ pub struct TakeEnd {
 impl TakeEnd {
     ghost use Rattle.std.specs.Prelude.{◌≡◌, ◌+◌, ◌<◌, [], ◌∷◌, ◌++◌, length, IfOk, OnErr, MatchOption};
     ghost use Rattle.ken_wire.specs.Views.{nothing};
-    ghost use Rattle.ken_wire.specs.Ends.{from_of, sent_of, taker_of, heard_of, made_of, joined_of, SameTaker, IsEndOf, Carried, WasHandedIn};
+    ghost use Rattle.ken_wire.specs.Ends.{from_of, sent_of, refused_by, taker_of, heard_of, made_of, joined_of, SameTaker, IsEndOf, Carried, WasHandedIn};
 
     /// The taking end of a new wire to the node `to`, for which no sending end was made yet.
     pub fn new(alloc: Global, to: u8) -> Result<Self, AllocError>
@@ -52,6 +52,7 @@ impl TakeEnd {
         requires { made_of self.old < 255 }
         ensures end { SameTaker self.old self.new × (heard_of self.new ≡ heard_of self.old) × (joined_of self.new ≡ joined_of self.old) }
         ensures made { IfOk result (λ e. IsEndOf self.new e × (from_of e ≡ made_of self.old) × (sent_of e ≡ nothing) × (made_of self.new ≡ made_of self.old + 1)) }
+        ensures new { IfOk result (λ e. refused_by e ≡ 0) }
         ensures err { OnErr result (made_of self.new ≡ made_of self.old) }
     {
         let queue = Arc::try_clone(&self.queue)?;

@@ -27,7 +27,7 @@ loop-place-preserved c =
     let next = c.requires.next n d (omega (arith, low, c.loop-place.auto.takes)) in
     let node : made_of a ≡ c.args.node = subst (λ (x : TakeEnd). made_of x ≡ c.args.node) (sym a_is) next.1 in
     let to : taker_of a ≡ n = subst (λ (x : TakeEnd). taker_of x ≡ n) (sym a_is) next.0 in
-    let seated : IsSeated a b end = (kept.0, kept.1, kept.2, made.3, made.1, made.0, made.2) in
+    let seated : IsSeated a b end = (kept.0, kept.1, kept.2, made.3, made.1, made.0, made.2, c.in_ok-seat.ensures.new) in
     record {
       count = ap (λ (x : List SendEnd). length x) items ∙ length-append l.ends.items (end ∷ []) ∙ ap (λ (k : ℕ). k + 1) l.invariant.count;
       next = made_more (c.args.node + 1) l.takes b n low (kept.0.1 ∙ to) (made.3 ∙ ap (λ (k : ℕ). k + 1) node) l.invariant.next;

@@ -14,7 +14,7 @@ loop-node-preserved c =
     let next : from_of e ≡ 0 + length l.sends.items = made.1 ∙ l.invariant.count.1 ∙ sym l.invariant.count.0 ∙ sym (zero-add (length l.sends.items)) in
     record {
       ends = subst (AreEnds 0 take) (sym items) (ends_added 0 take l.sends.items e (ends_same 0 l.take take l.sends.items end.0 l.invariant.ends) next made.0);
-      new = subst AreNew (sym items) (new_added l.sends.items e l.invariant.new made.2);
+      new = subst AreNew (sym items) (new_added l.sends.items e l.invariant.new made.2 c.in_ok-seat.ensures.new);
       count = search rules;
       take = search rules;
     }
