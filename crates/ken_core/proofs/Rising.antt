@@ -1,5 +1,5 @@
 -- The stamps of a node's turns rise.
-use Rattle.std.proofs.Common.{◌≡◌, ◌≢◌, ℕ, ◌+◌, ◌<◌, ◌≤◌, List, [], ◌∷◌, map, zero, suc, Some, slice_get, get_or, refl, sym, ap, ◌∙◌, subst, ⊎_elim, arith}
+use Rattle.std.proofs.Common.{◌≡◌, ◌≢◌, ℕ, ◌+◌, ◌<◌, ◌≤◌, List, [], ◌∷◌, map, length, drop, zero, suc, Some, slice_get, get_or, refl, sym, ap, ◌∙◌, subst, ⊎_elim, arith, drop-cons}
 use Rattle.std.proofs.lemmas.Bool.{cases_eq}
 use Rattle.std.specs.List.{AllByRecursion}
 use Rattle.ken_model.specs.declared.reports.TurnLine.{TurnLine}
@@ -29,6 +29,12 @@ pub turns_rise : (g : Game) (w : Cluster) (v : ℕ) → Accord g w → StampsRis
 turns_rise g w v accord =
     let is = accord.made.nodes v in
     subst (λ (ls : List TurnLine). StampsRise 0 ls) (sym (ap (map (effects_line v)) is.turns ∙ effects_lines v (accord.history v))) (rise_from g v (first_place g) (accord.history v) is.own)
+
+-- what is left begins with the next one
+pub next_left : {A : Type 0} (xs : List A) (i : ℕ) (x : A) → i < length xs → x ≡ get_or xs i x → drop i xs ≡ x ∷ drop (i + 1) xs
+next_left xs i x within is =
+    let next : suc i ≡ i + 1 = omega arith in
+    drop-cons xs i x within ∙ ap (λ y. y ∷ drop (suc i) xs) (sym is) ∙ ap (λ k. x ∷ drop k xs) next
 
 pub lines_own : (v : ℕ) (es : List Effects) → AllByRecursion (λ (l : TurnLine). l.step.node ≡ v) (map (effects_line v) es)
 lines_own v [] = tt

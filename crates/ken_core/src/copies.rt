@@ -1,5 +1,5 @@
 // Copies of data of the core.
-ghost use Rattle.std.specs.Prelude.{◌≡◌, IfOk, map};
+ghost use Rattle.std.specs.Prelude.{◌≡◌, IfOk};
 ghost use Rattle.ken_cover.specs.Sides.{changes_at, recounted};
 ghost use Rattle.ken_core.specs.Turns.{effects_line};
 
@@ -97,15 +97,4 @@ pub(crate) fn line(alloc: Global, node: u8, effects: &Effects) -> Result<TurnLin
         },
         number: effects.number,
     })
-}
-
-/// Turns, as lines of the report.
-pub(crate) fn lines(alloc: Global, node: u8, turns: &[Effects]) -> Result<Vec<TurnLine>, AllocError>
-    ensures { IfOk result (λ ls. ls.items ≡ map (effects_line node) turns.now) }
-{
-    let mut lines = Vec::with_capacity(alloc, turns.len())?;
-    for turn in turns {
-        lines.push(line(alloc, node, turn)?)?;
-    }
-    Ok(lines)
 }

@@ -98,8 +98,7 @@ impl<'a> Group<'a> {
         let mut timeline = Timeline::new(alloc);
         for node in 0..self.facts.nodes {
             let machine = &self.machines[usize::from(node)];
-            let turns = copies::lines(alloc, node, machine.ledger.turns.as_slice())?;
-            timeline.add(node, turns)?;
+            timeline.add(alloc, node, machine.ledger.turns.as_slice())?;
         }
         Ok(Items::new(timeline.into_lines(alloc)?))
     }

@@ -31,3 +31,4 @@ pub use laws::{
     restart_keeps_heap, runs_keep_accord, seal_in_doubt, start_is_in_accord, step_keeps_accord,
     turnover_in_doubt,
 };
+pub use timeline::Timeline;

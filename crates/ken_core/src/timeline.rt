@@ -1,18 +1,20 @@
 // The turns of all nodes in one order.
-ghost use Rattle.std.specs.Prelude.{◌≡◌, ◌≢◌, ◌+◌, ◌<◌, List, [], ℕ, length, IfOk, OnOk};
-ghost use Rattle.std.specs.List.{AllByRecursion};
+ghost use Rattle.std.specs.Prelude.{◌≡◌, ◌≢◌, List, [], ℕ, map, IfOk, OnOk};
 ghost use Rattle.ken_model.specs.declared.reports.TurnLine.{TurnLine};
 ghost use Rattle.ken_model.specs.History.{lines_by, Rises};
 ghost use Rattle.ken_core.specs.Timeline.{StampsRise};
+ghost use Rattle.ken_core.specs.Turns.{effects_line};
 
+use crate::copies;
 use ken_model::TurnLine;
+use ken_record::Effects;
 use std::alloc::{AllocError, Global};
 use std::collections::BTreeMap;
 use std::marker::Model;
 
-/// Turn lines, in the order of their stamps, and at equal stamps of their nodes.
+/// The turns of a run as lines, in the order of their stamps, and at equal stamps of their nodes.
 #[derive(Debug, Drop)]
-pub(crate) struct Timeline {
+pub struct Timeline {
     lines: BTreeMap<(u64, u8), TurnLine>,
 }
 
@@ -39,16 +41,15 @@ impl Timeline {
     }
 
     /// Adds all turns of a node that has none yet. After an error some of them may be missing.
-    pub fn add(&mut self, node: u8, turns: Vec<TurnLine>) -> Result<(), AllocError>
-        requires own { AllByRecursion (λ (l : TurnLine). l.step.node ≡ node) turns.items }
-        requires rise { StampsRise 0 turns.items }
+    pub fn add(&mut self, alloc: Global, node: u8, turns: &[Effects]) -> Result<(), AllocError>
+        requires rise { StampsRise 0 (map (effects_line node) turns.now) }
         requires fresh { lines_by node self.old ≡ [] }
-        ensures its_lines { OnOk result (lines_by node self.new ≡ turns.items) }
+        ensures its_lines { OnOk result (lines_by node self.new ≡ map (effects_line node) turns.now) }
         ensures others { OnOk result ((v : ℕ) → v ≢ node → lines_by v self.new ≡ lines_by v self.old) }
-        ensures length { OnOk result (length self.new ≡ length self.old + length turns.items) }
     {
         for turn in turns {
-            self.lines.insert((turn.stamp, node), turn)?;
+            let line = copies::line(alloc, node, turn)?;
+            self.lines.insert((turn.stamp, node), line)?;
         }
         Ok(())
     }

@@ -1,12 +1,16 @@
 -- Whether a run has ended, as its nodes tell it.
-use Rattle.std.proofs.Common.{◌≡◌, ◌≢◌, ℕ, ◌+◌, ◌-◌, ◌<◌, ◌≤◌, inl, inr, ⊎_elim, nat_lt, if◌then◌else◌, List, length, Bool, true, false, Option, sym, ap, subst, ◌∙◌, arith}
+use Rattle.std.proofs.Common.{◌≡◌, ◌≢◌, ℕ, ◌+◌, ◌-◌, ◌<◌, ◌≤◌, inl, inr, ⊎_elim, nat_lt, if◌then◌else◌, List, [], ◌∷◌, length, Bool, true, false, Option, refl, sym, ap, subst, ◌∙◌, arith}
 use Rattle.std.proofs.lemmas.Bool.{cases_lt, ltb-false, ltb-true, ne_eqb}
 use Rattle.ken_disk.specs.Story.{Story}
 use Rattle.ken_model.specs.declared.messages.Out.{Out}
+use Rattle.ken_model.specs.declared.reports.Emission.{Emission}
+use Rattle.ken_model.specs.Emissions.{emitted_by, largest_of}
 use Rattle.ken_model.specs.Game.{Game}
 use Rattle.ken_model.specs.Network.{inputs_for, outside}
+use Rattle.ken_core.specs.Clusters.{emissions_by}
 use Rattle.ken_core.specs.Nodes.{Node}
 use Rattle.ken_core.specs.Turns.{consumed_from, mails_to, outs_of}
+use Rattle.ken_ship.specs.Last.{last_of, outs_emitted}
 use Rattle.ken_node.specs.declared.stage.Stage.{Stage}
 use Rattle.ken_node.specs.declared.watched.Watched.{Watched}
 use Rattle.ken_node.specs.Stages.{IsCreated}
@@ -50,33 +54,44 @@ module _ (g : Game) (nodes : ℕ → Node) where
   none-waits v count all input each u (inl low) = let none = each u (omega (arith, low, all)) low in omega (arith, none)
   none-waits v count all input each u (inr is) = subst (λ (x : ℕ). waits_on g nodes x v ≤ 0) (sym is) (omega (arith, input))
 
-  pub due-busy : (v : ℕ) → (nodes v).sending.emitted < length (outs_of (nodes v).turning.turns) → IsDone g nodes v → ⊥
-  due-busy v due done = let past = done.emitted in absurd (omega (arith, due, past))
+module _ (g : Game) (emissions : List Emission) (nodes : ℕ → Node) where
+  -- the last output that node v emitted is not its last
+  abbrev pub IsUnemitted : ℕ → Type 0
+  IsUnemitted v = largest_of 0 (emitted_by v emissions) < length (outs_of (nodes v).turning.turns)
 
-  pub full-done : (v : ℕ) → ((nodes v).sending.emitted < length (outs_of (nodes v).turning.turns) → ⊥) → g.turns ≤ length (nodes v).turning.turns → IsDone g nodes v
-  full-done v none full = record {
-    emitted = ⊎_elim (λ (due : (nodes v).sending.emitted < length (outs_of (nodes v).turning.turns)). absurd (none due)) (λ (past : length (outs_of (nodes v).turning.turns) ≤ (nodes v).sending.emitted). past) (cases_lt (nodes v).sending.emitted (length (outs_of (nodes v).turning.turns)));
-    waits = λ u known some. full;
-  }
+  pub unemitted-busy : (v last : ℕ) → last ≡ largest_of 0 (emitted_by v emissions) → last < length (outs_of (nodes v).turning.turns) → IsDone g emissions nodes v → ⊥
+  unemitted-busy v last is due done = let past = done.emitted in absurd (omega (arith, due, past, is))
 
-  pub waiting-busy : (v : ℕ) → (g.turns ≤ length (nodes v).turning.turns → ⊥) → HasWaiting g nodes v → IsDone g nodes v → ⊥
+  pub none-unemitted : (v last : ℕ) → last ≡ largest_of 0 (emitted_by v emissions) → (last < length (outs_of (nodes v).turning.turns) → ⊥) → IsUnemitted v → ⊥
+  none-unemitted v last is none due = none (omega (arith, due, is))
+
+  all-emitted : (v : ℕ) → (IsUnemitted v → ⊥) → length (outs_of (nodes v).turning.turns) ≤ largest_of 0 (emitted_by v emissions)
+  all-emitted v none = ⊎_elim
+      (λ (due : largest_of 0 (emitted_by v emissions) < length (outs_of (nodes v).turning.turns)). absurd (none due))
+      (λ (past : length (outs_of (nodes v).turning.turns) ≤ largest_of 0 (emitted_by v emissions)). past)
+      (cases_lt (largest_of 0 (emitted_by v emissions)) (length (outs_of (nodes v).turning.turns)))
+
+  pub full-done : (v : ℕ) → (IsUnemitted v → ⊥) → g.turns ≤ length (nodes v).turning.turns → IsDone g emissions nodes v
+  full-done v none full = record { emitted = all-emitted v none; waits = λ u known some. full }
+
+  pub waiting-busy : (v : ℕ) → (g.turns ≤ length (nodes v).turning.turns → ⊥) → HasWaiting g nodes v → IsDone g emissions nodes v → ⊥
   waiting-busy v more has done = more (done.waits has.from has.known has.waits)
 
-  pub idle-done : (v : ℕ) → ((nodes v).sending.emitted < length (outs_of (nodes v).turning.turns) → ⊥) → HasNoneWaiting g nodes v → IsDone g nodes v
+  pub idle-done : (v : ℕ) → (IsUnemitted v → ⊥) → HasNoneWaiting g nodes v → IsDone g emissions nodes v
   idle-done v none waits = record {
-    emitted = ⊎_elim (λ (due : (nodes v).sending.emitted < length (outs_of (nodes v).turning.turns)). absurd (none due)) (λ (past : length (outs_of (nodes v).turning.turns) ≤ (nodes v).sending.emitted). past) (cases_lt (nodes v).sending.emitted (length (outs_of (nodes v).turning.turns)));
+    emitted = all-emitted v none;
     waits = λ u known some. let nothing = waits u known in absurd (omega (arith, some, nothing));
   }
 
   -- ---- of all
 
-  pub all-done : (count : ℕ) → g.nodes ≤ count → ((v : ℕ) → v < count → v < g.nodes → IsDone g nodes v) → HasEnded g nodes
+  pub all-done : (count : ℕ) → g.nodes ≤ count → ((v : ℕ) → v < count → v < g.nodes → IsDone g emissions nodes v) → HasEnded g emissions nodes
   all-done count all each = record {
     emitted = λ v low. let done = each v (omega (arith, low, all)) low in done.emitted;
     waits = λ u v known low some. let done = each v (omega (arith, low, all)) low in done.waits u known some;
   }
 
-  pub ended-done : (v : ℕ) → v < g.nodes → HasEnded g nodes → IsDone g nodes v
+  pub ended-done : (v : ℕ) → v < g.nodes → HasEnded g emissions nodes → IsDone g emissions nodes v
   ended-done v low ended = record { emitted = ended.emitted v low; waits = λ u known some. ended.waits u v known low some }
 
 module _ {D O U : Type 0} (told : Watched D → Option Story) (size : Watched D → ℕ) (took : U → Option (List Out)) (r : Run D O U) where
@@ -105,3 +120,11 @@ one-more P n each last u low = ⊎_elim
     (λ (below : u < n). each u below)
     (λ (high : n ≤ u). let same : n ≡ u = omega (arith, low, high) in subst P same last)
     (cases_lt u n)
+
+-- what a node keeps of its emissions is what it emitted
+pub emitted-of-node : (v : ℕ) (os : List Out) → outs_emitted (emissions_by v os) ≡ os
+emitted-of-node v [] = refl
+emitted-of-node v (o ∷ os) = ap (λ xs. o ∷ xs) (emitted-of-node v os)
+
+pub last-of-node : (v : ℕ) (os : List Out) (es : List Emission) → es ≡ emissions_by v os → last_of es ≡ largest_of 0 os
+last-of-node v os es is = ap last_of is ∙ ap (largest_of 0) (emitted-of-node v os)

@@ -29,7 +29,7 @@ use Rattle.ken_flow.specs.Groups.{group_of, with_node}
 use Rattle.ken_flow.specs.Standstill.{AreShort}
 use Rattle.ken_flow.proofs.Flows.{given_are_known}
 use Rattle.ken_flow.proofs.Puts.{acks_go_no_further}
-use Rattle.ken_drive.specs.declared.inboxes.Waiting.{Waiting}
+use Rattle.ken_drive.specs.declared.inboxes.InFlight.{InFlight}
 use Rattle.ken_drive.specs.declared.run.Run.{Run}
 use Rattle.ken_drive.specs.declared.station.Station.{Station}
 use Rattle.ken_drive.specs.Ends.{AreModest, WereGiven, WerePut}
@@ -141,8 +141,8 @@ module _ {D O U : Type 0} (told : Watched D → Option Story) (size : Watched D 
       let w2 = group-after g nodes emissions v packets events out after stands.accord known were run in
       let stay = known-stays g nodes emissions v packets events out after stands.accord known were run in
       let links_stay = links-stay g nodes emissions v packets events out after stands.accord known were run v in
-      let mail-is = ap (λ (x : Waiting). x.mail) waits in
-      let acks-is = ap (λ (x : Waiting). x.acks) waits in
+      let mail-is = ap (λ (x : InFlight). x.mail) waits in
+      let acks-is = ap (λ (x : InFlight). x.acks) waits in
       stands-after g nodes emissions v packets events out after stands.accord known were run told size took made r r2 s2 stands low same stations
       (ap length mail-is ∙ stands.boxes.0, ap length acks-is ∙ stands.boxes.1)
       (subst (AreKnown g w2) (sym mail-is) (stay.boxes r.waiting.mail stands.mail))

@@ -1,5 +1,5 @@
 -- Passes until a run has ended.
-use Rattle.std.proofs.Common.{◌≡◌, ℕ, ◌+◌, ◌<◌, ◌≤◌, ⊎_elim, if◌then◌else◌, List, length, Bool, true, false, Option, Result, Ok, Err, refl, sym, subst, ◌∙◌, arith}
+use Rattle.std.proofs.Common.{◌≡◌, ℕ, ◌<◌, ◌≤◌, ⊎_elim, List, length, Bool, true, false, Option, Result, Ok, Err, refl, sym, subst, ◌∙◌, arith}
 use Rattle.std.specs.Result.{IsErrAnd}
 use Rattle.std.proofs.lemmas.Bool.{cases_lt}
 use Rattle.ken_disk.specs.Story.{Story}
@@ -8,11 +8,11 @@ use Rattle.ken_model.specs.Game.{Game}
 use Rattle.ken_node.specs.declared.watched.Watched.{Watched}
 use Rattle.ken_flow.specs.Standstill.{HasEnded, Passed, open_in}
 use Rattle.ken_flow.proofs.Stamps.{standstill_ends}
-use Rattle.ken_drive.specs.declared.drain.Came.{Came}
-use Rattle.ken_drive.specs.declared.drain.Came.TheVariants.{Ended, Worked, Nothing}
+use Rattle.ken_drive.specs.declared.drain.PassOutcome.{PassOutcome}
+use Rattle.ken_drive.specs.declared.drain.PassOutcome.TheVariants.{Ended, Progressed, Idle}
 use Rattle.ken_drive.specs.declared.faults.RunFault.{RunFault}
 use Rattle.ken_drive.specs.declared.run.Run.{Run}
-use Rattle.ken_drive.specs.Draining.{CalmsBy, CameBy, DrainsBy, HasRun, Idled, LessIsOpen, MayDrain, PassedIdly, StaysWhole}
+use Rattle.ken_drive.specs.Draining.{ProgressesBy, PassesBy, DrainsBy, HasRun, Idled, LessIsOpen, MayDrain, PassedIdly, StaysWhole}
 use Rattle.ken_drive.specs.Flowing.{AllMoved, flow_of, work_left}
 use Rattle.ken_drive.specs.Open.{open_left}
 use Rattle.ken_drive.specs.Running.{IsRunning, LeavesRunFault, MayGoOn}
@@ -34,11 +34,11 @@ module _ {D O U : Type 0} (told : Watched D → Option Story) (size : Watched D 
     pub passed-whole : StaysWhole told size took old new
     passed-whole g made is all = leaves g made is
 
-    pub passed-ended : ((g : Game) (made : ℕ) (is : IsRunning told size took g made new) → made ≡ g.nodes → HasEnded g is.nodes) → CameBy told size took (PassedIdly told size took) (Ok Ended) old new
+    pub passed-ended : ((g : Game) (made : ℕ) (is : IsRunning told size took g made new) → made ≡ g.nodes → HasEnded g is.emissions is.nodes) → PassesBy told size took (PassedIdly told size took) (Ok Ended) old new
     passed-ended ended g made is all = (leaves g made is, ended g made (leaves g made is) all)
 
     -- as much work is left, and the run goes on
-    pub passed-idly : work_left old ≤ work_left new → ((g : Game) (made : ℕ) (is : IsRunning told size took g made new) → made ≡ g.nodes → HasEnded g is.nodes → ⊥) → PassedIdly told size took old new
+    pub passed-idly : work_left old ≤ work_left new → ((g : Game) (made : ℕ) (is : IsRunning told size took g made new) → made ≡ g.nodes → HasEnded g is.emissions is.nodes → ⊥) → PassedIdly told size took old new
     passed-idly same goes_on g made was all =
         let m = moves g made was all in
         ⊎_elim
@@ -73,39 +73,39 @@ module _ {D O U : Type 0} (told : Watched D → Option Story) (size : Watched D 
       (λ (more : open_left old ≤ open_left new).
       absurd (c.goes_on (standstill_ends may.game may.running.emissions (flow_of may.running.nodes old) (flow_of a.now.nodes m1) (flow_of b.now.nodes m2) (flow_of c.now.nodes new)
       may.running.stands.limits (has-places told size took may.game may.made old may.running may.all) may.running.stands.short.0 may.running.stands.short.1 may.running.stands.accord
-      (record { first = a.passed; second = b.passed; third = c.passed; same = omega (arith, before, after, more) }))))
+      (record { first = a.passed; second = b.passed; third = c.passed; same = omega (arith, before, after, more) }) c.now.emissions c.now.stands.accord)))
       (cases_lt (open_left new) (open_left old))
 
-  -- passes after others of which nothing came
-  pub came-then : (one two : Run D O U → Run D O U → Type 0) (old mid new : Run D O U) (result : Result Came RunFault) → (one mid new → two old new) → StaysWhole told size took old mid → work_left mid ≡ work_left old → CameBy told size took one result mid new → CameBy told size took two result old new
-  came-then one two old mid new (Ok Ended) joins stays same c = λ g made is all. c g made (stays g made is all) all
-  came-then one two old mid new (Ok Worked) joins stays same c = (λ g made is all. c.0 g made (stays g made is all) all, let less = c.1 in omega (arith, same, less))
-  came-then one two old mid new (Ok Nothing) joins stays same c = (joins c.0, λ g made is all. c.1 g made (stays g made is all) all, c.2 ∙ same)
-  came-then one two old mid new (Err fault) joins stays same c = λ g made is all. c g made (stays g made is all) all
+  -- passes after idle ones
+  pub outcome-then : (one two : Run D O U → Run D O U → Type 0) (old mid new : Run D O U) (result : Result PassOutcome RunFault) → (one mid new → two old new) → StaysWhole told size took old mid → work_left mid ≡ work_left old → PassesBy told size took one result mid new → PassesBy told size took two result old new
+  outcome-then one two old mid new (Ok Ended) joins stays same c = λ g made is all. c g made (stays g made is all) all
+  outcome-then one two old mid new (Ok Progressed) joins stays same c = (λ g made is all. c.0 g made (stays g made is all) all, let less = c.1 in omega (arith, same, less))
+  outcome-then one two old mid new (Ok Idle) joins stays same c = (joins c.0, λ g made is all. c.1 g made (stays g made is all) all, c.2 ∙ same)
+  outcome-then one two old mid new (Err fault) joins stays same c = λ g made is all. c g made (stays g made is all) all
 
-  -- where something came of them
-  pub came-done : (one two : Run D O U → Run D O U → Type 0) (old new : Run D O U) (came : Came) → (came ≡ Nothing → ⊥) → CameBy told size took one (Ok came) old new → CameBy told size took two (Ok came) old new
-  came-done one two old new Ended other c = c
-  came-done one two old new Worked other c = c
-  came-done one two old new Nothing other c = absurd (other refl)
+  -- an outcome that ends them
+  pub outcome-done : (one two : Run D O U → Run D O U → Type 0) (old new : Run D O U) (outcome : PassOutcome) → (outcome ≡ Idle → ⊥) → PassesBy told size took one (Ok outcome) old new → PassesBy told size took two (Ok outcome) old new
+  outcome-done one two old new Ended other c = c
+  outcome-done one two old new Progressed other c = c
+  outcome-done one two old new Idle other c = absurd (other refl)
 
   -- a fault that is handed on
-  pub came-failed : (two : Run D O U → Run D O U → Type 0) (old new : Run D O U) (result : Result Came RunFault) (fault : RunFault) → IsErrAnd result (λ e. e ≡ fault)
-      → ((g : Game) (made : ℕ) → IsRunning told size took g made old → made ≡ g.nodes → LeavesRunFault told size took fault g made new) → CameBy told size took two result old new
-  came-failed two old new (Ok x) fault same leaves = absurd same
-  came-failed two old new (Err e) fault same leaves = λ g made is all. subst (λ (x : RunFault). LeavesRunFault told size took x g made new) (sym same) (leaves g made is all)
+  pub outcome-failed : (two : Run D O U → Run D O U → Type 0) (old new : Run D O U) (result : Result PassOutcome RunFault) (fault : RunFault) → IsErrAnd result (λ e. e ≡ fault)
+      → ((g : Game) (made : ℕ) → IsRunning told size took g made old → made ≡ g.nodes → LeavesRunFault told size took fault g made new) → PassesBy told size took two result old new
+  outcome-failed two old new (Ok x) fault same leaves = absurd same
+  outcome-failed two old new (Err e) fault same leaves = λ g made is all. subst (λ (x : RunFault). LeavesRunFault told size took x g made new) (sym same) (leaves g made is all)
 
-  pub calm-failed : (old new : Run D O U) (result : Result Bool RunFault) (fault : RunFault) → IsErrAnd result (λ e. e ≡ fault)
-      → ((g : Game) (made : ℕ) → IsRunning told size took g made old → made ≡ g.nodes → LeavesRunFault told size took fault g made new) → CalmsBy told size took result old new
-  calm-failed old new (Ok x) fault same leaves = absurd same
-  calm-failed old new (Err e) fault same leaves = λ g made is all. subst (λ (x : RunFault). LeavesRunFault told size took x g made new) (sym same) (leaves g made is all)
+  pub until_progress-failed : (old new : Run D O U) (result : Result Bool RunFault) (fault : RunFault) → IsErrAnd result (λ e. e ≡ fault)
+      → ((g : Game) (made : ℕ) → IsRunning told size took g made old → made ≡ g.nodes → LeavesRunFault told size took fault g made new) → ProgressesBy told size took result old new
+  until_progress-failed old new (Ok x) fault same leaves = absurd same
+  until_progress-failed old new (Err e) fault same leaves = λ g made is all. subst (λ (x : RunFault). LeavesRunFault told size took x g made new) (sym same) (leaves g made is all)
 
   pub drain-failed : (g : Game) (made : ℕ) (new : Run D O U) (result : Result (Unit {0}) RunFault) (fault : RunFault) → IsErrAnd result (λ e. e ≡ fault) → LeavesRunFault told size took fault g made new → DrainsBy told size took result g made new
   drain-failed g made new (Ok x) fault same leaves = absurd same
   drain-failed g made new (Err e) fault same leaves = subst (λ (x : RunFault). LeavesRunFault told size took x g made new) (sym same) leaves
 
-  -- where a calm ends: the run has ended, or less work is left
-  pub drain-on : (old mid new : Run D O U) (ended : Bool) → StaysWhole told size took old mid → CalmsBy told size took (Ok ended) mid new → StaysWhole told size took old new
+  -- passes until one makes progress: the run has ended, or less work is left
+  pub drain-on : (old mid new : Run D O U) (ended : Bool) → StaysWhole told size took old mid → ProgressesBy told size took (Ok ended) mid new → StaysWhole told size took old new
   drain-on old mid new true stays c g made is all = (c g made (stays g made is all) all).0
   drain-on old mid new false stays c g made is all = c.0 g made (stays g made is all) all
 
@@ -119,17 +119,10 @@ module _ {D O U : Type 0} (told : Watched D → Option Story) (size : Watched D 
   pub stays-then : (old mid new : Run D O U) → StaysWhole told size took old mid → StaysWhole told size took mid new → StaysWhole told size took old new
   stays-then old mid new one two g made is all = two g made (one g made is all) all
 
-  pub drain-done : (old mid new : Run D O U) (ended : Bool) → ended ≡ true → StaysWhole told size took old mid → CalmsBy told size took (Ok ended) mid new → (g : Game) (made : ℕ) → IsRunning told size took g made old → made ≡ g.nodes → HasRun told size took g made new
+  pub drain-done : (old mid new : Run D O U) (ended : Bool) → ended ≡ true → StaysWhole told size took old mid → ProgressesBy told size took (Ok ended) mid new → (g : Game) (made : ℕ) → IsRunning told size took g made old → made ≡ g.nodes → HasRun told size took g made new
   drain-done old mid new true same stays c = λ g made is all. c g made (stays g made is all) all
   drain-done old mid new false same stays c = absurd (cc)
 
-  smaller-now : (mid new : Run D O U) (ended : Bool) → CalmsBy told size took (Ok ended) mid new → (if ended then 0 else work_left new + 1) < work_left mid + 1
-  smaller-now mid new true c = omega arith
-  smaller-now mid new false c = let less = c.1 in omega (arith, less)
-
-  pub drain-smaller : (mid new : Run D O U) (was ended : Bool) → was ≡ false → CalmsBy told size took (Ok ended) mid new → (if ended then 0 else work_left new + 1) < (if was then 0 else work_left mid + 1)
-  drain-smaller mid new was ended same c = subst (λ (b : Bool). (if ended then 0 else work_left new + 1) < (if b then 0 else work_left mid + 1)) (sym same) (smaller-now mid new ended c)
-
-  -- what came of passes, by another name
-  pub came-is : (one : Run D O U → Run D O U → Type 0) (old new : Run D O U) (came came2 : Came) → came ≡ came2 → CameBy told size took one (Ok came) old new → CameBy told size took one (Ok came2) old new
-  came-is one old new came came2 same c = subst (λ (x : Came). CameBy told size took one (Ok x) old new) same c
+  -- an outcome by another name
+  pub outcome-is : (one : Run D O U → Run D O U → Type 0) (old new : Run D O U) (outcome outcome2 : PassOutcome) → outcome ≡ outcome2 → PassesBy told size took one (Ok outcome) old new → PassesBy told size took one (Ok outcome2) old new
+  outcome-is one old new outcome outcome2 same c = subst (λ (x : PassOutcome). PassesBy told size took one (Ok x) old new) same c

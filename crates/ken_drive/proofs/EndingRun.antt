@@ -29,7 +29,8 @@ use Rattle.ken_flow.specs.Standstill.{sent_on, waits_on}
 use Rattle.ken_drive.specs.declared.lines.Summary.{Summary}
 use Rattle.ken_drive.specs.declared.run.Run.{Run}
 use Rattle.ken_drive.specs.declared.station.Station.{Station}
-use Rattle.ken_drive.specs.Ended.{AddsHeap, AreWords, HaveSaid, IsEnded, IsReportOf, emissions_of, ending_of, restart_lines, restarts_from, waits_for, waits_in}
+use Rattle.ken_drive.proofs.RestartOrder.{restarts_by_node}
+use Rattle.ken_drive.specs.Ended.{AddsHeap, AreRestartsByNode, AreWords, HaveSaid, IsEnded, IsReportOf, emissions_of, ending_of, restart_lines, restarts_from, waits_for, waits_in}
 use Rattle.ken_drive.proofs.EndingCounts.{emissions_from, in_range-le}
 use Rattle.ken_drive.proofs.EndingFew.{consumed-few, waits-little}
 use Rattle.ken_drive.proofs.EndingLists.{gone_over}
@@ -254,6 +255,7 @@ module _ {D O U : Type 0} (told : Watched D → Option Story) (size : Watched D 
       waiting = waiting;
       ending = ending;
       restarts = subst AreWords (sym restarts) said.words;
+      order = subst (AreRestartsByNode g.nodes 0) (sym (restarts ∙ said.restarts ∙ ap (restarts_from 0) all)) (restarts_by_node g.nodes 0 r.stations.items (omega (arith, ended_width)));
     }
 
     -- the lines are the report of the run

@@ -36,7 +36,7 @@ use Rattle.ken_core.proofs.History.{history_is_legal}
 use Rattle.ken_core.proofs.Numbers.{effects_lines, length-outputs_from}
 use Rattle.ken_flow.specs.Standstill.{HasEnded, sent_on, waits_on}
 use Rattle.ken_node.specs.Workers.{KeepsShort}
-use Rattle.ken_drive.specs.Ended.{IsRunOf, ending_of, waits_for, waits_in}
+use Rattle.ken_drive.specs.Ended.{AreRestartsByNode, IsRunOf, ending_of, waits_for, waits_in}
 use Rattle.ken_drive.proofs.EndingBounds.{IsWithin, few_steps, printable_lines, within_played, within_start}
 use Rattle.ken_drive.proofs.EndingCounts.{AreByNode-from, all-by, all-from, emissions_from, emitted_by-from, in_range-le, largest-few, printable_by, some_in_sum, sum_by-same}
 use Rattle.ken_drive.proofs.EndingPlayed.{IsTidy, printable_heap, tidy_play}
@@ -50,6 +50,7 @@ pub record Tells (g : Game) (c : Cluster) (l : Lines) : Type 0 where
   pub waiting : l.waiting ≡ waits_in g c.node
   pub ending : l.ending ≡ ending_of l.waiting
   pub restarts : AllByRecursion (λ (r : RestartLine). IsWord r.node × IsWord r.turns) l.restarts
+  pub order : AreRestartsByNode g.nodes 0 l.restarts
 
 -- ---- what is played
 
@@ -134,7 +135,7 @@ module _ (g : Game) (c : Cluster) (lines : List TurnLine) (limits : IsWithinLimi
       (cases_eq (waiting_on (net.link u v)) 0)
 
   -- and else it is cut
-  pub cut_where : HasEnded g c.node → waits_in g c.node ≢ 0 → IsCut g net
+  pub cut_where : HasEnded g c.emissions c.node → waits_in g c.node ≢ 0 → IsCut g net
   cut_where ended some =
       let receiver = some_in_sum (waits_for g c.node) (nodes_of g) (omega arith) in
       let sender = some_in_sum (λ u. waits_on g c.node u receiver.0) (outside ∷ nodes_of g) receiver.1 in
@@ -145,7 +146,7 @@ module _ (g : Game) (c : Cluster) (lines : List TurnLine) (limits : IsWithinLimi
 
 -- ---- what is told
 
-module _ (kind : Kind) (g : Game) (c : Cluster) (l : Lines) (limits : IsWithinLimits g) (keeps : KeepsShort g.nodes g.size g.handler) (of_kind : g.handler ≡ handler_of kind) (plain : IsPlainRun g) (accord : Accord g c) (ended : HasEnded g c.node) (tells : Tells g c l) where
+module _ (kind : Kind) (g : Game) (c : Cluster) (l : Lines) (limits : IsWithinLimits g) (keeps : KeepsShort g.nodes g.size g.handler) (of_kind : g.handler ≡ handler_of kind) (plain : IsPlainRun g) (accord : Accord g c) (ended : HasEnded g c.emissions c.node) (tells : Tells g c l) where
   abbrev w : Network
   w = play g (steps_of l.turns)
 
@@ -171,7 +172,7 @@ module _ (kind : Kind) (g : Game) (c : Cluster) (l : Lines) (limits : IsWithinLi
       let os = emitted_by v c.emissions in
       let outs = (w.place v).outs in
       let all : length (outs_of (c.node v).turning.turns) ≡ length outs = ap length (by.place v).outs ∙ length-outputs_from 0 outs in
-      ap (largest_of 0) (emitted_is v lt) ∙ omega (arith, all, ended.emitted v lt, (accord.made.nodes v).emitted, largest-few outs 0 os (omega arith) (by.emitted v))
+      ap (largest_of 0) (emitted_is v lt) ∙ omega (arith, all, ended.emitted v lt, largest-few outs 0 os (omega arith) (by.emitted v))
 
   legal_emissions : AreLegalEmissions g w l.emissions
   legal_emissions = record {
@@ -245,6 +246,7 @@ module _ (kind : Kind) (g : Game) (c : Cluster) (l : Lines) (limits : IsWithinLi
     lines = lines_are;
     emissions = legal_emissions;
     by_node = subst (λ es. AreByNode 0 es) (sym tells.emissions) (AreByNode-from (λ v. emitted_by v c.emissions) 0 g.nodes);
+    restarts = tells.order;
     ends = ends;
     printable = printable;
   }

@@ -57,15 +57,15 @@ module _ {X K : Type 0} (P : X → K → Type 0) (all : List X) where
       ⊎_elim (λ full. omega (arith, long, counted, few, small, full)) (λ none. omega (arith, long, counted, none)) ends
 
 -- the disks of a station's node that were released were kept without their watch
-abbrev three : {D : Type 0} → D → D → D → Disks D
-three l i s = record { log = l; image = i; second = s }
+abbrev disks_of : {D : Type 0} → D → D → D → Disks D
+disks_of l i s = record { log = l; image = i; second = s }
 
-pub was-kept : {D O U : Type 0} (s : Station D O U) (disks : Disks (Watched D)) (log image second : D) (kept : Option (Disks D × O × U)) → HasDisks disks s.node.stage → log ≡ disks.log.disk → image ≡ disks.image.disk → second ≡ disks.second.disk → kept ≡ Some (three log image second, s.luck, s.out) → WasKept s kept
+pub was-kept : {D O U : Type 0} (s : Station D O U) (disks : Disks (Watched D)) (log image second : D) (kept : Option (Disks D × O × U)) → HasDisks disks s.node.stage → log ≡ disks.log.disk → image ≡ disks.image.disk → second ≡ disks.second.disk → kept ≡ Some (disks_of log image second, s.luck, s.out) → WasKept s kept
 was-kept {D} s disks log image second kept has one two third is = record {
   disks = disks;
   has = has;
   is = is
-      ∙ ap (λ (x : D). Some (three x image second, s.luck, s.out)) one
-      ∙ ap (λ (x : D). Some (three disks.log.disk x second, s.luck, s.out)) two
-      ∙ ap (λ (x : D). Some (three disks.log.disk disks.image.disk x, s.luck, s.out)) third;
+      ∙ ap (λ (x : D). Some (disks_of x image second, s.luck, s.out)) one
+      ∙ ap (λ (x : D). Some (disks_of disks.log.disk x second, s.luck, s.out)) two
+      ∙ ap (λ (x : D). Some (disks_of disks.log.disk disks.image.disk x, s.luck, s.out)) third;
 }

@@ -23,6 +23,7 @@ pub mod AccountsRestarts
 pub mod AccountsFirst
 pub mod AccountsKnown
 pub mod EndingSums
+pub mod RestartOrder
 pub mod EndingRun
 pub mod Sums
 pub mod Within

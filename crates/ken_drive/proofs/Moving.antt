@@ -44,7 +44,7 @@ use Rattle.ken_node.specs.Stages.{emissions_in, refusals_in, turns_in}
 use Rattle.ken_node.specs.Up.{IsUp}
 use Rattle.ken_flow.specs.Groups.{group_of, with_node}
 use Rattle.ken_flow.specs.Standstill.{AreShort, Emits, Flow, Heard, MakesNoTurn, Posted, Written, open_outs}
-use Rattle.ken_drive.specs.declared.inboxes.Waiting.{Waiting}
+use Rattle.ken_drive.specs.declared.inboxes.InFlight.{InFlight}
 use Rattle.ken_drive.specs.declared.run.Run.{Run}
 use Rattle.ken_drive.specs.declared.station.Station.{Station}
 use Rattle.ken_drive.specs.Ends.{WereGiven, WerePut}
@@ -235,7 +235,7 @@ module _ {D O U : Type 0} (told : Watched D → Option Story) (size : Watched D 
           no_turn = no-turn after turns;
           sending = sending-kept after sending;
           flow = same-flow (with_node v after running.nodes) r2.waiting.mail r.waiting.mail r2.waiting.acks r.waiting.acks _ _ _ _ _ _
-              (ap (λ (x : Waiting). x.mail) waits) (ap (λ (x : Waiting). x.acks) waits)
+              (ap (λ (x : InFlight). x.mail) waits) (ap (λ (x : InFlight). x.acks) waits)
               (same-all (λ (x : Station D O U). x.mail.links) (ap (λ (x : Leaving). x.links) links.0)) (same-all (λ (x : Station D O U). x.acks.links) (ap (λ (x : Leaving). x.links) links.1)) (same-all (λ (x : Station D O U). refusals_in x.node.stage) refused);
         })
 
@@ -361,7 +361,7 @@ module _ {D O U : Type 0} (told : Watched D → Option Story) (size : Watched D 
           acked = ap (λ (x : Node). x.sending.acked) here ∙ acked;
           how = subst (λ (x : Node). (open_outs (flow_of (with_node v after running.nodes) r2) v < open_outs (flow_of running.nodes r) v) ⊎ ((open_outs (flow_of (with_node v after running.nodes) r2) v ≡ open_outs (flow_of running.nodes r) v) × (length (outs_of x.turning.turns) ≤ x.sending.emitted))) (sym here) how;
           flow = same-flow (with_node v after running.nodes) _ _ _ _ _ _ _ _ _ _
-              (ap (λ (x : Waiting). x.mail) waits) (ap (λ (x : Waiting). x.acks) waits)
+              (ap (λ (x : InFlight). x.mail) waits) (ap (λ (x : InFlight). x.acks) waits)
               (same-all (λ (x : Station D O U). x.mail.links) (ap (λ (x : Leaving). x.links) apart.0)) (same-all (λ (x : Station D O U). x.acks.links) (ap (λ (x : Leaving). x.links) apart.1))
               (one-changed refusals-of ∙ ap (λ (k : ℕ). slice_set (map refusals-of r.stations.items) v k) (sym (now-own refusals-of 0)));
         })

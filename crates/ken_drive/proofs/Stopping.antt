@@ -3,6 +3,7 @@ use Rattle.std.proofs.Common.{◌≡◌, ◌∙◌, ℕ, suc, zero, ◌+◌, ◌
 use Rattle.std.specs.Prelude.{IfErr}
 use Rattle.std.specs.List.{AllByRecursion, Contains}
 use Rattle.std.specs.Result.{IsErrAnd}
+use Rattle.std.proofs.lemmas.Bool.{cases_eq}
 use Rattle.ken_disk.specs.Fates as disk
 use Rattle.ken_disk.specs.Story.{Story}
 use Rattle.ken_model.specs.declared.messages.Out.{Out}
@@ -21,13 +22,14 @@ use Rattle.ken_drive.specs.declared.faults.RunFault.{RunFault}
 use Rattle.ken_drive.specs.declared.faults.RunFault.TheVariants.{Damaged, Down, Memory}
 use Rattle.ken_drive.specs.declared.run.Run.{Run}
 use Rattle.ken_drive.specs.declared.station.Station.{Station}
-use Rattle.ken_drive.specs.Accounts.{IsHeld, IsUsedUp, Terms, faults_of}
-use Rattle.ken_drive.specs.Driven.{DrivesBy, EndsBy, HasGoneDown, HasStoppedAt, Views}
+use Rattle.ken_drive.specs.Accounts.{AccountsRunFault, AreAccounted, IsHeld, IsUsedUp, Terms, faults_of}
+use Rattle.ken_drive.specs.Driven.{DrivesBy, EndsBy, HasStoppedAt, IsKept, ShowsDown, Views}
 use Rattle.ken_drive.specs.Finishing.{WasKept, unwatched}
 use Rattle.ken_drive.specs.Refusals.{AreRefused, HasFailedLast, IsWornOut, MayFailAt, RefusedRunFault, StopsBy}
 use Rattle.ken_drive.specs.Running.{IsRunning, IsStopped, LeavesRunFault}
 use Rattle.ken_drive.specs.Sparing.{FailsInARow, IsLetBy, LetsGoDown}
 use Rattle.ken_drive.specs.Starting.{StartsAccountsBy, StartsBy, fails_for, terms_of}
+use Rattle.ken_drive.specs.Worlds.{IsOf}
 use Rattle.ken_drive.proofs.StartingAll.{one-of}
 
 -- ---- the calls of outlets that a script lets fail
@@ -76,11 +78,11 @@ module _ {D O U : Type 0} (views : Views D O U) (falls : Watched D → Option di
   Held v s = IsHeld (λ w. views.told w.disk) (λ w. views.faults w.disk) falls views.telling (terms_of scripted script) (game_of script.facts) v s
 
   -- it is down with its restarts used up
-  pub held-gone : (v : ℕ) (s : Station D O U) (kept : Option (Disks D × O × U)) → v < script.facts.nodes → Held v s → s.restarts ≡ script.restarts → WasKept s kept → HasGoneDown views (game_of script.facts) script.restarts v kept
-  held-gone v s kept known held used was =
+  pub held-gone : (v : ℕ) (s : Station D O U) (kept : Option (Disks D × O × U)) → Held v s → s.restarts ≡ script.restarts → WasKept s kept → ShowsDown views script.restarts kept
+  held-gone v s kept held used was =
       let failed : min (s.restarts + 1) (2 ^ 64 - 1) ≤ faults_of views.faults (unwatched was.disks) = held.causes was.disks was.has in
       let few = rules.restarts in
-      record { known = known; disks = unwatched was.disks; luck = s.luck; out = s.out; is = was.is; cause = inl (omega (arith, failed, used, few)) }
+      record { disks = unwatched was.disks; luck = s.luck; out = s.out; is = was.is; cause = inl (omega (arith, failed, used, few)) }
 
   pub held-let : (v : ℕ) (s : Station D O U) (disks : Disks (Watched D)) → scripted ≡ true → Held v s → s.restarts ≡ script.restarts → HasDisks disks s.node.stage → LetsGoDown script v
   held-let v s disks tells held used has =
@@ -90,8 +92,12 @@ module _ {D O U : Type 0} (views : Views D O U) (falls : Watched D → Option di
       inl (omega (arith, most, used))
 
   -- or its outlet has failed 65 times
-  pub worn-gone : (v : ℕ) (s : Station D O U) (kept : Option (Disks D × O × U)) → v < script.facts.nodes → HasFailedLast views.refused calls 65 s.out → WasKept s kept → HasGoneDown views (game_of script.facts) script.restarts v kept
-  worn-gone v s kept known last was = record { known = known; disks = unwatched was.disks; luck = s.luck; out = s.out; is = was.is; cause = inr last.counted }
+  pub worn-gone : (s : Station D O U) (kept : Option (Disks D × O × U)) → HasFailedLast views.refused calls 65 s.out → WasKept s kept → ShowsDown views script.restarts kept
+  worn-gone s kept last was = record { disks = unwatched was.disks; luck = s.luck; out = s.out; is = was.is; cause = inr last.counted }
+
+  -- its devices were kept
+  pub is-kept : (v : ℕ) (s : Station D O U) (kept : Option (Disks D × O × U)) → IsOf views.telling s.luck v script.seed → WasKept s kept → IsKept views script.seed v kept
+  is-kept v s kept origin was = record { disks = unwatched was.disks; luck = s.luck; out = s.out; is = was.is; origin = origin }
 
   pub worn-let : (v : ℕ) (out : U) → scripted ≡ true → HasFailedLast views.refused calls 65 out → MayFailAt scripted (fails_for v script.outlets) (calls out) → LetsGoDown script v
   worn-let v out tells last may =
@@ -106,7 +112,15 @@ module _ {D O U : Type 0} (views : Views D O U) (falls : Watched D → Option di
         → StartsAccountsBy (λ w. views.told w.disk) (λ w. views.faults w.disk) falls views.telling (terms_of scripted script) (game_of script.facts) (Err fault) kept
         → DrivesBy views script kept result
     start-drives (Ok x) fault same starts accounts = absurd same
-    start-drives (Err e) (Down v) same starts accounts = subst (λ (x : RunFault). DrivesBy views script kept (Err x)) (sym same) (held-gone v accounts.station (kept v) starts.0 accounts.held accounts.none_left accounts.was)
+    start-drives (Err e) (Down v) same starts accounts = subst (λ (x : RunFault). DrivesBy views script kept (Err x)) (sym same) (record {
+      made = v + 1;
+      known = omega arith;
+      few = omega (arith, starts.0);
+      which = inr refl;
+      shows = held-gone v accounts.station (kept v) accounts.held accounts.none_left accounts.was;
+      each = λ u low. let given = starts.1 u (omega (arith, low)) in is-kept u given.station (kept u) given.own.origin given.was;
+      others = λ u high. starts.2 u (omega (arith, high));
+    })
     start-drives (Err e) Memory same starts accounts = subst (λ (x : RunFault). DrivesBy views script kept (Err x)) (sym same) starts
     start-drives (Err e) (Damaged v disk place) same starts accounts = absurd starts
 
@@ -128,12 +142,12 @@ module _ {D O U : Type 0} (views : Views D O U) (falls : Watched D → Option di
     abbrev s : Station D O U
     s = let d = one-of r.stations.items v low in slice_index_or r.stations.items v d
 
-    pub stopped-gone : (kept : Option (Disks D × O × U)) → WasKept s kept → HasGoneDown views (game_of script.facts) script.restarts v kept
+    pub stopped-gone : (kept : Option (Disks D × O × U)) → WasKept s kept → ShowsDown views script.restarts kept
     stopped-gone kept was =
         let d = one-of r.stations.items v low in
         ⊎_elim
-        (λ (used : IsUsedUp (λ w. views.told w.disk) (λ w. views.faults w.disk) falls views.telling (terms_of scripted script) (game_of script.facts) script.facts.nodes v r). held-gone v s kept stopped.known (used.held.held d) (used.none_left d) was)
-        (λ (worn : IsWornOut views.refused calls (terms_of scripted script) v r). worn-gone v s kept stopped.known (worn d) was)
+        (λ (used : IsUsedUp (λ w. views.told w.disk) (λ w. views.faults w.disk) falls views.telling (terms_of scripted script) (game_of script.facts) script.facts.nodes v r). held-gone v s kept (used.held.held d) (used.none_left d) was)
+        (λ (worn : IsWornOut views.refused calls (terms_of scripted script) v r). worn-gone s kept (worn d) was)
         stopped.cause
 
     pub stopped-let : (disks : Disks (Watched D)) → HasDisks disks s.node.stage → scripted ≡ true → LetsGoDown script v
@@ -146,10 +160,24 @@ module _ {D O U : Type 0} (views : Views D O U) (falls : Watched D → Option di
 
   -- a run that was driven and may not go on, where its devices are kept
   module _ (size : Watched D → ℕ) (r : Run D O U) (kept : ℕ → Option (Disks D × O × U)) (given : (v : ℕ) (d : Station D O U) → v < length r.stations.items → WasKept (slice_index_or r.stations.items v d) (kept v)) where
-    pub end-drives : (fault : RunFault) → (fault ≡ Memory → ⊥) → EndsBy (λ w. views.told w.disk) size (λ w. views.faults w.disk) falls views.telling views.took views.refused calls (terms_of scripted script) (game_of script.facts) (Err fault) r → DrivesBy views script kept (Err fault)
-    end-drives (Down v) not stopped = let known = low size v r stopped in stopped-gone size v r stopped (kept v) (given v (one-of r.stations.items v known) known)
-    end-drives Memory not stopped = absurd (not refl)
-    end-drives (Damaged v disk place) not stopped = absurd stopped
+    pub end-drives : ((v : ℕ) → length r.stations.items ≤ v → kept v ≡ None) → (fault : RunFault) → (fault ≡ Memory → ⊥) → EndsBy (λ w. views.told w.disk) size (λ w. views.faults w.disk) falls views.telling views.took views.refused calls (terms_of scripted script) (game_of script.facts) (Err fault) r → DrivesBy views script kept (Err fault)
+    end-drives others (Down v) not stopped =
+        let known = low size v r stopped in
+        let width = stopped.width in
+        record {
+          made = script.facts.nodes;
+          known = stopped.known;
+          few = omega arith;
+          which = inl refl;
+          shows = stopped-gone size v r stopped (kept v) (given v (one-of r.stations.items v known) known);
+          each = λ u below.
+              let there : u < length r.stations.items = omega (arith, width, below) in
+              let d = one-of r.stations.items u there in
+              is-kept u (slice_index_or r.stations.items u d) (kept u) (stopped.origins u d below) (given u d there);
+          others = λ u high. others u (omega (arith, width, high));
+        }
+    end-drives others Memory not stopped = absurd (not refl)
+    end-drives others (Damaged v disk place) not stopped = absurd stopped
 
     pub end-lets : (fault : RunFault) → scripted ≡ true → EndsBy (λ w. views.told w.disk) size (λ w. views.faults w.disk) falls views.telling views.took views.refused calls (terms_of scripted script) (game_of script.facts) (Err fault) r → IsLetBy script fault
     end-lets (Down v) tells stopped =
@@ -165,19 +193,32 @@ module _ {D O U : Type 0} (told : Watched D → Option Story) (size : Watched D 
   width-of : (v made : ℕ) → LeavesRunFault told size took (Down v) g made r → (v < made) × (length r.stations.items ≡ made)
   width-of v made leaves = ⊎_elim (λ (stopped : IsStopped told size took g made v r). (stopped.known, stopped.stands.width)) (λ (running : (v < made) × IsRunning told size took g made r). (running.0, running.1.stands.width)) leaves
 
-  stopped-at : (v made : ℕ) → made ≡ g.nodes → LeavesRunFault told size took (Down v) g made r → StopsBy {T = Unit {0}} told count falls telling refused calls terms g (Err (Down v)) made r → RefusedRunFault refused calls terms (Down v) made r → HasStoppedAt told size count falls telling took refused calls terms g v r
-  stopped-at v made all leaves stops refusals =
+  -- whose the oracles are
+  origins-of : (v made : ℕ) → AccountsRunFault told count falls telling terms g (Down v) made r → (u : ℕ) (d : Station D O U) → u < made → IsOf telling (slice_index_or r.stations.items u d).luck u terms.seed
+  origins-of v made accounts u d low =
+      ⊎_elim
+      (λ (used : IsUsedUp told count falls telling terms g made v r).
+      ⊎_elim
+      (λ (same : u ≡ v). subst (λ (k : ℕ). IsOf telling (slice_index_or r.stations.items k d).luck k terms.seed) (sym same) (used.held.held d).books.origin)
+      (λ other. (used.held.others u d low other).books.origin)
+      (cases_eq u v))
+      (λ (are : AreAccounted told count falls telling terms g made r). (are.each u d low).books.origin)
+      accounts
+
+  stopped-at : (v made : ℕ) → made ≡ g.nodes → AccountsRunFault told count falls telling terms g (Down v) made r → LeavesRunFault told size took (Down v) g made r → StopsBy {T = Unit {0}} told count falls telling refused calls terms g (Err (Down v)) made r → RefusedRunFault refused calls terms (Down v) made r → HasStoppedAt told size count falls telling took refused calls terms g v r
+  stopped-at v made all accounts leaves stops refusals =
       let at = width-of v made leaves in
       record {
         known = subst (λ (k : ℕ). v < k) all at.0;
         width = at.1 ∙ all;
         refusals = subst (λ (k : ℕ). AreRefused refused calls terms k r) all refusals.0;
+        origins = λ u d low. origins-of v made accounts u d (omega (arith, low, all));
         cause = subst (λ (k : ℕ). IsUsedUp told count falls telling terms g k v r ⊎ IsWornOut refused calls terms v r) all stops;
       }
 
-  pub end-failed : (made : ℕ) → made ≡ g.nodes → (result : Result Lines RunFault) (fault : RunFault) → IsErrAnd result (λ e. e ≡ fault) → LeavesRunFault told size took fault g made r → StopsBy {T = Unit {0}} told count falls telling refused calls terms g (Err fault) made r → RefusedRunFault refused calls terms fault made r
+  pub end-failed : (made : ℕ) → made ≡ g.nodes → (result : Result Lines RunFault) (fault : RunFault) → IsErrAnd result (λ e. e ≡ fault) → AccountsRunFault told count falls telling terms g fault made r → LeavesRunFault told size took fault g made r → StopsBy {T = Unit {0}} told count falls telling refused calls terms g (Err fault) made r → RefusedRunFault refused calls terms fault made r
       → EndsBy told size count falls telling took refused calls terms g result r
-  end-failed made all (Ok x) fault same leaves stops refusals = absurd same
-  end-failed made all (Err e) (Down v) same leaves stops refusals = subst (λ (x : RunFault). EndsBy told size count falls telling took refused calls terms g (Err x) r) (sym same) (stopped-at v made all leaves stops refusals)
-  end-failed made all (Err e) Memory same leaves stops refusals = subst (λ (x : RunFault). EndsBy told size count falls telling took refused calls terms g (Err x) r) (sym same) tt
-  end-failed made all (Err e) (Damaged v disk place) same leaves stops refusals = absurd leaves
+  end-failed made all (Ok x) fault same accounts leaves stops refusals = absurd same
+  end-failed made all (Err e) (Down v) same accounts leaves stops refusals = subst (λ (x : RunFault). EndsBy told size count falls telling took refused calls terms g (Err x) r) (sym same) (stopped-at v made all accounts leaves stops refusals)
+  end-failed made all (Err e) Memory same accounts leaves stops refusals = subst (λ (x : RunFault). EndsBy told size count falls telling took refused calls terms g (Err x) r) (sym same) tt
+  end-failed made all (Err e) (Damaged v disk place) same accounts leaves stops refusals = absurd leaves

@@ -5,8 +5,8 @@ use Rattle.ken_model.specs.declared.messages.Out.{Out}
 use Rattle.ken_model.specs.Game.{Game}
 use Rattle.ken_node.specs.declared.watched.Watched.{Watched}
 use Rattle.ken_flow.specs.Standstill.{HasEnded, Passed}
-use Rattle.ken_drive.specs.declared.drain.Came.{Came}
-use Rattle.ken_drive.specs.declared.drain.Came.TheVariants.{Ended, Worked, Nothing}
+use Rattle.ken_drive.specs.declared.drain.PassOutcome.{PassOutcome}
+use Rattle.ken_drive.specs.declared.drain.PassOutcome.TheVariants.{Ended, Progressed, Idle}
 use Rattle.ken_drive.specs.declared.faults.RunFault.{RunFault}
 use Rattle.ken_drive.specs.declared.run.Run.{Run}
 use Rattle.ken_drive.specs.Flowing.{flow_of, work_left}
@@ -23,7 +23,7 @@ module _ {D O U : Type 0} (told : Watched D → Option Story) (size : Watched D 
 
   -- it goes on, and has ended
   abbrev pub HasRun : Game → ℕ → Run D O U → Type 0
-  HasRun g made r = (now : IsRunning told size took g made r) × HasEnded g now.nodes
+  HasRun g made r = (now : IsRunning told size took g made r) × HasEnded g now.emissions now.nodes
 
   -- by the answer: the run has ended, or it may not go on
   abbrev pub DrainsBy : {T : Type 0} → Result T RunFault → Game → ℕ → Run D O U → Type 0
@@ -35,17 +35,17 @@ module _ {D O U : Type 0} (told : Watched D → Option Story) (size : Watched D 
   StaysWhole old new = (g : Game) (made : ℕ) → IsRunning told size took g made old → made ≡ g.nodes → IsRunning told size took g made new
 
   -- by the answer of passes: the run has ended, or less work is left, or as much, and the flow moved so
-  abbrev pub CameBy : (Run D O U → Run D O U → Type 0) → Result Came RunFault → Run D O U → Run D O U → Type 0
-  CameBy moved (Ok Ended) old new = (g : Game) (made : ℕ) → IsRunning told size took g made old → made ≡ g.nodes → HasRun g made new
-  CameBy moved (Ok Worked) old new = StaysWhole old new × (work_left new < work_left old)
-  CameBy moved (Ok Nothing) old new = moved old new × StaysWhole old new × (work_left new ≡ work_left old)
-  CameBy moved (Err fault) old new = (g : Game) (made : ℕ) → IsRunning told size took g made old → made ≡ g.nodes → LeavesRunFault told size took fault g made new
+  abbrev pub PassesBy : (Run D O U → Run D O U → Type 0) → Result PassOutcome RunFault → Run D O U → Run D O U → Type 0
+  PassesBy moved (Ok Ended) old new = (g : Game) (made : ℕ) → IsRunning told size took g made old → made ≡ g.nodes → HasRun g made new
+  PassesBy moved (Ok Progressed) old new = StaysWhole old new × (work_left new < work_left old)
+  PassesBy moved (Ok Idle) old new = moved old new × StaysWhole old new × (work_left new ≡ work_left old)
+  PassesBy moved (Err fault) old new = (g : Game) (made : ℕ) → IsRunning told size took g made old → made ≡ g.nodes → LeavesRunFault told size took fault g made new
 
   -- a pass that did no work, after which the run hasn't ended
   pub record Idled (g : Game) (made : ℕ) (old new : Run D O U) (was : IsRunning told size took g made old) : Type 0 where
     pub now : IsRunning told size took g made new
     pub passed : Passed g (flow_of was.nodes old) (flow_of now.nodes new)
-    pub goes_on : HasEnded g now.nodes → ⊥
+    pub goes_on : HasEnded g now.emissions now.nodes → ⊥
 
   abbrev pub PassedIdly : Run D O U → Run D O U → Type 0
   PassedIdly old new = (g : Game) (made : ℕ) (was : IsRunning told size took g made old) → made ≡ g.nodes → Idled g made old new was
@@ -56,7 +56,7 @@ LessIsOpen old new = open_left new < open_left old
 
 module _ {D O U : Type 0} (told : Watched D → Option Story) (size : Watched D → ℕ) (took : U → Option (List Out)) where
   -- passes until one makes progress or the run has ended, by the answer: the run has ended, or less work is left
-  abbrev pub CalmsBy : Result Bool RunFault → Run D O U → Run D O U → Type 0
-  CalmsBy (Ok true) old new = (g : Game) (made : ℕ) → IsRunning told size took g made old → made ≡ g.nodes → HasRun told size took g made new
-  CalmsBy (Ok false) old new = StaysWhole told size took old new × (work_left new < work_left old)
-  CalmsBy (Err fault) old new = (g : Game) (made : ℕ) → IsRunning told size took g made old → made ≡ g.nodes → LeavesRunFault told size took fault g made new
+  abbrev pub ProgressesBy : Result Bool RunFault → Run D O U → Run D O U → Type 0
+  ProgressesBy (Ok true) old new = (g : Game) (made : ℕ) → IsRunning told size took g made old → made ≡ g.nodes → HasRun told size took g made new
+  ProgressesBy (Ok false) old new = StaysWhole told size took old new × (work_left new < work_left old)
+  ProgressesBy (Err fault) old new = (g : Game) (made : ℕ) → IsRunning told size took g made old → made ≡ g.nodes → LeavesRunFault told size took fault g made new

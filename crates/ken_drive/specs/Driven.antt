@@ -1,5 +1,5 @@
 -- What a whole run leaves: what its world keeps of each node, beside the lines of its report.
-use Rattle.std.specs.Prelude.{◌≡◌, ◌⊎◌, ℕ, ◌<◌, ◌≤◌, ◌==◌, List, [], length, map, filter, slice_index_or, Option, Some, None, IfSome, Result, Ok, Err}
+use Rattle.std.specs.Prelude.{◌≡◌, ◌⊎◌, ℕ, ◌+◌, ◌<◌, ◌≤◌, ◌==◌, List, [], length, map, filter, slice_index_or, Option, Some, None, IfSome, Result, Ok, Err}
 use Rattle.std.specs.List.{flat_map}
 use Rattle.ken_disk.specs.Story.{Story}
 use Rattle.ken_model.specs.declared.messages.Out.{Out}
@@ -90,14 +90,32 @@ pub record KeepsRun {D O U : Type 0} (views : Views D O U) (g : Game) (seed most
   pub each : (v : ℕ) → v < g.nodes → KeepsNode views g seed most v schedule emissions restarts (kept v)
   pub others : (v : ℕ) → g.nodes ≤ v → kept v ≡ None
 
--- node v has gone down: calls of its disks failed more often than it may be restarted, or its outlet refused often
-pub record HasGoneDown {D O U : Type 0} (views : Views D O U) (g : Game) (most v : ℕ) (kept : Option (Disks D × O × U)) : Type 0 where
-  pub known : v < g.nodes
+-- devices of node v are kept, its own oracle among them
+pub record IsKept {D O U : Type 0} (views : Views D O U) (seed v : ℕ) (kept : Option (Disks D × O × U)) : Type 0 where
+  pub disks : Disks D
+  pub luck : O
+  pub out : U
+  pub is : kept ≡ Some (disks, luck, out)
+  pub origin : IsOf views.telling luck v seed
+
+-- what is kept of a node shows why it is down: calls of its disks failed more often than it may be restarted, or its outlet refused often
+pub record ShowsDown {D O U : Type 0} (views : Views D O U) (most : ℕ) (kept : Option (Disks D × O × U)) : Type 0 where
   pub disks : Disks D
   pub luck : O
   pub out : U
   pub is : kept ≡ Some (disks, luck, out)
   pub cause : (most < faults_of views.faults disks) ⊎ (65 ≤ views.refused out)
+
+-- node v has gone down, as its devices show. Those of each node that was made are kept, and no others: all nodes were made, or v was the
+-- last one
+pub record HasGoneDown {D O U : Type 0} (views : Views D O U) (g : Game) (seed most v : ℕ) (kept : ℕ → Option (Disks D × O × U)) : Type 0 where
+  pub made : ℕ
+  pub known : v < made
+  pub few : made ≤ g.nodes
+  pub which : (made ≡ g.nodes) ⊎ (made ≡ v + 1)
+  pub shows : ShowsDown views most (kept v)
+  pub each : (u : ℕ) → u < made → IsKept views seed u (kept u)
+  pub others : (u : ℕ) → made ≤ u → kept u ≡ None
 
 -- what a run leaves that was drained and then told what it says, by the answer: it has ended, with a report and its accounts; or a node has
 -- failed too often
@@ -111,6 +129,7 @@ module _ {D O U : Type 0} (told : Watched D → Option Story) (size : Watched D 
     pub known : v < g.nodes
     pub width : length r.stations.items ≡ g.nodes
     pub refusals : AreRefused refused calls terms g.nodes r
+    pub origins : (u : ℕ) (d : Station D O U) → u < g.nodes → IsOf telling (slice_index_or r.stations.items u d).luck u terms.seed
     pub cause : IsUsedUp told count fate telling terms g g.nodes v r ⊎ IsWornOut refused calls terms v r
 
   abbrev pub EndsBy : Result Lines RunFault → Run D O U → Type 0
@@ -120,7 +139,7 @@ module _ {D O U : Type 0} (told : Watched D → Option Story) (size : Watched D 
   EndsBy (Err (run_faults.Damaged v disk place)) r = ⊥
 
 -- what a whole run of a script leaves, by the answer: its lines are the report of a run, and the devices that are kept show it; or a node has
--- gone down, as its devices show. After want of memory nothing is kept
+-- gone down, as those that are kept show. After want of memory nothing is kept
 module _ {D O U : Type 0} (views : Views D O U) (script : Script) (kept : ℕ → Option (Disks D × O × U)) where
   pub record HasDriven (l : Lines) : Type 0 where
     pub run : IsRunOf (game_of script.facts) l
@@ -128,7 +147,7 @@ module _ {D O U : Type 0} (views : Views D O U) (script : Script) (kept : ℕ �
 
   abbrev pub DrivesBy : Result Lines RunFault → Type 0
   DrivesBy (Ok l) = HasDriven l
-  DrivesBy (Err (Down v)) = HasGoneDown views (game_of script.facts) script.restarts v (kept v)
+  DrivesBy (Err (Down v)) = HasGoneDown views (game_of script.facts) script.seed script.restarts v kept
   DrivesBy (Err run_faults.Memory) = HasKeptNothing kept
   DrivesBy (Err (run_faults.Damaged v disk place)) = ⊥
 

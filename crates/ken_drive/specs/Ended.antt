@@ -31,12 +31,18 @@ use Rattle.ken_drive.specs.declared.run.Run.{Run}
 use Rattle.ken_drive.specs.declared.station.Station.{Station}
 use Rattle.ken_drive.specs.Running.{IsRunning}
 
--- the lines are the report of a run: a legal schedule, what playing it shows, legal emissions, and its ending
+-- restart lines stand node by node, from that node on, each of a node below so many
+unfoldable pub AreRestartsByNode : ℕ → ℕ → List RestartLine → Type 0
+AreRestartsByNode nodes node [] = Unit {0}
+AreRestartsByNode nodes node (r ∷ rs) = (node ≤ r.node) × (r.node < nodes) × AreRestartsByNode nodes r.node rs
+
+-- the lines are the report of a run: a legal schedule, what playing it shows, legal emissions, restarts of its nodes, and its ending
 pub record IsRunOf (g : Game) (l : Lines) : Type 0 where
   pub legal : IsLegal g (steps_of l.turns)
   pub lines : l ≡ lines_of g (steps_of l.turns) l.emissions l.restarts l.ending
   pub emissions : AreLegalEmissions g (play g (steps_of l.turns)) l.emissions
   pub by_node : AreByNode 0 l.emissions
+  pub restarts : AreRestartsByNode g.nodes 0 l.restarts
   pub ends : Ends g (play g (steps_of l.turns)) l.emissions l.ending
   pub printable : IsPrintable l
 
@@ -89,7 +95,7 @@ module _ {D O U : Type 0} (told : Watched D → Option Story) (size : Watched D 
     pub made : ℕ
     pub running : IsRunning told size took g made r
     pub all : made ≡ g.nodes
-    pub ended : HasEnded g running.nodes
+    pub ended : HasEnded g running.emissions running.nodes
 
   -- a run of some game has ended, and tells what it says
   pub record MayTell (r : Run D O U) : Type 0 where

@@ -1,7 +1,9 @@
 // Whether a run has ended.
 ghost use Rattle.std.specs.Prelude.{◌≡◌, ◌<◌, ℕ, true, false};
 ghost use Rattle.ken_model.specs.Game.{Game};
-ghost use Rattle.ken_node.specs.Stages.{IsCreated};
+ghost use Rattle.ken_model.specs.Emissions.{emitted_by, largest_of};
+ghost use Rattle.ken_ship.specs.Last.{last_of};
+ghost use Rattle.ken_node.specs.Stages.{IsCreated, emissions_in};
 ghost use Rattle.ken_node.specs.Up.{IsUp};
 ghost use Rattle.ken_flow.specs.Standstill.{HasEnded, waits_on};
 ghost use Rattle.ken_drive.specs.Endings.{HasNoneWaiting, HasWaiting, IsDone};
@@ -20,6 +22,8 @@ impl<D: Disk, O: Oracle, U: Outlet> Run<D, O, U> {
         requires { MayWork ⟦<Watched<D> as Disk>⟧.told ⟦<Watched<D> as Disk>⟧.size U.took node self.now }
         ensures up { (g : Game) (made : ℕ) (is : IsRunning ⟦<Watched<D> as Disk>⟧.told ⟦<Watched<D> as Disk>⟧.size U.took g made self.now) → node < made → IsUp ⟦<Watched<D> as Disk>⟧.told ⟦<Watched<D> as Disk>⟧.size g node (is.nodes node) result.now.stage }
         ensures created { IsCreated result.now.stage }
+        ensures emitted { (g : Game) (made : ℕ) (is : IsRunning ⟦<Watched<D> as Disk>⟧.told ⟦<Watched<D> as Disk>⟧.size U.took g made self.now)
+            → node < made → last_of (emissions_in result.now.stage) ≡ largest_of 0 (emitted_by node is.emissions) }
     {
         &self.stations[usize::from(node)].node
     }
@@ -61,14 +65,14 @@ impl<D: Disk, O: Oracle, U: Outlet> Run<D, O, U> {
         false
     }
 
-    // Whether a node has an output to emit yet, or may have to make a turn.
+    // Whether a node has an output that was never emitted, or may have to make a turn.
     fn is_busy(&self, node: u8) -> bool
         requires { MayWork ⟦<Watched<D> as Disk>⟧.told ⟦<Watched<D> as Disk>⟧.size U.took node self.now }
-        ensures busy { result ≡ true → (g : Game) (made : ℕ) (is : IsRunning ⟦<Watched<D> as Disk>⟧.told ⟦<Watched<D> as Disk>⟧.size U.took g made self.now) → node < made → made ≡ g.nodes → IsDone g is.nodes node → ⊥ }
-        ensures done { result ≡ false → (g : Game) (made : ℕ) (is : IsRunning ⟦<Watched<D> as Disk>⟧.told ⟦<Watched<D> as Disk>⟧.size U.took g made self.now) → node < made → made ≡ g.nodes → IsDone g is.nodes node }
+        ensures busy { result ≡ true → (g : Game) (made : ℕ) (is : IsRunning ⟦<Watched<D> as Disk>⟧.told ⟦<Watched<D> as Disk>⟧.size U.took g made self.now) → node < made → made ≡ g.nodes → IsDone g is.emissions is.nodes node → ⊥ }
+        ensures done { result ≡ false → (g : Game) (made : ℕ) (is : IsRunning ⟦<Watched<D> as Disk>⟧.told ⟦<Watched<D> as Disk>⟧.size U.took g made self.now) → node < made → made ≡ g.nodes → IsDone g is.emissions is.nodes node }
     {
         let end = self.node_at(node);
-        if end.has_output_due() {
+        if end.has_unemitted() {
             return true;
         }
         if end.is_full() {
@@ -77,12 +81,12 @@ impl<D: Disk, O: Oracle, U: Outlet> Run<D, O, U> {
         self.has_waiting(node)
     }
 
-    /// Whether the run has ended: each output was emitted, and what waits is for nodes that have made all their turns. It asks each
-    /// node, and each for each other, and copies nothing.
+    /// Whether the run has ended: each output was emitted, before a restart or after it, and what waits is for nodes that have made
+    /// all their turns. It asks each node, and each for each other, and copies nothing.
     pub(crate) fn has_ended(&self) -> bool
         requires { MayGoOn ⟦<Watched<D> as Disk>⟧.told ⟦<Watched<D> as Disk>⟧.size U.took self.now }
-        ensures ended { result ≡ true → (g : Game) (made : ℕ) (is : IsRunning ⟦<Watched<D> as Disk>⟧.told ⟦<Watched<D> as Disk>⟧.size U.took g made self.now) → made ≡ g.nodes → HasEnded g is.nodes }
-        ensures goes_on { result ≡ false → (g : Game) (made : ℕ) (is : IsRunning ⟦<Watched<D> as Disk>⟧.told ⟦<Watched<D> as Disk>⟧.size U.took g made self.now) → made ≡ g.nodes → HasEnded g is.nodes → ⊥ }
+        ensures ended { result ≡ true → (g : Game) (made : ℕ) (is : IsRunning ⟦<Watched<D> as Disk>⟧.told ⟦<Watched<D> as Disk>⟧.size U.took g made self.now) → made ≡ g.nodes → HasEnded g is.emissions is.nodes }
+        ensures goes_on { result ≡ false → (g : Game) (made : ℕ) (is : IsRunning ⟦<Watched<D> as Disk>⟧.told ⟦<Watched<D> as Disk>⟧.size U.took g made self.now) → made ≡ g.nodes → HasEnded g is.emissions is.nodes → ⊥ }
     {
         for node in 0..self.nodes {
             if self.is_busy(node) {

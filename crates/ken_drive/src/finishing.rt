@@ -11,7 +11,7 @@ use ken_disk::Disk;
 use ken_store::Disks;
 
 /// Gives the devices of a node to the world.
-fn give_back<W: World>(station: Station<W::Dev, W::Luck, W::Out>, node: u8, world: &mut W)
+fn keep_station<W: World>(station: Station<W::Dev, W::Luck, W::Out>, node: u8, world: &mut W)
     requires { node < MAX_NODES }
     ensures given { WasKept station (W.kept world.new node) }
     ensures others { (v : ℕ) → v ≢ node → W.kept world.new v ≡ W.kept world.old v }
@@ -38,6 +38,6 @@ pub fn finish<W: World>(run: Run<W::Dev, W::Luck, W::Out>, world: &mut W)
     ensures others { (v : ℕ) → length run.stations.items ≤ v → W.kept world.new v ≡ W.kept world.old v }
 {
     for (node, station) in (0..).zip(run.stations) {
-        give_back(station, node, world);
+        keep_station(station, node, world);
     }
 }

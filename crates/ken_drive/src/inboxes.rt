@@ -5,9 +5,9 @@ use ken_net::{Inboxes, Links, Lossy, PlainNet};
 use std::alloc::Global;
 use std::mem;
 
-/// What waits for the nodes: mail for their handlers, and acknowledgements for their externalisers.
+/// What is on its way between the nodes: mail for their handlers, and acknowledgements for their externalisers.
 #[derive(Debug, Drop)]
-pub(crate) struct Waiting {
+pub(crate) struct InFlight {
     pub mail: Inboxes,
     pub acks: Inboxes,
 }

@@ -18,7 +18,6 @@ mod outlet;
 mod run;
 mod starting;
 mod station;
-mod timeline;
 mod world;
 
 pub use driving::drive;

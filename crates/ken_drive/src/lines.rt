@@ -11,8 +11,8 @@ ghost use Rattle.ken_drive.specs.Ended.{AddsHeap, AreWords, MayTell, HaveSaid, I
 use crate::copies;
 use crate::run::Run;
 use crate::station::Station;
-use crate::timeline::Timeline;
 use ken_app::Oracle;
+use ken_core::Timeline;
 use ken_disk::Disk;
 use ken_model::{Emission, Ending, Items, Lines, OUTSIDE, RestartLine, Value};
 use ken_node::Watched;

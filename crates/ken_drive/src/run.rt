@@ -11,7 +11,7 @@ ghost use Rattle.ken_drive.specs.Refusals.{AreRefused, RefusedBy, RefusedRunBy, 
 ghost use Rattle.ken_drive.specs.Running.{IsRunning, IsStopped, LeavesBy, LeavesRunBy, MayBeRestarted, MayGoOn, MayWork};
 
 use crate::faults::RunFault;
-use crate::inboxes::Waiting;
+use crate::inboxes::InFlight;
 use crate::station::Station;
 use ken_app::Oracle;
 use ken_apps::KindApp;
@@ -29,7 +29,7 @@ pub struct Run<D, O, U> {
     /// How often a node may be restarted.
     pub(crate) restarts: u64,
     pub(crate) stations: Vec<Station<D, O, U>>,
-    pub(crate) waiting: Waiting,
+    pub(crate) waiting: InFlight,
 }
 
 impl<D: Disk, O: Oracle, U: Outlet> Run<D, O, U> {

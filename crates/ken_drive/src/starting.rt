@@ -10,7 +10,7 @@ ghost use Rattle.ken_drive.specs.Worlds.{HasKeptNothing, IsOf};
 use crate::devices::station;
 use crate::faults::RunFault;
 use crate::finishing::finish;
-use crate::inboxes::Waiting;
+use crate::inboxes::InFlight;
 use crate::run::Run;
 use crate::station::Station;
 use crate::world::World;
@@ -37,7 +37,7 @@ impl<D: Disk + Drop, O: Oracle + Drop, U: Outlet + Drop> Run<D, O, U> {
             app: KindApp(script.facts.kind),
             restarts: script.restarts,
             stations: Vec::new(alloc),
-            waiting: Waiting {
+            waiting: InFlight {
                 mail: Inboxes::new(alloc, nodes)?,
                 acks: Inboxes::new(alloc, nodes)?,
             },

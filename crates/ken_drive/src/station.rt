@@ -21,7 +21,7 @@ ghost use Rattle.ken_drive.specs.Accounts.{AccountsStation, IsHeld, Terms};
 ghost use Rattle.ken_drive.specs.Ends.{WereGiven, WerePut};
 ghost use Rattle.ken_drive.specs.Stations.{RestartsStation};
 
-use crate::inboxes::{Waiting, end_of, give_back};
+use crate::inboxes::{InFlight, end_of, give_back};
 use ken_app::{App, Oracle};
 use ken_disk::Disk;
 use ken_net::Links;
@@ -49,7 +49,7 @@ impl<D: Disk, O: Oracle, U: Outlet> Station<D, O, U> {
         &mut self,
         alloc: Global,
         app: &A,
-        waiting: &mut Waiting,
+        waiting: &mut InFlight,
     ) -> Result<Took, NodeFault>
         requires placed { self.old.acks.from < length waiting.old.mail }
         requires to_each { length waiting.old.acks ≡ length self.old.acks.links }
@@ -71,7 +71,7 @@ impl<D: Disk, O: Oracle, U: Outlet> Station<D, O, U> {
     }
 
     /// The node sends what is due. It puts mail.
-    pub(crate) fn send(&mut self, alloc: Global, waiting: &mut Waiting) -> Result<(), AllocError>
+    pub(crate) fn send(&mut self, alloc: Global, waiting: &mut InFlight) -> Result<(), AllocError>
         requires placed { self.old.mail.from < length waiting.old.acks }
         requires to_each { length waiting.old.mail ≡ length self.old.mail.links }
         requires may { MayBeCalledOn ⟦<Watched<D> as Disk>⟧.told ⟦<Watched<D> as Disk>⟧.size self.old.mail.from (length waiting.old.mail) self.old.node.stage }
@@ -90,7 +90,7 @@ impl<D: Disk, O: Oracle, U: Outlet> Station<D, O, U> {
     }
 
     /// The node takes acknowledgements.
-    pub(crate) fn hear(&mut self, alloc: Global, waiting: &mut Waiting) -> Result<(), AllocError>
+    pub(crate) fn hear(&mut self, alloc: Global, waiting: &mut InFlight) -> Result<(), AllocError>
         requires placed { self.old.mail.from < length waiting.old.acks }
         requires to_each { length waiting.old.mail ≡ length self.old.mail.links }
         requires may { MayBeCalledOn ⟦<Watched<D> as Disk>⟧.told ⟦<Watched<D> as Disk>⟧.size self.old.mail.from (length waiting.old.mail) self.old.node.stage }

@@ -220,7 +220,7 @@ module _ (g : Game) (emissions : List Emission) (f a b c : Flow) (limits : IsWit
   last_turns : (v : ℕ) → (c.nodes v).turning.turns ≡ ts v
   last_turns v = three_calls.turns v ∙ two_calls.turns v ∙ one_calls.turns v
 
-  -- each output was emitted
+  -- no output is due
   emitted : (v : ℕ) → v < g.nodes → length (outs_of (c.nodes v).turning.turns) ≤ (c.nodes v).sending.emitted
   emitted v few =
       let cut = cut_at g v g.nodes b c s.third few in
@@ -307,9 +307,9 @@ module _ (g : Game) (emissions : List Emission) (f a b c : Flow) (limits : IsWit
       let sent : sent_on g c.nodes u v ≡ inputs_for g v = if_yes (u == outside) (inputs_for g v) (mails_to u v (c.nodes u).turning.turns) (eq-eqb u outside out) in
       omega (arith, ap length sent, ap (consumed_from u) (last_turns v), ap (λ (k : ℕ). consumed_from k (ts v)) out, no_input v to unmade)
 
-  pub has_ended : HasEnded g c.nodes
-  has_ended = record {
-    emitted = emitted;
+  pub has_ended : (emissions2 : List Emission) → Accord g (group_of g c.nodes emissions2) → HasEnded g emissions2 c.nodes
+  has_ended emissions2 accord2 = record {
+    emitted = λ v few. omega (arith, emitted v few, (accord2.made.nodes v).emitted);
     waits = λ u v from to some. ⊎_elim
         (λ (unmade : length (ts v) < g.turns). absurd (omega (arith, some, nothing_waits u v from to unmade)))
         (λ made. omega (arith, made, ap length (last_turns v)))

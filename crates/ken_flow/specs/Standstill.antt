@@ -2,6 +2,8 @@
 use Rattle.std.specs.Prelude.{◌≡◌, ◌≢◌, ℕ, ◌+◌, ◌-◌, ◌*◌, ◌^◌, ◌<◌, ◌≤◌, ◌⊎◌, ◌==◌, if◌then◌else◌, max, min, List, [], ◌∷◌, length, slice_get, slice_index, slice_index_or, slice_set, Some, None, sum_by}
 use Rattle.std.specs.List.{Contains}
 use Rattle.ken_model.specs.declared.messages.Message.{Message}
+use Rattle.ken_model.specs.declared.reports.Emission.{Emission}
+use Rattle.ken_model.specs.Emissions.{emitted_by, largest_of}
 use Rattle.ken_model.specs.Ending.{nodes_of}
 use Rattle.ken_model.specs.Game.{Game}
 use Rattle.ken_model.specs.Network.{inputs_for, outside}
@@ -213,7 +215,7 @@ sent_on g nodes u v = if u == outside then inputs_for g v else mails_to u v (nod
 abbrev pub waits_on : Game → (ℕ → Node) → ℕ → ℕ → ℕ
 waits_on g nodes u v = length (sent_on g nodes u v) - consumed_from u (nodes v).turning.turns
 
--- each output was emitted, and what waits is for nodes that have made all their turns
-pub record HasEnded (g : Game) (nodes : ℕ → Node) : Type 0 where
-  pub emitted : (v : ℕ) → v < g.nodes → length (outs_of (nodes v).turning.turns) ≤ (nodes v).sending.emitted
+-- each output was emitted once at least, whatever restarts have due again, and what waits is for nodes that have made all their turns
+pub record HasEnded (g : Game) (emissions : List Emission) (nodes : ℕ → Node) : Type 0 where
+  pub emitted : (v : ℕ) → v < g.nodes → length (outs_of (nodes v).turning.turns) ≤ largest_of 0 (emitted_by v emissions)
   pub waits : (u v : ℕ) → (u < g.nodes) ⊎ (u ≡ outside) → v < g.nodes → 0 < waits_on g nodes u v → g.turns ≤ length (nodes v).turning.turns

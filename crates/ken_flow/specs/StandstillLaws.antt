@@ -49,6 +49,8 @@ pub record Stands (g : Game) (f a b c : Flow) : Type 0 where
   pub third : Passed g b c
   pub same : open_in g f ≤ open_in g c
 
--- then the run has ended
+-- then the run has ended, by all that its nodes have emitted in accord with them
 abbrev pub StandstillEnds : Type 0
-StandstillEnds = (g : Game) (emissions : List Emission) (f a b c : Flow) → IsWithinLimits g → HasPlaces g f → AreShort f.mail → AreShort f.acks → Accord g (group_of g f.nodes emissions) → Stands g f a b c → HasEnded g c.nodes
+StandstillEnds = (g : Game) (emissions : List Emission) (f a b c : Flow) → IsWithinLimits g → HasPlaces g f → AreShort f.mail → AreShort f.acks
+    → Accord g (group_of g f.nodes emissions) → Stands g f a b c
+    → (emissions2 : List Emission) → Accord g (group_of g c.nodes emissions2) → HasEnded g emissions2 c.nodes

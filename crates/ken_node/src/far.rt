@@ -10,7 +10,8 @@ impl<D: Disk> Node<D> {
     ghost use Rattle.ken_core.specs.Nodes as core;
     ghost use Rattle.ken_core.specs.Turns.{consumed_from, mails_to, outs_of};
     ghost use Rattle.ken_order.specs.Consumed.{IsSender};
-    ghost use Rattle.ken_node.specs.Stages.{IsCreated};
+    ghost use Rattle.ken_ship.specs.Last.{last_of};
+    ghost use Rattle.ken_node.specs.Stages.{IsCreated, emissions_in};
     ghost use Rattle.ken_node.specs.Up.{IsUp};
 
     /// How many inputs it has.
@@ -47,10 +48,11 @@ impl<D: Disk> Node<D> {
         }
     }
 
-    /// Whether an output of it wasn't emitted yet.
-    pub fn has_output_due(&self) -> bool
+    /// Whether an output of it was never emitted. One that a restart has emitted again counts as emitted all the while.
+    pub fn has_unemitted(&self) -> bool
         requires { IsCreated self.now.stage }
-        ensures { (g : Game) (v : ℕ) (n : core.Node) → IsUp D.told D.size g v n self.now.stage → IsTrue result ↔ (n.sending.emitted < length (outs_of n.turning.turns)) }
+        ensures { (g : Game) (v : ℕ) (n : core.Node) → IsUp D.told D.size g v n self.now.stage
+            → IsTrue result ↔ (last_of (emissions_in self.now.stage) < length (outs_of n.turning.turns)) }
     {
         match &self.stage {
             Stage::Created(turns, _, sends) => sends.last_emitted() < turns.side.outputs(),

@@ -8,4 +8,5 @@ pub mod Numbered
 pub mod Acks
 pub mod Dues
 pub mod Emissions
+pub mod Last
 pub mod Waits

@@ -1,4 +1,5 @@
 pub mod Causes
+pub mod Last
 pub mod Fates
 pub mod Outlets
 pub mod Fits

@@ -227,14 +227,6 @@ impl Backlog {
         self.progress.emitted = number;
     }
 
-    // The number of the last output that was emitted.
-    #[tactic(auto, using(crate::proofs::Handed::with_turns_emitted))]
-    pub(crate) fn last_emitted(&self) -> u64
-        ensures { result ≡ (due_in self.now).emitted }
-    {
-        self.progress.emitted
-    }
-
     // How far messages are acknowledged and outputs emitted.
     pub(crate) fn progress(&self) -> Progress
         requires { self.now.turns.items ≡ [] }

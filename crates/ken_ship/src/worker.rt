@@ -1,4 +1,5 @@
-ghost use Rattle.std.specs.Prelude.{◌≤◌};
+ghost use Rattle.std.specs.Prelude.{◌≡◌, ◌≤◌};
+ghost use Rattle.ken_ship.specs.Last.{last_of};
 
 use crate::backlog::Backlog;
 use crate::hearing::hear_all;
@@ -20,11 +21,13 @@ pub struct SendWorker {
     nodes: u8,
     backlog: Backlog,
     emissions: Vec<Emission>,
+    last_emitted: u64,
     refusals: u8,
     sealed: PopEnd<Sealed>,
     told: PushEnd<Progress>,
     ghost few: { nodes ≤ 8 },
     ghost counted: { refusals ≤ 64 },
+    ghost last: { last_emitted ≡ last_of emissions.items },
 }
 
 impl SendWorker {
@@ -62,6 +65,7 @@ impl SendWorker {
             nodes,
             backlog: Backlog::new(alloc, node)?,
             emissions: Vec::new(alloc),
+            last_emitted: 0,
             refusals: 0,
             sealed,
             told,
@@ -91,11 +95,12 @@ impl SendWorker {
         self.emissions.as_slice()
     }
 
-    /// The number of the last output that was emitted, 0 for none. What was handed over later may be output still.
+    /// The largest number of an output that it emitted since it was made, 0 for none. A restart doesn't take it back: what is
+    /// emitted again then has a number up to it.
     pub fn last_emitted(&self) -> u64
-        ensures { result ≡ (part_of self.now).due.emitted }
+        ensures { result ≡ last_of (part_of self.now).emissions }
     {
-        self.backlog.last_emitted()
+        self.last_emitted
     }
 
     /// Takes over each turn that its ring holds, from the end of the ring at which its handler pushes: then 64 slots are known
@@ -212,6 +217,7 @@ impl SendWorker {
     }
 
     // The oldest output was emitted. There is room for one emission more.
+    #[tactic(auto, using(crate::proofs::Last::last_of_push))]
     fn emitted(&mut self, out: Out) -> Emit
         requires slot { 0 < free self.old.told }
         requires turns { self.old.backlog.turns.items ≡ [] }
@@ -227,6 +233,7 @@ impl SendWorker {
         let node = self.backlog.node;
         self.backlog.emitted(number);
         self.emissions.push_reserved(Emission { node, out });
+        self.last_emitted = self.last_emitted.max(number);
         self.refusals = 0;
         self.told.push(self.backlog.progress());
         Emit::Done(number)

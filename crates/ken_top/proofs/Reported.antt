@@ -22,7 +22,7 @@ use Rattle.ken_store.specs.declared.disks.Disks.{Disks}
 use Rattle.ken_drive.specs.declared.faults.RunFault.{RunFault}
 use Rattle.ken_drive.specs.declared.faults.RunFault.TheVariants as running
 use Rattle.ken_drive.specs.Driven.{DrivesBy, HasDriven, KeepsRun, Views}
-use Rattle.ken_drive.specs.Ended.{IsRunOf}
+use Rattle.ken_drive.specs.Ended.{AreRestartsByNode, IsRunOf}
 use Rattle.ken_drive.specs.Sparing.{IsLetBy}
 use Rattle.ken_drive.specs.Worlds.{HasKeptNothing}
 use Rattle.ken_top.specs.declared.status.Status.{Status}
@@ -37,6 +37,7 @@ record IsReportOf {D O U : Type 0} (views : Views D O U) (kept : ℕ → Option 
   legal : IsLegal (game_of script.facts) run.schedule
   emissions : AreLegalEmissions (game_of script.facts) (play (game_of script.facts) run.schedule) run.emissions
   by_node : AreByNode 0 run.emissions
+  restarts : AreRestartsByNode script.facts.nodes 0 run.restarts
   ends : Ends (game_of script.facts) (play (game_of script.facts) run.schedule) run.emissions ending
   keeps : KeepsRun views (game_of script.facts) script.seed script.restarts run.schedule run.emissions run.restarts kept
 
@@ -61,9 +62,9 @@ module _ {D O U : Type 0} (views : Views D O U) (kept : ℕ → Option (Disks D 
   report_of-run b script l says run keeps =
       let told : Spelling = record { schedule = steps_of l.turns; emissions = l.emissions; restarts = l.restarts } in
       let spelled : spell (text l) ≡ told = report_spells_its_run l run.printable in
-      let of_told : IsReportOf views kept b script l.ending (text l) told = record { text = ap text run.lines; legal = run.legal; emissions = run.emissions; by_node = run.by_node; ends = run.ends; keeps = keeps } in
+      let of_told : IsReportOf views kept b script l.ending (text l) told = record { text = ap text run.lines; legal = run.legal; emissions = run.emissions; by_node = run.by_node; restarts = run.restarts; ends = run.ends; keeps = keeps } in
       let of_text : IsReportOf views kept b script l.ending (text l) (spell (text l)) = subst (IsReportOf views kept b script l.ending (text l)) (sym spelled) of_told in
-      record { script = script; says = says; text = of_text.text; legal = of_text.legal; emissions = of_text.emissions; by_node = of_text.by_node; ends = of_text.ends; keeps = of_text.keeps }
+      record { script = script; says = says; text = of_text.text; legal = of_text.legal; emissions = of_text.emissions; by_node = of_text.by_node; restarts = of_text.restarts; ends = of_text.ends; keeps = of_text.keeps }
 
   -- the report of the run that a source says
   report_of-source : (left : Option (List ℕ)) (l : Lines) (run : IsRunOfSource views kept left l) → IsReport views kept run.read l.ending (text l)

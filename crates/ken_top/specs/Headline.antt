@@ -15,6 +15,7 @@ use Rattle.ken_script.specs.declared.scripts.Script.{Script}
 use Rattle.ken_script.specs.Says.{Says}
 use Rattle.ken_script.specs.Faults.{Breaks}
 use Rattle.ken_store.specs.declared.disks.Disks.{Disks}
+use Rattle.ken_drive.specs.Ended.{AreRestartsByNode}
 use Rattle.ken_drive.specs.Driven.{HasDriven, HasGoneDown, KeepsRun, Views}
 use Rattle.ken_drive.specs.Sparing.{IsSpared, LetsGoDown}
 use Rattle.ken_drive.specs.Worlds.{HasKeptNothing}
@@ -33,7 +34,8 @@ AreTold (Some xs) b = b ≡ xs
 
 module _ {D O U : Type 0} (views : Views D O U) (kept : ℕ → Option (Disks D × O × U)) where
   -- w is the report of a failure-free run of what b says. The run is the one that w spells: its schedule is legal, its turns, heaps and
-  -- ending are those of playing the schedule, and its emissions are legal and stand node by node; and the devices that are kept show it
+  -- ending are those of playing the schedule, its emissions are legal and stand node by node, and so do its restarts, which are of nodes of
+  -- the run; and the devices that are kept show it
   pub record IsReport (b : List ℕ) (ending : Ending) (w : List ℕ) : Type 0 where
     pub script : Script
     pub says : Says b script
@@ -41,6 +43,7 @@ module _ {D O U : Type 0} (views : Views D O U) (kept : ℕ → Option (Disks D 
     pub legal : IsLegal (game_of script.facts) (spell w).schedule
     pub emissions : AreLegalEmissions (game_of script.facts) (play (game_of script.facts) (spell w).schedule) (spell w).emissions
     pub by_node : AreByNode 0 (spell w).emissions
+    pub restarts : AreRestartsByNode script.facts.nodes 0 (spell w).restarts
     pub ends : Ends (game_of script.facts) (play (game_of script.facts) (spell w).schedule) (spell w).emissions ending
     pub keeps : KeepsRun views (game_of script.facts) script.seed script.restarts (spell w).schedule (spell w).emissions (spell w).restarts kept
 
@@ -50,11 +53,11 @@ module _ {D O U : Type 0} (views : Views D O U) (kept : ℕ → Option (Disks D 
     pub ending : Ending
     pub whole : IsReport b ending (w ++ rest)
 
-  -- node v of what b says has gone down, as its devices show
+  -- node v of what b says has gone down, as its devices show, and those of each node that was made are kept
   pub record IsDown (b : List ℕ) (v : ℕ) : Type 0 where
     pub script : Script
     pub says : Says b script
-    pub down : HasGoneDown views (game_of script.facts) script.restarts v (kept v)
+    pub down : HasGoneDown views (game_of script.facts) script.seed script.restarts v kept
 
   -- what each status says of the bytes that were read, of those that were written, and of the devices that were kept. The disks of a
   -- world keep the model of a disk, so none is ever damaged

@@ -17,7 +17,10 @@ const RING_REPORT: &str =
 const SELF_REPORT: &str =
     "turn 1 0 out 1 -\nturn 2 0 0 1 -\nemit 0 1 1\nemit 0 2 0\nheap 0 2\nend settled 2\n";
 
-const ROWS: [Row; 14] = [
+const RESTARTED_LAST: &str =
+    "turn 1 1 out 1 -\nturn 2 0 1 1 -\nemit 0 1 0\nemit 1 1 1\nrestart 1 at 1\nheap 0 1\nheap 1 1\nend settled 2\n";
+
+const ROWS: [Row; 18] = [
     // The first seal of node 0 is in doubt, and landed.
     Row {
         script: "{\"nodes\":3,\"kind\":\"ring\",\"inputs\":[[0,\"2\"]],\"cuts\":[[0,0,9,0]]}",
@@ -78,6 +81,29 @@ const ROWS: [Row; 14] = [
         status: Status::Settled,
         report: "turn 1 0 out 1 -\nturn 2 0 out 2 -\nturn 3 0 out 3 -\nturn 4 0 out 4 -\nturn 5 0 out 5 -\nemit 0 1 0\nemit 0 2 0\nemit 0 3 0\nemit 0 4 0\nemit 0 5 0\nrestart 0 at 5\nheap 0 5\nend settled 5\n",
     },
+    // Without inputs one pass is made: the sync of its image fails.
+    Row {
+        script: "{\"nodes\":1,\"kind\":\"ring\",\"inputs\":[],\"pages\":1,\"cuts\":[[0,1,3,0]]}",
+        status: Status::Settled,
+        report: "restart 0 at 0\nheap 0 0\nend settled 0\n",
+    },
+    Row {
+        script: "{\"nodes\":1,\"kind\":\"ring\",\"inputs\":[],\"pages\":1,\"restarts\":0,\"cuts\":[[0,1,3,0]]}",
+        status: Status::Down { node: 0 },
+        report: "",
+    },
+    // A node is restarted in the last pass, when its output was emitted: the run has ended then, and emits it no second time.
+    Row {
+        script: "{\"nodes\":2,\"kind\":\"ring\",\"pages\":1,\"inputs\":[[1,\"1\"]],\"cuts\":[[1,1,5,0]]}",
+        status: Status::Settled,
+        report: RESTARTED_LAST,
+    },
+    // So neither a later cut of its image counts, nor a later call of its outlet.
+    Row {
+        script: "{\"nodes\":2,\"kind\":\"ring\",\"pages\":1,\"inputs\":[[1,\"1\"]],\"restarts\":1,\"cuts\":[[1,1,5,0],[1,1,7,0]]}",
+        status: Status::Settled,
+        report: RESTARTED_LAST,
+    },
     // A node that may be restarted twice fails three times.
     Row {
         script: "{\"nodes\":1,\"kind\":\"ring\",\"inputs\":[[0,\"0\"]],\"restarts\":2,\"cuts\":[[0,0,1,1],[0,0,2,1],[0,0,3,1]]}",
@@ -124,6 +150,24 @@ fn a_refused_output_is_offered_again(rt: HostRuntime) -> Result<(), Fail> {
     let kept = ran.world.kept(0).ok_or("kept")?;
     assert_eq!(rt; kept.out.calls(), 3);
     assert_eq!(rt; kept.out.took().len(), 2);
+    Ok(())
+}
+
+// The outlet would refuse each call but the first, and is called no second time: the output counts as emitted after the restart.
+#[test]
+fn an_emitted_output_is_not_due_at_the_end(rt: HostRuntime) -> Result<(), Fail> {
+    let mut fails = String::new(rt.alloc());
+    for call in 2..=66 {
+        let comma = if call == 2 { "" } else { "," };
+        fails.push_str(&format!(in rt.alloc(); "{comma}[1,{call}]")?)?;
+    }
+    let script = format!(in rt.alloc();
+        "{{\"nodes\":2,\"kind\":\"ring\",\"pages\":1,\"inputs\":[[1,\"1\"]],\"cuts\":[[1,1,5,0]],\"outlets\":[{fails}]}}"
+    )?;
+    let ran = run_of(&rt, &script)?;
+    assert_eq!(rt; ran.ending()?, (Status::Settled, RESTARTED_LAST));
+    let kept = ran.world.kept(1).ok_or("kept")?;
+    assert_eq!(rt; kept.out.calls(), 1);
     Ok(())
 }
 

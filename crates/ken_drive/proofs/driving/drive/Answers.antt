@@ -48,7 +48,8 @@ finish-requires-in-Err-Down g c =
 
 pub returns-in-Err-Down-clause-drives : goal.returns-in-Err-Down-clause-drives
 returns-in-Err-Down-clause-drives g c =
-    end-drives (record { told = g.W.Dev.Disk.told; faults = g.W.Dev.Disk.faults; telling = g.W.Luck.Oracle.telling; took = g.W.Out.Outlet.took; refused = g.W.Out.Outlet.faults }) (λ w. g.W.Dev.Disk.fate w.disk) g.W.Out.Outlet.fate c.args.script.now g.W.World.scripted c.requires.rules (λ w. g.W.Dev.Disk.size w.disk) c.told.new.self (g.W.World.kept c.finish-in-Err-Down.new.world) c.finish-in-Err-Down.ensures.given (Down c.in-Err-Down.node) (λ is. absurd (cc)) (subst (λ x. EndsBy (λ w. g.W.Dev.Disk.told w.disk) (λ w. g.W.Dev.Disk.size w.disk) (λ w. g.W.Dev.Disk.faults w.disk) (λ w. g.W.Dev.Disk.fate w.disk) g.W.Luck.Oracle.telling g.W.Out.Outlet.took g.W.Out.Outlet.faults g.W.Out.Outlet.fate (terms_of g.W.World.scripted c.args.script.now) (game_of c.args.script.now.facts) (Err x) c.told.new.self) c.in-Err-Down.field-0-is (c.in-Err-Down.ensures (terms_of g.W.World.scripted c.args.script.now) (game_of c.args.script.now.facts) c.args.script.now.facts.nodes (running_of (λ w. g.W.Dev.Disk.told w.disk) (λ w. g.W.Dev.Disk.size w.disk) g.W.Out.Outlet.took (game_of c.args.script.now.facts) c.args.script.now.facts.nodes c.in_ok-run.run' c.in_ok-run.ensures.starts.0.started) refl c.in_ok-run.ensures.accounts c.in_ok-run.ensures.refused c.requires.rules.plain))
+    end-drives (record { told = g.W.Dev.Disk.told; faults = g.W.Dev.Disk.faults; telling = g.W.Luck.Oracle.telling; took = g.W.Out.Outlet.took; refused = g.W.Out.Outlet.faults }) (λ w. g.W.Dev.Disk.fate w.disk) g.W.Out.Outlet.fate c.args.script.now g.W.World.scripted c.requires.rules (λ w. g.W.Dev.Disk.size w.disk) c.told.new.self (g.W.World.kept c.finish-in-Err-Down.new.world) c.finish-in-Err-Down.ensures.given
+    (λ v high. c.finish-in-Err-Down.ensures.others v high ∙ c.in_ok-run.ensures.starts.1 v) (Down c.in-Err-Down.node) (λ is. absurd (cc)) (subst (λ x. EndsBy (λ w. g.W.Dev.Disk.told w.disk) (λ w. g.W.Dev.Disk.size w.disk) (λ w. g.W.Dev.Disk.faults w.disk) (λ w. g.W.Dev.Disk.fate w.disk) g.W.Luck.Oracle.telling g.W.Out.Outlet.took g.W.Out.Outlet.faults g.W.Out.Outlet.fate (terms_of g.W.World.scripted c.args.script.now) (game_of c.args.script.now.facts) (Err x) c.told.new.self) c.in-Err-Down.field-0-is (c.in-Err-Down.ensures (terms_of g.W.World.scripted c.args.script.now) (game_of c.args.script.now.facts) c.args.script.now.facts.nodes (running_of (λ w. g.W.Dev.Disk.told w.disk) (λ w. g.W.Dev.Disk.size w.disk) g.W.Out.Outlet.took (game_of c.args.script.now.facts) c.args.script.now.facts.nodes c.in_ok-run.run' c.in_ok-run.ensures.starts.0.started) refl c.in_ok-run.ensures.accounts c.in_ok-run.ensures.refused c.requires.rules.plain))
 
 pub returns-in-Err-Down-clause-lets : goal.returns-in-Err-Down-clause-lets
 returns-in-Err-Down-clause-lets g c = λ tells.

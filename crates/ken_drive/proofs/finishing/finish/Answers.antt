@@ -13,8 +13,8 @@ loop-node-init g c =
     (subst (λ n. AreGiven (λ s k. WasKept s k) c.args.run.stations.items c.args.run.stations.items n (g.W.World.kept c.args.world.now) (g.W.World.kept c.args.world.now)) (sym count)
     (none-given (λ s k. WasKept s k) c.args.run.stations.items (g.W.World.kept c.args.world.now)))
 
-pub give_back-requires : goal.give_back-requires
-give_back-requires g c =
+pub keep_station-requires : goal.keep_station-requires
+keep_station-requires g c =
     let steps = c.in-Some.ensures.steps in
     let room = room-left (λ s k. WasKept s k) c.args.run.stations.items c.in-Some.station c.next.new.self.b.rest.items c.loop-node.node-iterator.a.start 8 (g.W.World.kept c.args.world.now) (g.W.World.kept c.loop-node.world)
     (subst (λ xs. AreGiven (λ s k. WasKept s k) c.args.run.stations.items xs c.loop-node.node-iterator.a.start (g.W.World.kept c.args.world.now) (g.W.World.kept c.loop-node.world)) steps.1.0 c.loop-node.invariant) c.requires in
@@ -24,11 +24,11 @@ give_back-requires g c =
 pub loop-node-preserved : goal.loop-node-preserved
 loop-node-preserved g c =
     let steps = c.in-Some.ensures.steps in
-    subst (λ n. AreGiven (λ s k. WasKept s k) c.args.run.stations.items c.next.new.self.b.rest.items n (g.W.World.kept c.args.world.now) (g.W.World.kept c.give_back.new.world)) (sym steps.0.1)
-    (one-given (λ s k. WasKept s k) c.args.run.stations.items c.in-Some.station c.next.new.self.b.rest.items c.in-Some.node (g.W.World.kept c.args.world.now) (g.W.World.kept c.loop-node.world) (g.W.World.kept c.give_back.new.world)
+    subst (λ n. AreGiven (λ s k. WasKept s k) c.args.run.stations.items c.next.new.self.b.rest.items n (g.W.World.kept c.args.world.now) (g.W.World.kept c.keep_station.new.world)) (sym steps.0.1)
+    (one-given (λ s k. WasKept s k) c.args.run.stations.items c.in-Some.station c.next.new.self.b.rest.items c.in-Some.node (g.W.World.kept c.args.world.now) (g.W.World.kept c.loop-node.world) (g.W.World.kept c.keep_station.new.world)
     (subst (λ n. AreGiven (λ s k. WasKept s k) c.args.run.stations.items (c.in-Some.station ∷ c.next.new.self.b.rest.items) n (g.W.World.kept c.args.world.now) (g.W.World.kept c.loop-node.world)) (sym steps.0.0)
     (subst (λ xs. AreGiven (λ s k. WasKept s k) c.args.run.stations.items xs c.loop-node.node-iterator.a.start (g.W.World.kept c.args.world.now) (g.W.World.kept c.loop-node.world)) steps.1.0 c.loop-node.invariant))
-    c.give_back.ensures.given c.give_back.ensures.others)
+    c.keep_station.ensures.given c.keep_station.ensures.others)
 
 pub returns-clause-given : goal.returns-clause-given
 returns-clause-given g c = λ v d low.

@@ -18,4 +18,4 @@ returns g c = λ terms game made running all accounted are plain.
 pub returns-in_err-drain : goal.returns-in_err-drain
 returns-in_err-drain g c = λ terms game made running all accounted are plain.
     end-failed (λ w. g.D.Disk.told w.disk) (λ w. g.D.Disk.size w.disk) (λ w. g.D.Disk.faults w.disk) (λ w. g.D.Disk.fate w.disk) g.O.Oracle.telling g.U.Outlet.took g.U.Outlet.faults g.U.Outlet.fate terms game c.drain.new.self made all c.from_residual.result c.in_err-drain.field-0.0 c.from_residual.ensures.1
-    (c.in_err-drain.ensures.drains game made running all) (c.in_err-drain.ensures.stops terms game made running all accounted are) (c.in_err-drain.ensures.refused terms game made running all are)
+    (c.in_err-drain.ensures.accounts terms game made running all accounted) (c.in_err-drain.ensures.drains game made running all) (c.in_err-drain.ensures.stops terms game made running all accounted are) (c.in_err-drain.ensures.refused terms game made running all are)

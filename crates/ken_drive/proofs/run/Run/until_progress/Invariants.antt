@@ -6,7 +6,7 @@ use Rattle.std.proofs.Common.{◌≡◌, ℕ}
 use Rattle.ken_drive.specs.Draining.{StaysWhole}
 use Rattle.ken_drive.specs.Flowing.{work_left}
 use Rattle.ken_drive.specs.Open.{open_left}
-use Rattle.ken_drive.proofs.run.Run.calm.Given as goal
+use Rattle.ken_drive.proofs.run.Run.until_progress.Given as goal
 
 abbrev pub invariant-passes : goal.invariant-passes
 invariant-passes g l = record {

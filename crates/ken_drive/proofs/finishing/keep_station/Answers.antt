@@ -1,6 +1,6 @@
 -- What was released, without its watch, is kept.
 use Rattle.ken_drive.proofs.Giving.{was-kept}
-use Rattle.ken_drive.proofs.finishing.give_back.Goals as goal
+use Rattle.ken_drive.proofs.finishing.keep_station.Goals as goal
 
 pub returns-clause-given : goal.returns-clause-given
 returns-clause-given g c =

@@ -1,36 +1,36 @@
 -- One pass more.
 use Rattle.std.proofs.Common.{arith}
 use Rattle.ken_drive.specs.Draining.{PassedIdly}
-use Rattle.ken_drive.proofs.Draining.{came-failed, few-stations, may-go-on, may-still, passed-ended, passed-idly, passed-same, passed-whole}
+use Rattle.ken_drive.proofs.Draining.{outcome-failed, few-stations, may-go-on, may-still, passed-ended, passed-idly, passed-same, passed-whole}
 use Rattle.ken_drive.proofs.AccountsRestarts.{run-accounts-handed-on}
 use Rattle.ken_drive.proofs.Refusals.{run-refused-handed-on, stops-handed-on}
-use Rattle.ken_drive.proofs.run.Run.pass_on.Goals as goal
+use Rattle.ken_drive.proofs.run.Run.one_pass.Goals as goal
 
 pub pass-requires : goal.pass-requires
 pass-requires g c = may-go-on (λ w. g.D.Disk.told w.disk) (λ w. g.D.Disk.size w.disk) g.U.Outlet.took c.args.self.now c.requires.may
 
-pub returns-in_err-pass-clause-came : goal.returns-in_err-pass-clause-came
-returns-in_err-pass-clause-came g c =
-    came-failed (λ w. g.D.Disk.told w.disk) (λ w. g.D.Disk.size w.disk) g.U.Outlet.took (PassedIdly (λ w. g.D.Disk.told w.disk) (λ w. g.D.Disk.size w.disk) g.U.Outlet.took) c.args.self.now c.pass.new.self c.from_residual.result c.in_err-pass.field-0.0 c.from_residual.ensures.1 (λ game made running all. c.in_err-pass.ensures.leaves game made running)
+pub returns-in_err-pass-clause-outcome : goal.returns-in_err-pass-clause-outcome
+returns-in_err-pass-clause-outcome g c =
+    outcome-failed (λ w. g.D.Disk.told w.disk) (λ w. g.D.Disk.size w.disk) g.U.Outlet.took (PassedIdly (λ w. g.D.Disk.told w.disk) (λ w. g.D.Disk.size w.disk) g.U.Outlet.took) c.args.self.now c.pass.new.self c.from_residual.result c.in_err-pass.field-0.0 c.from_residual.ensures.1 (λ game made running all. c.in_err-pass.ensures.leaves game made running)
 
 pub has_ended-requires : goal.has_ended-requires
 has_ended-requires g c = may-go-on (λ w. g.D.Disk.told w.disk) (λ w. g.D.Disk.size w.disk) g.U.Outlet.took c.pass.new.self (may-still (λ w. g.D.Disk.told w.disk) (λ w. g.D.Disk.size w.disk) g.U.Outlet.took c.args.self.now c.pass.new.self (passed-whole (λ w. g.D.Disk.told w.disk) (λ w. g.D.Disk.size w.disk) g.U.Outlet.took c.args.self.now c.pass.new.self (λ game made running. c.in_ok-pass.ensures.leaves game made running) c.in_ok-pass.ensures.moves) c.requires.may)
 
-pub returns-then-has_ended-clause-came : goal.returns-then-has_ended-clause-came
-returns-then-has_ended-clause-came g c = passed-ended (λ w. g.D.Disk.told w.disk) (λ w. g.D.Disk.size w.disk) g.U.Outlet.took c.args.self.now c.pass.new.self (λ game made running. c.in_ok-pass.ensures.leaves game made running) c.in_ok-pass.ensures.moves (c.has_ended.ensures.ended c.if-has_ended.true)
+pub returns-then-has_ended-clause-outcome : goal.returns-then-has_ended-clause-outcome
+returns-then-has_ended-clause-outcome g c = passed-ended (λ w. g.D.Disk.told w.disk) (λ w. g.D.Disk.size w.disk) g.U.Outlet.took c.args.self.now c.pass.new.self (λ game made running. c.in_ok-pass.ensures.leaves game made running) c.in_ok-pass.ensures.moves (c.has_ended.ensures.ended c.if-has_ended.true)
 
 pub left-requires : goal.left-requires
 left-requires g c = few-stations (λ w. g.D.Disk.told w.disk) (λ w. g.D.Disk.size w.disk) g.U.Outlet.took c.pass.new.self (may-still (λ w. g.D.Disk.told w.disk) (λ w. g.D.Disk.size w.disk) g.U.Outlet.took c.args.self.now c.pass.new.self (passed-whole (λ w. g.D.Disk.told w.disk) (λ w. g.D.Disk.size w.disk) g.U.Outlet.took c.args.self.now c.pass.new.self (λ game made running. c.in_ok-pass.ensures.leaves game made running) c.in_ok-pass.ensures.moves) c.requires.may)
 
-pub returns-then-left-clause-came : goal.returns-then-left-clause-came
-returns-then-left-clause-came g c =
+pub returns-then-left-clause-outcome : goal.returns-then-left-clause-outcome
+returns-then-left-clause-outcome g c =
     let was = c.requires.left in
     let now = c.left.ensures in
     let less = c.if-left.true in
     ((passed-whole (λ w. g.D.Disk.told w.disk) (λ w. g.D.Disk.size w.disk) g.U.Outlet.took c.args.self.now c.pass.new.self (λ game made running. c.in_ok-pass.ensures.leaves game made running) c.in_ok-pass.ensures.moves), omega (arith, was, now, less))
 
-pub returns-clause-came : goal.returns-clause-came
-returns-clause-came g c =
+pub returns-clause-outcome : goal.returns-clause-outcome
+returns-clause-outcome g c =
     let was = c.requires.left in
     let now = c.left.ensures in
     let more = c.if-left.false in
