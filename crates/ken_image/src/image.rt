@@ -56,7 +56,8 @@ impl<D: Disk> Image<D> {
         ensures calls { Follows (Called (as_disk result) (Sync ∷ [])) (D.told self.old.disk) (D.told self.new.disk) }
         ensures any_moment { Follows (λ h s. Through (IsImage h.now) h s) (D.told self.old.disk) (D.told self.new.disk) }
         ensures stable { OnOk result (Follows (λ h s. IsAtRest s.now × (s.now.seen ≡ h.now.seen)) (D.told self.old.disk) (D.told self.new.disk)) }
-        ensures whole { IsWhole D.told D.size self.new }
+        ensures whole { OnOk result (IsWhole D.told D.size self.new) }
+        ensures goes_on { IsErrOf result ImageFault.Memory → IsWhole D.told D.size self.new }
         ensures count { self.new.pages ≡ self.old.pages }
         ensures cause { HasImageCause (D.faults self.old.disk) (D.faults self.new.disk) result }
         ensures fate { Follows (Suffers (as_disk result)) (D.fate self.old.disk) (D.fate self.new.disk) }

@@ -45,7 +45,7 @@ use Rattle.ken_node.specs.declared.stage.Stage.TheVariants.{Created}
 use Rattle.ken_node.specs.declared.worker.TurnWorker.{TurnWorker}
 use Rattle.ken_node.specs.Created.{owner_of}
 use Rattle.ken_node.specs.Down.{AreTold, ComesOut, Finds, HasLanded, IsDown, IsOlder, IsSound, LeavesLog, LeavesNode, MountedLog, TellsNode, a_log}
-use Rattle.ken_node.specs.DownLaws.{PatchGoesDown, WholeGoesDown}
+use Rattle.ken_node.specs.DownLaws.{PatchGoesDown, SyncGoesDown, WholeGoesDown}
 use Rattle.ken_node.specs.Meeting.{AreJoined}
 use Rattle.ken_node.specs.Patches.{waits_of}
 use Rattle.ken_node.specs.Whole.{AreOfRun, AreWorkersOf, IsWhole}
@@ -274,3 +274,9 @@ module _ {D : Type 0} (told : D → Option Story) (size : D → ℕ) where
       (subst (λ (x : Node). LeavesLogs told g v given x no_doubt (disks_apart t.side p2.side)) (sym is)
       (leaves-now told size g v n t p s w whole.pages.turning given after.patching p2.side.image.disk covers
       (λ i ti b ib. subst (λ (x : ImagePages). IsPossible x (take g.size b)) (sym fails.patching) (possible-all g (waits_of fails.queue) fails.image p2.side.image.pages i (fails.holds i ti) fails.pages b ib)) none_or_whole))
+
+  pub sync_goes_down : SyncGoesDown told size
+  sync_goes_down g v given n t p p2 s limits known whole same fails none_or_whole tell =
+      let w = whole.workers in
+      is-down told g v given n no_doubt t p2 s limits known w.of_run (joined-patcher told size g v t p p2 s w.joined same) w.turns.kept tell
+      (leaves-now told size g v n t p s w whole.pages.turning given n.patching p2.side.image.disk (covers-node told size g v n t p w.of_run.size whole.pages) fails none_or_whole)

@@ -33,7 +33,7 @@ use Rattle.ken_node.specs.Meeting.{AreEmpty, AreJoined, HaveMet}
 use Rattle.ken_node.specs.NodeCalls.{DisksFailBy, PatchStepsBy, SettleStepsBy, Steps}
 use Rattle.ken_node.specs.Patches.{IsHandedOver, IsSamePatcher, PatchesOnce, SettlesOnce, waits_of, went, no_room}
 use Rattle.ken_node.specs.WholeLaws.{LeadsTo}
-use Rattle.ken_node.proofs.GoesDown.{patch_goes_down, whole_goes_down}
+use Rattle.ken_node.proofs.GoesDown.{patch_goes_down, sync_goes_down}
 use Rattle.ken_node.proofs.MeetingDown.{meeting_stays_down}
 use Rattle.ken_node.proofs.PatchesWhole.{patch_keeps_whole, sync_keeps_whole}
 use Rattle.ken_node.proofs.Rings.{queue-moved, ring-popped, ring-pushed}
@@ -147,14 +147,14 @@ module _ {D : Type 0} (told : D → Option Story) (size count : D → ℕ) (fate
     pub settle-steps : (result : Result (Unit {0}) NodeFault) → IsFaultOfWorker result → IsSamePatcher p p1 → SettlesOnce told size count fate (store_answer result) p p1 → SettleStepsBy told size result g v n (Created t2 p2 s2)
     settle-steps (Ok x) sound still is = patcher-steps (IsSync v) (settled-told (Ok x) p p1 is) (sync_keeps_whole told size count fate g v n t p p1 s (Ok x) up.whole still is)
     settle-steps (Err Disk) sound still is =
-        let leads = sync_keeps_whole told size count fate g v n t p p1 s (Err store.Disk) up.whole still is in
+        let fails = sync_keeps_whole told size count fate g v n t p p1 s (Err store.Disk) up.whole still is in
         record {
-          after = leads.after;
-          call = leads.call;
+          after = n;
+          call = record { events = []; run = (refl, refl); which = refl };
           spelled = tt;
           down =
-              meeting_stays_down told size g v [] leads.after no_doubt t t2 p1 p2 s s2
-              (whole_goes_down told size g v [] leads.after t p1 s up.limits up.known leads.whole up.other (disks-told t p p1 (settled-told {T = Unit {0}} (Err store.Disk) p p1 is) up.tell)) same joined met;
+              meeting_stays_down told size g v [] n no_doubt t t2 p1 p2 s s2
+              (sync_goes_down told size g v [] n t p p1 s up.limits up.known up.whole still fails up.other (disks-told t p p1 (settled-told {T = Unit {0}} (Err store.Disk) p p1 is) up.tell)) same joined met;
         }
     settle-steps (Err Memory) sound still is = tt
     settle-steps (Err Outlet) sound still is = sound

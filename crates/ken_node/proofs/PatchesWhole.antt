@@ -1,11 +1,11 @@
 -- A patch and a sync of a whole node.
-use Rattle.std.proofs.Common.{◌≡◌, ℕ, ◌*◌, List, [], ◌∷◌, ◌++◌, Bool, true, false, IsTrue, Option, Result, Ok, Err, IsErrOf, refl, sym, ap, subst, ◌∙◌, arith}
+use Rattle.std.proofs.Common.{◌≡◌, ℕ, ◌*◌, List, [], ◌∷◌, ◌++◌, take, Bool, true, false, IsTrue, Option, Result, Ok, Err, IsErrOf, refl, sym, ap, subst, ◌∙◌, arith}
 use Rattle.ken_disk.specs.Fates.{Fate}
 use Rattle.ken_disk.specs.Story.{Story, Tells}
 use Rattle.ken_model.specs.Game.{Game}
 use Rattle.ken_model.specs.History.{IsPrefixOf}
 use Rattle.ken_record.specs.declared.page.Page.{Page}
-use Rattle.ken_cover.specs.Covers.{Covers, MayLeaveOut}
+use Rattle.ken_cover.specs.Covers.{Covers, IsPossible, MayLeaveOut}
 use Rattle.ken_cover.specs.Sides.{TurnPages, ImagePages, synced_pages}
 use Rattle.ken_cover.proofs.Keeps.{patch_keeps_coverage}
 use Rattle.ken_core.specs.declared.events.Event.TheVariants.{Patch, SyncImage}
@@ -22,7 +22,7 @@ use Rattle.ken_store.specs.Patching.{HoldsImage, Patched, Patching, settled_turn
 use Rattle.ken_store.specs.Turning.{turn_pages}
 use Rattle.ken_store.proofs.AheadLaws.{patch_keeps_settled, sync_keeps_settled}
 use Rattle.ken_store.proofs.ApartLaws.{patch_keeps_apart, room_keeps_apart, sync_keeps_apart, told_is_sealed, told_is_settled}
-use Rattle.ken_store.proofs.ApartPages.{hand_all-patched}
+use Rattle.ken_store.proofs.ApartPages.{hand_all-patched, hand_all-possible}
 use Rattle.ken_ship.specs.declared.worker.SendWorker.{SendWorker}
 use Rattle.ken_ship.proofs.Emissions.{others_keep_due}
 use Rattle.ken_node.specs.declared.items.Frozen.{Frozen}
@@ -245,8 +245,15 @@ module _ {D : Type 0} (told : D → Option Story) (size : D → ℕ) (g : Game) 
   synced-once : (count : D → ℕ) (fate : D → Option Fate) (n : Node) (t : TurnWorker D) (p p2 : PatchWorker D) (s : SendWorker) (result : Result (Unit {0}) StoreFault) → IsWhole told size g v n t p s → IsSamePatcher p p2 → SettlesOnce told size count fate result p p2
       → SyncedBy told size result g v n t p2 s
   synced-once count fate n t p p2 s (Ok x) whole same is = synced n t p p2 s whole same is.pages is.stands is.count_is is.known is.tells
-  synced-once count fate n t p p2 s (Err fault) whole same is =
+  synced-once count fate n t p p2 s (Err Memory) whole same is =
       none-patched count fate n t p p2 s whole same is.untold (pages-kept n t p p2 whole.pages (ap popped is.pages) (is.stands whole.pages.image whole.pages.apart.patches) is.count_is is.known)
+  synced-once count fate n t p p2 s (Err Disk) whole same is = λ h th b left.
+      let pages = whole.pages in
+      let sized : 256 * p2.side.image.pages ≡ g.size = ap (λ (k : ℕ). 256 * k) (is.count_is ∙ pages.apart.count) ∙ whole.workers.of_run.size in
+      let holds = is.stands pages.image pages.apart.patches h th in
+      subst (λ (x : ImagePages). IsPossible x (take g.size b)) (sym pages.patching)
+      (hand_all-possible (waits_of pages.queue) pages.image (take g.size b) (subst (λ (k : ℕ). IsPossible pages.image (take k b)) sized (holds.left b left)))
+  synced-once count fate n t p p2 s (Err (Damaged disk place)) whole same is = is.stands whole.pages.image whole.pages.apart.patches
 
 module _ {D : Type 0} (told : D → Option Story) (size count : D → ℕ) (fate : D → Option Fate) where
   pub patch_keeps_whole : PatchKeepsWhole told size count fate

@@ -1,12 +1,12 @@
 -- What the calls of a node's workers are as events of the node, and that the workers stand for it after each.
-use Rattle.std.specs.Prelude.{◌≡◌, ℕ, ◌+◌, ◌*◌, ◌≤◌, List, [], ◌∷◌, ◌++◌, length, Option, Bool, true, false, Result, Ok, Err, OnOk}
+use Rattle.std.specs.Prelude.{◌≡◌, ℕ, ◌+◌, ◌*◌, ◌≤◌, List, [], ◌∷◌, ◌++◌, length, take, Option, Bool, true, false, Result, Ok, Err, OnOk}
 use Rattle.std.specs.List.{AllByRecursion}
 use Rattle.std.specs.declared.alloc.AllocError.{AllocError}
 use Rattle.ken_disk.specs.Fates.{Fate}
-use Rattle.ken_disk.specs.Story.{Story, Tells}
+use Rattle.ken_disk.specs.Story.{Story, IsImage, Tells}
 use Rattle.ken_model.specs.declared.messages.Out.{Out}
 use Rattle.ken_model.specs.Game.{Game}
-use Rattle.ken_cover.specs.Covers.{Covers}
+use Rattle.ken_cover.specs.Covers.{Covers, IsPossible}
 use Rattle.ken_cover.specs.Sides.{ImagePages}
 use Rattle.ken_core.specs.declared.events.Event.{Event}
 use Rattle.ken_core.specs.Nodes.{Node, heap_pages}
@@ -78,10 +78,16 @@ module _ {D : Type 0} (told : D → Option Story) (size : D → ℕ) where
   PatchedBy (Err Disk) g v n t p s = FailsToPatch g v n t p
   PatchedBy (Err (Damaged disk place)) g v n t p s = ⊥
 
+  -- a sync of the image failed: a crash leaves what is possible of the node's image as it was
+  abbrev pub FailsToSync : Game → Node → PatchWorker D → Type 0
+  FailsToSync g n p = Tells (told p.side.image.disk) (λ h. (b : List ℕ) → IsImage h.now b → IsPossible n.patching (take g.size b))
+
   -- by the answer of a sync: one that failed is no event
   abbrev pub SyncedBy : Result (Unit {0}) StoreFault → Game → ℕ → Node → TurnWorker D → PatchWorker D → SendWorker → Type 0
   SyncedBy (Ok x) g v n t p s = LeadsTo g v [] (IsSync v) n nothing t p s
-  SyncedBy (Err fault) g v n t p s = LeadsTo g v [] IsNone n nothing t p s
+  SyncedBy (Err Memory) g v n t p s = LeadsTo g v [] IsNone n nothing t p s
+  SyncedBy (Err Disk) g v n t p s = FailsToSync g n p
+  SyncedBy (Err (Damaged disk place)) g v n t p s = ⊥
 
   module _ (count : D → ℕ) (fate : D → Option Fate) where
     abbrev pub PatchKeepsWhole : Type 0

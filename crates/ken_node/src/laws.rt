@@ -1,5 +1,5 @@
 // What the calls of a node's workers are as events of the node. Each law is the contract of a function that does nothing.
-ghost use Rattle.ken_node.specs.DownLaws.{CreationGoesDown, MeetingStaysDown, NewOtherIsNone, OtherStays, PatchGoesDown, SealGoesDown, TurnGoesDown, TurnoverGoesDown, WholeGoesDown};
+ghost use Rattle.ken_node.specs.DownLaws.{CreationGoesDown, MeetingStaysDown, NewOtherIsNone, OtherStays, PatchGoesDown, SealGoesDown, SyncGoesDown, TurnGoesDown, TurnoverGoesDown, WholeGoesDown};
 ghost use Rattle.ken_node.specs.KindLaws.{KindsKeepShort};
 ghost use Rattle.ken_node.specs.NewLaws.{NewAreWhole};
 ghost use Rattle.ken_node.specs.Synced.{UpHasSynced};
@@ -65,6 +65,11 @@ pub fn a_whole_node_goes_down<D: Disk>()
 /// So may one whose write of the image failed: the page counts as written.
 pub fn a_failed_patch_goes_down<D: Disk>()
     ensures { PatchGoesDown D.told D.size }
+{}
+
+/// So may one whose sync of the image failed: it is as it was.
+pub fn a_failed_sync_goes_down<D: Disk>()
+    ensures { SyncGoesDown D.told D.size }
 {}
 
 /// So may one whose creation failed.

@@ -7,15 +7,19 @@ use Rattle.ken_disk.proofs.Images.{image_at_rest}
 use Rattle.ken_disk.proofs.Since.{weaker}
 use Rattle.ken_disk.proofs.Told.{some_is, tells_after}
 use Rattle.ken_pages.specs.Paged.{page_of}
-use Rattle.ken_cover.specs.Sides.{ImagePages, synced_pages}
+use Rattle.ken_cover.specs.Sides.{ImagePages, pages_of, synced_pages}
 use Rattle.ken_cover.specs.Covers.{IsPossible}
 use Rattle.ken_image.specs.Calls.{Call, Sync, Called, Stop, after_calls, after_failure}
 use Rattle.ken_image.specs.declared.faults.ImageFault.{ImageFault}
 use Rattle.ken_image.specs.declared.faults.ImageFault.TheVariants as image
+use Rattle.ken_image.specs.declared.image.Image.{Image}
+use Rattle.ken_image.specs.Whole.{IsWhole}
 use Rattle.ken_image.specs.Faults.{as_disk}
 use Rattle.ken_store.specs.declared.patching.PatchSide.{PatchSide}
 use Rattle.ken_store.specs.Ahead.{ahead_layers}
-use Rattle.ken_store.specs.Patching.{HoldsImage, TakesPatches, Patching}
+use Rattle.ken_store.specs.Patching.{Holds, HoldsImage, TakesPatches, Patching, SettlesBy}
+use Rattle.ken_store.specs.Reads.{of_image}
+use Rattle.ken_cover.specs.Overlay.{AreWithin}
 
 -- both follow
 pub both : {X : Type 0} → (R S : X → X → Type 0) (old new : Option X) → Follows R old new → Follows S old new → Follows (λ x y. R x y × S x y) old new
@@ -87,3 +91,21 @@ module _ {D : Type 0} (told : D → Option Story) (size : D → ℕ) (old new : 
     holds = subst (λ (n : ℕ). Tells (told new.image.disk) (λ h. HoldsImage n j h.now)) (sym count)
         (tells_after R (λ h. HoldsImage old.image.pages j h.now) (told old.image.disk) (told new.image.disk) follows (λ h s is r. so h s (p.holds h is) r));
   }
+
+-- a sync that didn't come through
+module _ {D : Type 0} (told : D → Option Story) (size : D → ℕ) (old : PatchSide D) (i : ImagePages) (p : Patching told size old i) (im : Image D) (count : im.pages ≡ old.image.pages) where
+  abbrev side : PatchSide D
+  side = record old { image = im }
+
+  takes_still : IsWhole told size im → TakesPatches told size side
+  takes_still whole = record { image = whole; order = p.takes.order; within = subst (λ (n : ℕ). AreWithin n (pages_of (ahead_layers old.ahead.items))) (sym count) p.takes.within }
+
+  pub synced_err : (T U : Type 0) (e : ImageFault) → (e ≡ image.Memory → IsWhole told size im) → Follows (Called {T = T} (as_disk (Err e)) (Sync ∷ [])) (told old.image.disk) (told im.disk)
+      → SettlesBy {T = U} (Err (of_image e)) (Patching told size side) (Holds told side) i
+  synced_err T U image.Disk whole calls =
+      subst (λ (n : ℕ). Tells (told im.disk) (λ h. HoldsImage n i h.now)) (sym count)
+      (tells_after (Called {T = T} (Err Failed) (Sync ∷ [])) (λ h. HoldsImage old.image.pages i h.now) (told old.image.disk) (told im.disk) calls
+      (λ h s was called. subst (λ (x : Story). HoldsImage old.image.pages i x.now) (sym (sync_failed T image.Disk h s called)) (p.holds h was)))
+  synced_err T U image.Memory whole calls =
+      stands_after told size old side i p (takes_still (whole refl)) count i (Called {T = T} (Err Memory) (Sync ∷ [])) calls p.ahead
+      (λ h s holds called. subst (λ (x : Story). HoldsImage old.image.pages i x.now) (sym (sync_failed T image.Memory h s called)) holds)

@@ -13,7 +13,7 @@ use Rattle.ken_store.specs.Answers.{disks_in}
 use Rattle.ken_store.specs.Apart.{Apart, disks_apart}
 use Rattle.ken_store.specs.declared.faults.StoreFault.{StoreFault}
 use Rattle.ken_store.specs.declared.faults.StoreFault.TheVariants as faults
-use Rattle.ken_store.specs.Patching.{MayBePatched, Patched, Patching, PatchesBy, Settles}
+use Rattle.ken_store.specs.Patching.{MayBePatched, Patched, Patching, PatchesBy, SettlesBy}
 use Rattle.ken_store.specs.PatchLaws.{IsAheadOf}
 use Rattle.ken_store.specs.Recovered.{Recovery, Whole}
 use Rattle.ken_store.specs.Standing.{RecoversMeanwhile, Standing, is_one}
@@ -102,7 +102,9 @@ patches_by told size old new i holds (Err faults.Memory) stands turns count know
 patches_by told size old new i holds (Err (faults.Damaged disk place)) stands turns count known by = by
 
 -- and of a sync
-pub settles_by : {D T : Type 0} (told : D → Option Story) (size : D → ℕ) (old new : Store D) (i : ImagePages) (result : Result T StoreFault) → Standing told size old i → new.turns ≡ old.turns
-    → new.patches.image.pages ≡ old.patches.image.pages → new.patches.known ≡ old.patches.known → Settles result (Patching told size new.patches) i → Settles result (Standing told size new) i
-settles_by told size old new i (Ok x) stands turns count known by = stands_synced told size old new i stands turns by count known
-settles_by told size old new i (Err fault) stands turns count known by = stands_still told size old new i stands turns by count known
+pub settles_by : {D T : Type 0} (told : D → Option Story) (size : D → ℕ) (old new : Store D) (i : ImagePages) (holds : ImagePages → Type 0) (result : Result T StoreFault) → Standing told size old i → new.turns ≡ old.turns
+    → new.patches.image.pages ≡ old.patches.image.pages → new.patches.known ≡ old.patches.known → SettlesBy result (Patching told size new.patches) holds i → SettlesBy result (Standing told size new) holds i
+settles_by told size old new i holds (Ok x) stands turns count known by = stands_synced told size old new i stands turns by count known
+settles_by told size old new i holds (Err faults.Disk) stands turns count known by = by
+settles_by told size old new i holds (Err faults.Memory) stands turns count known by = stands_still told size old new i stands turns by count known
+settles_by told size old new i holds (Err (faults.Damaged disk place)) stands turns count known by = by

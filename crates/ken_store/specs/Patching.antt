@@ -30,6 +30,10 @@ pub record HoldsImage (n : ℕ) (i : ImagePages) (s : DiskState) : Type 0 where
   pub seen : take (256 * n) s.seen ≡ i.image
   pub left : (image : List ℕ) → IsImage s image → IsPossible i (take (256 * n) image)
 
+-- the disk of a side does
+abbrev pub Holds : {D : Type 0} → (D → Option Story) → PatchSide D → ImagePages → Type 0
+Holds told side i = Tells (told side.image.disk) (λ h. HoldsImage side.image.pages i h.now)
+
 -- turns rise from a least one on, and none is past the last one
 abbrev pub RiseWithin : ℕ → ℕ → List Ahead → Type 0
 RiseWithin least last [] = Unit {0}
@@ -51,7 +55,7 @@ pub record TakesPatches {D : Type 0} (told : D → Option Story) (size : D → �
 pub record Patching {D : Type 0} (told : D → Option Story) (size : D → ℕ) (side : PatchSide D) (i : ImagePages) : Type 0 where
   pub takes : TakesPatches told size side
   pub ahead : ahead_layers side.ahead.items ≡ i.ahead
-  pub holds : Tells (told side.image.disk) (λ h. HoldsImage side.image.pages i h.now)
+  pub holds : Holds told side i
 
 -- the next page of the oldest record to patch was written
 pub record Patched (i i2 : ImagePages) : Type 0 where
@@ -112,10 +116,13 @@ abbrev pub origin_before : Origin → ℕ → ℕ
 origin_before Base turn = 0
 origin_before Record turn = turn - 1
 
--- by the answer of a sync: Ok makes all that was written safe
-abbrev pub Settles : {T : Type 0} → Result T StoreFault → (ImagePages → Type 0) → ImagePages → Type 0
-Settles (Ok x) stands i = stands (synced_pages i)
-Settles (Err fault) stands i = stands i
+-- by the answer of a sync: Ok makes all that was written safe. One that failed made nothing safe, and then the side takes no more
+-- calls
+abbrev pub SettlesBy : {T : Type 0} → Result T StoreFault → (ImagePages → Type 0) → (ImagePages → Type 0) → ImagePages → Type 0
+SettlesBy (Ok x) stands holds i = stands (synced_pages i)
+SettlesBy (Err faults.Disk) stands holds i = holds i
+SettlesBy (Err faults.Memory) stands holds i = stands i
+SettlesBy (Err (faults.Damaged disk place)) stands holds i = ⊥
 
 -- the turn that is told as settled: the last one before what is to patch, and none where that is a base
 abbrev pub settled_before : Ahead → ℕ

@@ -15,7 +15,7 @@ ghost use Rattle.ken_image.specs.Calls.{Sync, Called};
 ghost use Rattle.ken_store.specs.Answers.{disks_in};
 ghost use Rattle.ken_store.specs.Lending.{LendsStoreHeap};
 ghost use Rattle.ken_store.specs.Numbers.{follows};
-ghost use Rattle.ken_store.specs.Patching.{HoldsImage, IsFaultOfCall, PatchesBy, PatchSuffers, Settles, disk_answer, patch_calls, settled_turn};
+ghost use Rattle.ken_store.specs.Patching.{Holds, IsFaultOfCall, PatchesBy, PatchSuffers, SettlesBy, disk_answer, patch_calls, settled_turn};
 ghost use Rattle.ken_store.specs.Recovered.{Whole};
 ghost use Rattle.ken_store.specs.Standing.{IsNoneOrWhole, RecoversMeanwhile, Standing, StandsSealed, TakesCalls, is_either, is_one, sealed_recovery};
 ghost use Rattle.ken_store.specs.Turnovers.{BeginsWith, IsTurned, IsUnturned, ReplacesOn, base_of, kept_disk, replaced_disk, without_told};
@@ -132,7 +132,7 @@ impl<D: Disk> Store<D> {
     /// counts as written, and the store is to be released. After `Memory` nothing has changed.
     pub fn patch_next(&mut self) -> Result<bool, StoreFault>
         requires { TakesCalls D.told D.size self.old }
-        ensures stands { (i : ImagePages) → Standing D.told D.size self.old i → PatchesBy result (Standing D.told D.size self.new) (λ i2. Tells (D.told self.new.patches.image.disk) (λ h. HoldsImage self.new.patches.image.pages i2 h.now)) i }
+        ensures stands { (i : ImagePages) → Standing D.told D.size self.old i → PatchesBy result (Standing D.told D.size self.new) (Holds D.told self.new.patches) i }
         ensures recovers { (i : ImagePages) (v : Value) → Standing D.told D.size self.old i → read_value (turn_pages self.old.turns).heap ≡ Some v → RecoversMeanwhile D.told self.old.turns.owner (disks_in self.old) (disks_in self.new) (is_one (Whole (state_in self.old.turns) v)) }
         ensures turns { self.new.turns ≡ self.old.turns }
         ensures more { IfOk result (λ more. IsTrue more ↔ (self.old.patches.ahead.items ≢ [])) }
@@ -154,10 +154,11 @@ impl<D: Disk> Store<D> {
         requires { TakesCalls D.told D.size self.old }
         ensures told { IfOk result (λ turn. turn ≡ settled_turn self.old.patches.known self.old.patches.ahead.items) }
         ensures clean { (i : ImagePages) → Standing D.told D.size self.old i → IfOk result (λ turn. MayLeaveOut turn (turn_pages self.new.turns) (synced_pages i)) }
-        ensures stands { (i : ImagePages) → Standing D.told D.size self.old i → Settles result (Standing D.told D.size self.new) i }
+        ensures stands { (i : ImagePages) → Standing D.told D.size self.old i → SettlesBy result (Standing D.told D.size self.new) (Holds D.told self.new.patches) i }
         ensures recovers { (i : ImagePages) (v : Value) → Standing D.told D.size self.old i → read_value (turn_pages self.old.turns).heap ≡ Some v → RecoversMeanwhile D.told self.old.turns.owner (disks_in self.old) (disks_in self.new) (is_one (Whole (state_in self.old.turns) v)) }
         ensures turns { self.new.turns ≡ self.old.turns }
-        ensures takes { TakesCalls D.told D.size self.new }
+        ensures takes { OnOk result (TakesCalls D.told D.size self.new) }
+        ensures goes_on { IsErrOf result StoreFault.Memory → TakesCalls D.told D.size self.new }
         ensures calls { Follows (Called (disk_answer result) (Sync ∷ [])) (D.told self.old.patches.image.disk) (D.told self.new.patches.image.disk) }
         ensures sound { IfErr result IsFaultOfCall }
         ensures cause { HasCause (D.faults self.old.patches.image.disk) (D.faults self.new.patches.image.disk) (disk_answer result) }

@@ -4,7 +4,7 @@ ghost use Rattle.std.specs.VecDeque.{deque_len, deque_capacity};
 ghost use Rattle.ken_disk.specs.Causes.{HasCause};
 ghost use Rattle.ken_disk.specs.Fates.{Suffers};
 ghost use Rattle.ken_disk.specs.Moments.{Through};
-ghost use Rattle.ken_disk.specs.Story.{Tells, Follows};
+ghost use Rattle.ken_disk.specs.Story.{Follows};
 ghost use Rattle.ken_record.specs.Grammar.{rise_from, page_rank};
 ghost use Rattle.ken_cover.specs.Covers.{IsPossible, MayLeaveOut};
 ghost use Rattle.ken_cover.specs.Overlay.{AreWithin};
@@ -16,7 +16,7 @@ ghost use Rattle.ken_image.specs.Whole.{IsWhole};
 ghost use Rattle.ken_store.specs.declared.patching.Origin.TheVariants.{Record};
 ghost use Rattle.ken_store.specs.Ahead.{frame_pages};
 ghost use Rattle.ken_store.specs.PatchLaws.{IsAheadOf};
-ghost use Rattle.ken_store.specs.Patching.{HoldsImage, TakesPatches, Patching, PatchesBy, PatchSuffers, MayBePatched, Settles, IsInOrder, IsFaultOfCall, Grows, GoesOn, GoesOnBy, first_number, page_calls, patch_calls, disk_answer, settled_turn, settled_before};
+ghost use Rattle.ken_store.specs.Patching.{Holds, TakesPatches, Patching, PatchesBy, PatchSuffers, MayBePatched, SettlesBy, IsInOrder, IsFaultOfCall, Grows, GoesOn, GoesOnBy, first_number, page_calls, patch_calls, disk_answer, settled_turn, settled_before};
 
 use crate::StoreFault;
 use ken_disk::Disk;
@@ -98,11 +98,12 @@ impl<D: Disk> PatchSide<D> {
     pub fn settle(&mut self) -> Result<u64, StoreFault>
         requires { TakesPatches D.told D.size self.old }
         ensures told { IfOk result (λ turn. turn ≡ settled_turn self.old.known self.old.ahead.items) }
-        ensures stands { (i : ImagePages) → Patching D.told D.size self.old i → Settles result (Patching D.told D.size self.new) i }
+        ensures stands { (i : ImagePages) → Patching D.told D.size self.old i → SettlesBy result (Patching D.told D.size self.new) (Holds D.told self.new) i }
         ensures clean { (i : ImagePages) (t : TurnPages) → Patching D.told D.size self.old i → IsAheadOf t i → IfOk result (λ turn. MayLeaveOut turn t (synced_pages i)) }
         ensures any_moment { (i : ImagePages) → Patching D.told D.size self.old i → Follows (λ h s. Through (λ image. IsPossible i (take (256 * self.old.image.pages) image)) h s) (D.told self.old.image.disk) (D.told self.new.image.disk) }
         ensures calls { Follows (Called (disk_answer result) (Sync ∷ [])) (D.told self.old.image.disk) (D.told self.new.image.disk) }
-        ensures takes { TakesPatches D.told D.size self.new }
+        ensures takes { OnOk result (TakesPatches D.told D.size self.new) }
+        ensures goes_on { IsErrOf result StoreFault.Memory → TakesPatches D.told D.size self.new }
         ensures ahead { self.new.ahead ≡ self.old.ahead }
         ensures known { self.new.known ≡ self.old.known }
         ensures count { self.new.image.pages ≡ self.old.image.pages }
@@ -119,7 +120,7 @@ impl<D: Disk> PatchSide<D> {
     /// changed.
     pub fn patch_next(&mut self) -> Result<bool, StoreFault>
         requires { TakesPatches D.told D.size self.old }
-        ensures stands { (i : ImagePages) → Patching D.told D.size self.old i → PatchesBy result (Patching D.told D.size self.new) (λ i2. Tells (D.told self.new.image.disk) (λ h. HoldsImage self.new.image.pages i2 h.now)) i }
+        ensures stands { (i : ImagePages) → Patching D.told D.size self.old i → PatchesBy result (Patching D.told D.size self.new) (Holds D.told self.new) i }
         ensures any_moment { (i : ImagePages) → Patching D.told D.size self.old i → Follows (λ h s. Through (λ image. MayBePatched i (take (256 * self.old.image.pages) image)) h s) (D.told self.old.image.disk) (D.told self.new.image.disk) }
         ensures calls { Follows (Called (disk_answer result) (patch_calls self.old.ahead.items)) (D.told self.old.image.disk) (D.told self.new.image.disk) }
         ensures more { IfOk result (λ more. IsTrue more ↔ (self.old.ahead.items ≢ [])) }
