@@ -1,11 +1,12 @@
 -- A store is created.
-use Rattle.std.proofs.Common.{◌≡◌, ℕ, zero, suc, ◌+◌, ◌-◌, ◌*◌, ◌≤◌, inl, inr, ⊎_elim, List, [], ◌++◌, length, take, drop, replicate, Bool, true, false, ◌==◌, refl, sym, ap, subst, ◌∙◌, arith, eq-eqb, Option, Some, None, Result, Ok, Err}
+use Rattle.std.proofs.Common.{◌≡◌, ℕ, zero, suc, ◌+◌, ◌-◌, ◌*◌, ◌≤◌, inl, inr, ⊎_elim, List, [], ◌∷◌, ◌++◌, map, length, take, drop, replicate, Bool, true, false, ◌==◌, refl, sym, ap, subst, ◌∙◌, arith, eq-eqb, Option, Some, None, Result, Ok, Err}
 use Rattle.std.specs.Prelude.{if◌then◌else◌, OnOk, IsErrOf, IsSome}
 use Rattle.std.specs.List.{flat_map, range_with_len}
 use Rattle.std.proofs.Math.Seq.{drop-append-add}
 use Rattle.std.proofs.lemmas.Bool.{ne_eqb}
 use Rattle.std.proofs.lemmas.List.{replicate-append-replicate, drop-replicate, take-append-drop}
 use Rattle.std.proofs.lemmas.List.Concat.{flat_map-cons}
+use Rattle.ken_disk.specs.declared.faults.DiskFault.TheVariants as disk
 use Rattle.ken_disk.specs.Story.{DiskState, Story, Follows, IsImage, IsAtRest, Leaves}
 use Rattle.ken_disk.proofs.Images.{image_at_rest}
 use Rattle.ken_disk.proofs.Since.{leaves_now, stays}
@@ -20,7 +21,11 @@ use Rattle.ken_log.specs.Formats.{MountsAsAny, Replaces}
 use Rattle.ken_log.specs.Mounts.{mount_of}
 use Rattle.ken_log.specs.Mounts as mounts
 use Rattle.ken_log.specs.Seals.{HasLogCause, MountsAs, MountsAsEither, as_disk}
-use Rattle.ken_image.specs.Pages.{first_page, first_image}
+use Rattle.ken_image.specs.Calls.{Call, Called, Stop, Sync}
+use Rattle.ken_image.specs.declared.faults.ImageFault.{ImageFault}
+use Rattle.ken_image.specs.declared.faults.ImageFault.TheVariants as image_faults
+use Rattle.ken_image.specs.Faults as images
+use Rattle.ken_image.specs.Pages.{first_page, first_image, page_write}
 use Rattle.ken_image.specs.Whole.{Keeps}
 use Rattle.ken_store.specs.declared.owner.Owner.{Owner}
 use Rattle.ken_store.specs.declared.faults.StoreFault.{StoreFault}
@@ -30,10 +35,11 @@ use Rattle.ken_store.specs.declared.heads.Front.TheVariants.{Absent, Begins}
 use Rattle.ken_store.specs.declared.disks.Which.TheVariants.{First}
 use Rattle.ken_store.specs.Logs.{front_of, logs_of, is_owned}
 use Rattle.ken_store.specs.Numbers.{no_numbers}
-use Rattle.ken_store.specs.Reads.{of_seal}
+use Rattle.ken_store.specs.Patching.{disk_answer}
+use Rattle.ken_store.specs.Reads.{of_image, of_seal}
 use Rattle.ken_store.specs.Recovered.{Fresh, state_of, recovered, with_logs, with_log}
 use Rattle.ken_store.specs.Turning.{log_answer}
-use Rattle.ken_store.specs.Creations.{first_header, created, HoldsFirst, FreshOrCreated, Creates, MayFormat, TellsStill}
+use Rattle.ken_store.specs.Creations.{first_header, created, HoldsFirst, FreshOrCreated, Creates, FormatsLog, MayFormat, TellsStill, image_calls}
 use Rattle.ken_store.proofs.Mounted.{front_none, front_whole}
 use Rattle.ken_store.proofs.Recovering.{whole_answer}
 
@@ -192,3 +198,47 @@ cause_err A B Memory old new cause = cause
 pub memory_err : (A : Type 0) (f : SealFault) → of_seal f ≡ store.Memory → IsErrOf {T = A} (Err f) Memory
 memory_err A Disk is = absurd (let none : ⊥ = cc is in none)
 memory_err A Memory is = refl
+
+-- what a format of the log answers, as the store answers it
+module _ {D : Type 0} (told : D → Option Story) (faults : D → ℕ) (o : Owner) (old new : D) (A B : Type 0) where
+  abbrev Replaced : Result A SealFault → Type 0
+  Replaced r = Follows (λ (h n : Story). IsAtRest h.now → Replaces (mount_of h.now.seen) (mounts.Whole (first_header o) None []) r h n) (told old) (told new)
+
+  abbrev Made : Result A SealFault → Type 0
+  Made r = Follows (λ (h n : Story). MadeAfterRead (as_disk r) (log_writes (first_header o) None h.now.seen) h n) (told old) (told new)
+
+  pub formats_log_ok : (y : A) (x : B) → Replaced (Ok y) → Made (Ok y) → HasLogCause {T = A} (faults old) (faults new) (Ok y) → FormatsLog told faults o (Ok x) old new
+  formats_log_ok y x replaced calls cause = (
+    follows_both (λ (h n : Story). IsAtRest h.now → Replaces (mount_of h.now.seen) (mounts.Whole (first_header o) None []) (Ok y) h n)
+        (λ (h n : Story). MadeAfterRead (as_disk (Ok y)) (log_writes (first_header o) None h.now.seen) h n) (MayFormat {T = B} o (Ok x)) (told old) (told new) replaced calls
+        (λ h n is _ so. formats_ok o h n y x so),
+    cause,
+  )
+
+  pub formats_log_err : (f : SealFault) (fault : StoreFault) → fault ≡ of_seal f → ((h : Story) → told old ≡ Some h → IsAtRest h.now) → Replaced (Err f) → Made (Err f) → HasLogCause {T = A} (faults old) (faults new) (Err f) → FormatsLog {T = B} told faults o (Err fault) old new
+  formats_log_err f fault is rests replaced calls cause = subst (λ (e : StoreFault). FormatsLog {T = B} told faults o (Err e) old new) (sym is) (
+    follows_both (λ (h n : Story). IsAtRest h.now → Replaces (mount_of h.now.seen) (mounts.Whole (first_header o) None []) (Err f) h n)
+        (λ (h n : Story). MadeAfterRead (as_disk (Err f)) (log_writes (first_header o) None h.now.seen) h n) (MayFormat {T = B} o (Err (of_seal f))) (told old) (told new) replaced calls
+        (λ h n is so made_so. formats_err o h n f made_so (so (rests h is))),
+    cause_err A B f (faults old) (faults new) cause,
+  )
+
+-- ---- the calls that the image's disk saw
+
+-- none of some
+none_of : (T : Type 0) (calls : List Call) (h : Story) → Called {T = T} (Err disk.Memory) (calls ++ Sync ∷ []) h h
+none_of T [] h = (record { done = []; next = Sync; left = []; parts = refl }, refl)
+none_of T (call ∷ calls) h = (record { done = []; next = call; left = calls ++ Sync ∷ []; parts = refl }, refl)
+
+pub no_image_call : (T : Type 0) (o : Owner) (told : Option Story) → Follows (Called {T = T} (Err disk.Memory) (image_calls o)) told told
+no_image_call T o None = refl
+no_image_call T o (Some h) = (h, refl, none_of T (map (page_write (take 256 (first_heap o.pages))) (range_with_len 0 o.pages)) h)
+
+-- the image's answer is the store's
+pub image_err : (A B : Type 0) (e : ImageFault) (fault : StoreFault) (calls : List Call) (old new : Option Story) → fault ≡ of_image e
+    → Follows (Called (images.as_disk {T = A} (Err e)) calls) old new → Follows (Called (disk_answer {T = B} (Err fault)) calls) old new
+image_err A B e fault calls old new is follows = subst (λ (f : StoreFault). Follows (Called (disk_answer {T = B} (Err f)) calls) old new) (sym is) (by_fault e follows)
+  where
+    by_fault : (e : ImageFault) → Follows (Called (images.as_disk {T = A} (Err e)) calls) old new → Follows (Called (disk_answer {T = B} (Err (of_image e))) calls) old new
+    by_fault image_faults.Disk f = f
+    by_fault image_faults.Memory f = f

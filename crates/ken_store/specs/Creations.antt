@@ -8,6 +8,8 @@ use Rattle.ken_disk.specs.Story.{Story, Follows, IsImage, Leaves}
 use Rattle.ken_model.specs.Layout.{first_heap}
 use Rattle.ken_model.specs.Network.{empty_heap}
 use Rattle.ken_record.specs.declared.header.Header.{Header}
+use Rattle.ken_image.specs.Calls.{Call, Called}
+use Rattle.ken_image.specs.Pages.{format_calls}
 use Rattle.ken_log.specs.Calls.{MadeAfterRead, log_writes}
 use Rattle.ken_log.specs.Mounts.{mount_of}
 use Rattle.ken_log.specs.Mounts as mounts
@@ -22,6 +24,7 @@ use Rattle.ken_store.specs.declared.turning.TurnSide.{TurnSide}
 use Rattle.ken_store.specs.Numbers.{no_numbers}
 use Rattle.ken_store.specs.Recovered.{Recovery, Fresh, Whole, state_of, recovered}
 use Rattle.ken_store.specs.Answers.{disks_in}
+use Rattle.ken_store.specs.Patching.{disk_answer}
 use Rattle.ken_store.specs.Turning.{log_answer}
 
 -- the header of a node's first log
@@ -76,9 +79,28 @@ abbrev pub MayFormat : {T : Type 0} → Owner → Result T StoreFault → Story 
 MayFormat o (Ok x) old new = Formats o (Ok x) old new
 MayFormat {T} o (Err fault) old new = (new ≡ old) ⊎ Formats {T = T} o (Err fault) old new
 
--- the log's disk is as it was; or it saw a format, and a fault that is answered is one of its own
-abbrev pub CallsLog : {D T : Type 0} → (D → Option Story) → (D → ℕ) → Owner → Result T StoreFault → D → D → Type 0
-CallsLog told faults o result old new = ((told new ≡ told old) × (faults new ≡ faults old)) ⊎ (Follows (MayFormat o result) (told old) (told new) × HasLogCause (faults old) (faults new) (log_answer result))
+-- the calls that make an image of the first heap
+abbrev pub image_calls : Owner → List Call
+image_calls o = format_calls o.pages (take 256 (first_heap o.pages))
+
+module _ {D T : Type 0} (told : D → Option Story) (faults : D → ℕ) (o : Owner) (result : Result T StoreFault) where
+  -- a log's disk is as it was
+  abbrev pub IsUncalled : D → D → Type 0
+  IsUncalled old new = (told new ≡ told old) × (faults new ≡ faults old)
+
+  -- it saw a format, and a fault that is answered is one of its own
+  abbrev pub FormatsLog : D → D → Type 0
+  FormatsLog old new = Follows (MayFormat o result) (told old) (told new) × HasLogCause (faults old) (faults new) (log_answer result)
+
+  abbrev pub CallsLog : D → D → Type 0
+  CallsLog old new = IsUncalled old new ⊎ FormatsLog old new
+
+  -- the image's disk saw the calls of a format, and no others: by the answer, where the log is as it was; and all of them, where the
+  -- log saw its own
+  abbrev pub CallsImage : Disks D → Disks D → Type 0
+  CallsImage old new =
+      (IsUncalled old.log new.log × Follows (Called (disk_answer result) (image_calls o)) (told old.image) (told new.image))
+      ⊎ (FormatsLog old.log new.log × Follows (Called {T = Unit {0}} (Ok tt) (image_calls o)) (told old.image) (told new.image))
 
 -- what told what it holds tells it still
 abbrev pub TellsStill : Option Story → Option Story → Type 0

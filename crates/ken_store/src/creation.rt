@@ -6,7 +6,7 @@ ghost use Rattle.ken_model.specs.Network.{empty_heap};
 ghost use Rattle.ken_cover.specs.Sides.{first_image_pages};
 ghost use Rattle.ken_store.specs.Answers.{TellsAll, AreAtRest, AreUnformatted};
 ghost use Rattle.ken_store.specs.Standing.{Standing};
-ghost use Rattle.ken_store.specs.Creations.{Creates, FailsBy, IsNew, CallsLog, TellsStill, made_disks, made_answer, MayFormat};
+ghost use Rattle.ken_store.specs.Creations.{Creates, FailsBy, IsNew, CallsImage, CallsLog, TellsStill, made_disks, made_answer, MayFormat};
 
 use crate::StoreFault;
 use crate::disks::{Disks, Which};
@@ -47,6 +47,7 @@ pub fn create<D: Disk>(
     ensures creates { TellsAll D.told disks (λ l i s. Tells (D.told (made_disks result).log) (λ l2. Tells (D.told (made_disks result).image) (λ i2. Creates (record { node = node; nodes = nodes; pages = pages }) (made_answer result) l i s l2 i2))) }
     ensures calls { Follows (MayFormat (record { node = node; nodes = nodes; pages = pages }) (made_answer result)) (D.told disks.log) (D.told (made_disks result).log) }
     ensures log { CallsLog D.told D.faults (record { node = node; nodes = nodes; pages = pages }) (made_answer result) disks.log (made_disks result).log }
+    ensures image { CallsImage D.told D.faults (record { node = node; nodes = nodes; pages = pages }) (made_answer result) disks (made_disks result) }
     ensures value { IfOk result (λ store. store.turns.objects.value ≡ empty_heap (256 * pages)) }
     ensures ready { IfOk result (λ store. Standing D.told D.size store (first_image_pages (first_heap pages))) }
     ensures idle { IfOk result (λ store. store.turns.objects.begun ≡ None) }

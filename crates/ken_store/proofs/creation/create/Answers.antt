@@ -12,10 +12,10 @@ use Rattle.ken_model.specs.Layout.{first_heap}
 use Rattle.ken_image.specs.Pages.{first_image}
 use Rattle.ken_cover.specs.Sides.{first_turn_pages}
 use Rattle.ken_store.specs.Logs.{is_owned}
-use Rattle.ken_store.specs.Turning.{Turning, IsPassed, live_layers, log_answer, sealed_bytes, turn_pages}
+use Rattle.ken_store.specs.Turning.{Turning, IsPassed, live_layers, sealed_bytes, turn_pages}
 use Rattle.ken_store.proofs.Mounted.{front_none}
 use Rattle.ken_store.proofs.First.{length-first_heap, first_stands}
-use Rattle.std.proofs.Common.{◌≡◌, ◌∙◌, ◌*◌, inr, length, [], ap, sym, subst, refl, Some, None, Ok, Err, true}
+use Rattle.std.proofs.Common.{◌≡◌, ◌∙◌, ◌*◌, inl, inr, length, [], ap, sym, subst, refl, Some, None, Ok, Err, true}
 use Rattle.ken_disk.specs.Story.{Story, IsAtRest}
 use Rattle.ken_disk.proofs.Told.{some_is}
 use Rattle.ken_log.specs.Formats.{Replaces}
@@ -24,11 +24,8 @@ use Rattle.ken_log.specs.Mounts as mounts
 use Rattle.ken_store.specs.declared.owner.Owner.{Owner}
 use Rattle.ken_store.specs.declared.faults.StoreFault.TheVariants.{Memory}
 use Rattle.ken_store.specs.declared.store.Store.{Store}
-use Rattle.ken_log.specs.Calls.{MadeAfterRead, log_writes}
-use Rattle.ken_log.specs.Seals.{HasLogCause, as_disk}
-use Rattle.ken_store.specs.declared.faults.StoreFault.{StoreFault}
-use Rattle.ken_store.specs.Creations.{Creates, MayFormat, first_header}
-use Rattle.ken_store.proofs.Creating.{cause_err, first_image-heap, owned, creates_not, creates_err, creates_ok, follows_at, follows_both, formats_err, formats_ok, holds_first, memory_err, follows_still, unformatted_still}
+use Rattle.ken_store.specs.Creations.{Creates, first_header}
+use Rattle.ken_store.proofs.Creating.{first_image-heap, owned, creates_not, creates_err, creates_ok, follows_at, formats_log_err, formats_log_ok, holds_first, image_err, memory_err, no_image_call, follows_still, unformatted_still}
 use Rattle.ken_store.proofs.creation.create.Goals as goal
 
 pub returns-in-Err-clause-creates : goal.returns-in-Err-clause-creates
@@ -132,41 +129,53 @@ returns-in-Err-clause-calls g c = unformatted_still (Store g.row.D.Denot) _ _ _
 pub returns-in-Err-format-clause-calls : goal.returns-in-Err-format-clause-calls
 returns-in-Err-format-clause-calls g c = unformatted_still (Store g.row.D.Denot) _ _ _
 
+-- what the log saw
 pub returns-in-Ok-format-2-clause-calls : goal.returns-in-Ok-format-2-clause-calls
 returns-in-Ok-format-2-clause-calls g c =
     let o : Owner = record { node = c.args.node; nodes = c.args.nodes; pages = c.args.pages } in
-    follows_both (λ (h n : Story). IsAtRest h.now → Replaces (mount_of h.now.seen) (mounts.Whole (first_header o) None []) (Ok c.in-Ok-format-2.log) h n)
-    (λ (h n : Story). MadeAfterRead (as_disk (Ok c.in-Ok-format-2.log)) (log_writes (first_header o) None h.now.seen) h n) (MayFormat {T = Store g.row.D.Denot} o (Ok _)) _ _ c.in-Ok-format-2.ensures.story c.in-Ok-format-2.ensures.calls
-    (λ h n is replaces made. formats_ok o h n c.in-Ok-format-2.log _ made)
+    let log = c.in-Ok-format-2.log in
+    (formats_log_ok g.D.Disk.told g.D.Disk.faults o c.args.disks.log log.disk _ (Store g.row.D.Denot) log _ c.in-Ok-format-2.ensures.story c.in-Ok-format-2.ensures.calls c.in-Ok-format-2.ensures.cause).0
 
 pub returns-in-Err-format-2-clause-calls : goal.returns-in-Err-format-2-clause-calls
 returns-in-Err-format-2-clause-calls g c =
     let o : Owner = record { node = c.args.node; nodes = c.args.nodes; pages = c.args.pages } in
-    let fault = c.in-Err-format-2.fault in
-    subst (λ (f : StoreFault). Follows (MayFormat {T = Store g.row.D.Denot} o (Err f)) (g.D.Disk.told c.args.disks.log) (g.D.Disk.told c.in-Err-format-2.log)) (sym c.from-in-Err-format-2.ensures)
-    (follows_both (λ (h n : Story). IsAtRest h.now → Replaces (mount_of h.now.seen) (mounts.Whole (first_header o) None []) (Err fault) h n)
-    (λ (h n : Story). MadeAfterRead (as_disk (Err fault)) (log_writes (first_header o) None h.now.seen) h n) (MayFormat {T = Store g.row.D.Denot} o (Err _)) _ _ c.in-Err-format-2.ensures.story c.in-Err-format-2.ensures.calls
-    (λ h n is replaces made. formats_err o h n fault made (replaces (c.requires.rests.log h is))))
+    (formats_log_err g.D.Disk.told g.D.Disk.faults o c.args.disks.log c.in-Err-format-2.log _ (Store g.row.D.Denot) c.in-Err-format-2.fault _ c.from-in-Err-format-2.ensures c.requires.rests.log
+    c.in-Err-format-2.ensures.story c.in-Err-format-2.ensures.calls c.in-Err-format-2.ensures.cause).0
 
 pub returns-in-Ok-format-2-clause-log : goal.returns-in-Ok-format-2-clause-log
 returns-in-Ok-format-2-clause-log g c =
     let o : Owner = record { node = c.args.node; nodes = c.args.nodes; pages = c.args.pages } in
-    inr (
-      follows_both (λ (h n : Story). IsAtRest h.now → Replaces (mount_of h.now.seen) (mounts.Whole (first_header o) None []) (Ok c.in-Ok-format-2.log) h n)
-          (λ (h n : Story). MadeAfterRead (as_disk (Ok c.in-Ok-format-2.log)) (log_writes (first_header o) None h.now.seen) h n) (MayFormat {T = Store g.row.D.Denot} o (Ok _)) _ _ c.in-Ok-format-2.ensures.story c.in-Ok-format-2.ensures.calls
-          (λ h n is replaces made. formats_ok o h n c.in-Ok-format-2.log _ made),
-      c.in-Ok-format-2.ensures.cause,
-    )
+    let log = c.in-Ok-format-2.log in
+    inr (formats_log_ok g.D.Disk.told g.D.Disk.faults o c.args.disks.log log.disk _ (Store g.row.D.Denot) log _ c.in-Ok-format-2.ensures.story c.in-Ok-format-2.ensures.calls c.in-Ok-format-2.ensures.cause)
 
 pub returns-in-Err-format-2-clause-log : goal.returns-in-Err-format-2-clause-log
 returns-in-Err-format-2-clause-log g c =
     let o : Owner = record { node = c.args.node; nodes = c.args.nodes; pages = c.args.pages } in
-    let fault = c.in-Err-format-2.fault in
-    let log = c.in-Err-format-2.log in
+    inr (formats_log_err g.D.Disk.told g.D.Disk.faults o c.args.disks.log c.in-Err-format-2.log _ (Store g.row.D.Denot) c.in-Err-format-2.fault _ c.from-in-Err-format-2.ensures c.requires.rests.log
+    c.in-Err-format-2.ensures.story c.in-Err-format-2.ensures.calls c.in-Err-format-2.ensures.cause)
+
+-- and what the image's disk saw
+pub returns-in-Err-clause-image : goal.returns-in-Err-clause-image
+returns-in-Err-clause-image g c = inl ((refl, refl), no_image_call (Store g.row.D.Denot) (record { node = c.args.node; nodes = c.args.nodes; pages = c.args.pages }) _)
+
+pub returns-in-Err-format-clause-image : goal.returns-in-Err-format-clause-image
+returns-in-Err-format-clause-image g c =
+    inl ((refl, refl), image_err _ (Store g.row.D.Denot) c.in-Err-format.fault _ _ _ _ c.from.ensures (rw c.in-Ok.ensures.page at c.in-Err-format.ensures.calls))
+
+pub returns-in-Ok-format-2-clause-image : goal.returns-in-Ok-format-2-clause-image
+returns-in-Ok-format-2-clause-image g c =
+    let o : Owner = record { node = c.args.node; nodes = c.args.nodes; pages = c.args.pages } in
+    let log = c.in-Ok-format-2.log in
     inr (
-      subst (λ (f : StoreFault). Follows (MayFormat {T = Store g.row.D.Denot} o (Err f)) (g.D.Disk.told c.args.disks.log) (g.D.Disk.told log)) (sym c.from-in-Err-format-2.ensures)
-          (follows_both (λ (h n : Story). IsAtRest h.now → Replaces (mount_of h.now.seen) (mounts.Whole (first_header o) None []) (Err fault) h n)
-          (λ (h n : Story). MadeAfterRead (as_disk (Err fault)) (log_writes (first_header o) None h.now.seen) h n) (MayFormat {T = Store g.row.D.Denot} o (Err _)) _ _ c.in-Err-format-2.ensures.story c.in-Err-format-2.ensures.calls
-          (λ h n is replaces made. formats_err o h n fault made (replaces (c.requires.rests.log h is)))),
-      subst (λ (f : StoreFault). HasLogCause (g.D.Disk.faults c.args.disks.log) (g.D.Disk.faults log) (log_answer {T = Store g.row.D.Denot} (Err f))) (sym c.from-in-Err-format-2.ensures) (cause_err (Unit {0}) (Store g.row.D.Denot) fault _ _ c.in-Err-format-2.ensures.cause),
+      formats_log_ok g.D.Disk.told g.D.Disk.faults o c.args.disks.log log.disk _ (Store g.row.D.Denot) log _ c.in-Ok-format-2.ensures.story c.in-Ok-format-2.ensures.calls c.in-Ok-format-2.ensures.cause,
+      rw c.in-Ok.ensures.page at c.in-Ok-format.ensures.calls,
+    )
+
+pub returns-in-Err-format-2-clause-image : goal.returns-in-Err-format-2-clause-image
+returns-in-Err-format-2-clause-image g c =
+    let o : Owner = record { node = c.args.node; nodes = c.args.nodes; pages = c.args.pages } in
+    inr (
+      formats_log_err g.D.Disk.told g.D.Disk.faults o c.args.disks.log c.in-Err-format-2.log _ (Store g.row.D.Denot) c.in-Err-format-2.fault _ c.from-in-Err-format-2.ensures c.requires.rests.log
+          c.in-Err-format-2.ensures.story c.in-Err-format-2.ensures.calls c.in-Err-format-2.ensures.cause,
+      rw (c.release-image.ensures, sym c.in-Ok.ensures.page) c.in-Ok-format.ensures.calls,
     )
