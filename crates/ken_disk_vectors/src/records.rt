@@ -124,10 +124,11 @@ const RECORDS: [(usize, u8, bool); 16] = [
 ];
 
 // How many senders, receivers and bytes of text a base has, its pages, and whether it fits.
-const BASE_SIZES: [(usize, usize, usize, &[u32], bool); 9] = [
+const BASE_SIZES: [(usize, usize, usize, &[u32], bool); 10] = [
     (9, 8, 1, &[0, 1, u32::MAX], true),
     (9, 8, 512, &[], true),
-    (9, 8, 513, &[], false),
+    (9, 8, 513, &[], true),
+    (9, 8, 65_536, &[], false),
     (8, 8, 1, &[], false),
     (10, 8, 1, &[], false),
     (9, 7, 1, &[], false),

@@ -1,7 +1,7 @@
 -- The messages of a log are mails of its node.
 use Rattle.std.proofs.Common.{◌≡◌, ℕ, ◌<◌, ◌≤◌, List, [], ◌∷◌, Bool, true, false, ◌&&◌, nat_lt, nat_le, ◌==◌, ◌+◌, ◌^◌, if◌then◌else◌, sym, subst, refl, arith, Option, Some, None, Ok}
 use Rattle.std.specs.Prelude.{replicate, filter, slice_index_or, slice_set}
-use Rattle.std.specs.List.{All, AllByRecursion, flat_map, range_with_len}
+use Rattle.std.specs.List.{All, AllByRecursion, flat_map, list_all, range_with_len}
 use Rattle.std.proofs.lemmas.List.Concat.{flat_map-cons}
 use Rattle.std.proofs.lemmas.List.Elements.{All-nil, All-append, All-filter, All-from_recursion, All-map, All-weaker}
 use Rattle.ken_record.specs.declared.base.Base.{Base}
@@ -14,11 +14,11 @@ use Rattle.ken_record.specs.Versions.{One}
 use Rattle.ken_log.specs.Layout.{IsHead}
 use Rattle.ken_store.specs.declared.numbers.Numbers.{Numbers}
 use Rattle.ken_store.specs.declared.owner.Owner.{Owner}
-use Rattle.ken_store.specs.Bases.{base_numbers, base_stands, counts_stand, goes_on, messages_follow, messages_stand, outs_stand}
+use Rattle.ken_store.specs.Bases.{base_numbers, base_stands, counts_stand, goes_on, is_short_due, is_short_out, messages_follow, messages_stand, outs_stand, texts_stand}
 use Rattle.ken_store.specs.Kept.{base_messages, due_to, message_due, message_sent, messages_in, messages_to, sent_to}
 use Rattle.ken_store.specs.Numbers.{are_within}
 use Rattle.ken_store.specs.Recovered.{numbers_from, numbers_of}
-use Rattle.ken_store.proofs.BaseStands.{and_true, less}
+use Rattle.ken_store.proofs.BaseStands.{and_true, less, short_dues}
 use Rattle.ken_ship.specs.Fits.{IsMailFrom}
 
 all-flat : {X A : Type 0} (P : A → Type 0) (f : X → List A) (xs : List X) → AllByRecursion (λ (x : X). All P (f x)) xs → All P (flat_map f xs)
@@ -68,10 +68,12 @@ module _ (v : ℕ) (low : v < 8) where
     where
       one : (stands : Bool) → base_stands o head b ≡ stands → numbers_from o (32 + head.base_len) (if stands then Some (base_numbers head b) else None) records ≡ Ok n → AllByRecursion (λ (m : Due). IsMailFrom v (message_due v m)) b.messages
       one true e was =
-          let to_outs = and_true (counts_stand o head b && are_within o.pages b.pages && messages_stand o.nodes b) (outs_stand b.outputs b.outs) e in
+          let to_texts = and_true (counts_stand o head b && are_within o.pages b.pages && messages_stand o.nodes b && outs_stand b.outputs b.outs) (texts_stand b) e in
+          let short = and_true (list_all is_short_due b.messages) (list_all is_short_out b.outs) to_texts.1 in
+          let to_outs = and_true (counts_stand o head b && are_within o.pages b.pages && messages_stand o.nodes b) (outs_stand b.outputs b.outs) to_texts.0 in
           let to_messages = and_true (counts_stand o head b && are_within o.pages b.pages) (messages_stand o.nodes b) to_outs.0 in
           let follow = and_true (messages_follow o.nodes b.stamp (replicate 8 0) b.messages) _ to_messages.1 in
-          dues o.nodes b.stamp (replicate 8 0) b.messages few is.has.1.kept.0.1 follow.0
+          dues o.nodes b.stamp (replicate 8 0) b.messages few (short_dues b.messages is.has.1.kept.0.1 short.0) follow.0
       one false e was = absurd (let no : ⊥ = cc was in no)
 
   -- so of all messages of a log

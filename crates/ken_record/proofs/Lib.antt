@@ -1,6 +1,7 @@
 pub mod Loops
 pub mod Places
 pub mod Sizes
+pub mod Shorts
 pub mod Forms
 pub mod Members
 pub mod Fronts

@@ -12,9 +12,10 @@ use Rattle.ken_record.specs.declared.base.Base.{Base}
 use Rattle.ken_record.specs.declared.record.Record.{Record}
 use Rattle.ken_record.specs.Versions.{Version, One}
 use Rattle.ken_record.specs.Spelling.{number, text, counted, sent, due, out, page, fields, header_bytes, base_bytes, record_bytes}
-use Rattle.ken_record.specs.Grammar.{IsWord, IsText, IsSent, IsDue, IsOut, IsPage, AtMost, Exactly, rise_from, page_rank, are_numbered, base_rises, IsRecord, IsBase, IsHeader}
-use Rattle.ken_record.specs.Reading.{number_at, part_at, sized, items_at, text_at, sent_at, due_at, out_at, page_at, origin_at, lists_at, is_sound, record_of, fields_at, record_at, counts_at, kept_at, base_of, base_at, is_sound_header, mark_at, place_at, past_at, header_of, header_at}
+use Rattle.ken_record.specs.Grammar.{IsWord, IsText, FitsText, IsSent, FitsDue, IsOut, FitsOut, IsPage, AtMost, Exactly, rise_from, page_rank, are_numbered, are_short, base_rises, IsRecord, IsBase, IsHeader}
+use Rattle.ken_record.specs.Reading.{number_at, part_at, sized, items_at, text_at, long_text_at, sent_at, due_at, out_at, page_at, origin_at, lists_at, is_sound, record_of, fields_at, record_at, counts_at, kept_at, base_of, base_at, is_sound_header, mark_at, place_at, past_at, header_of, header_at}
 use Rattle.ken_record.proofs.Forms.{IsForm, seq_form, made_form, fit_form, within_form, number_1, number_2, number_4, number_8, part_form, items_form, sized_form}
+use Rattle.ken_record.proofs.Shorts.{outs_fit, outs_short, short_outs}
 use Rattle.ken_record.proofs.Sizes.{fields_short}
 
 -- ---- texts
@@ -25,6 +26,10 @@ part_of n = fit_form (part_form n) (λ x e. (tt, e)) (λ x p. p.1)
 pub text_form : IsForm text IsText text_at
 unfolding text_at
 text_form = fit_form (sized_form 2 512 number_2 (omega arith) length part_of) (λ x p. p.0) (λ x h. (h, tt))
+
+pub long_text_form : IsForm text FitsText long_text_at
+unfolding long_text_at
+long_text_form = fit_form (sized_form 2 0xffff number_2 (omega arith) length part_of) (λ x p. omega (arith, p.0)) (λ x h. (omega (arith, h), tt))
 
 -- ---- messages, outputs and pages
 
@@ -59,15 +64,15 @@ out_parts o = (o.number, o.text)
 abbrev out_of : ℕ × List ℕ → Out
 out_of x = record { number = x.0; text = x.1 }
 
-out_makes : (a : ℕ × List ℕ) → (a.0 < 2 ^ 64) × IsText a.1 → true ≡ true → IsOut (out_of a) × (out_parts (out_of a) ≡ a)
+out_makes : (a : ℕ × List ℕ) → (a.0 < 2 ^ 64) × FitsText a.1 → true ≡ true → FitsOut (out_of a) × (out_parts (out_of a) ≡ a)
 out_makes a fit test = (record { number = fit.0; text = fit.1 }, refl)
 
-out_again : (o : Out) → IsOut o → ((o.number < 2 ^ 64) × IsText o.text) × (true ≡ true) × (out_of (out_parts o) ≡ o)
+out_again : (o : Out) → FitsOut o → ((o.number < 2 ^ 64) × FitsText o.text) × (true ≡ true) × (out_of (out_parts o) ≡ o)
 out_again o is = ((is.number, is.text), refl, refl)
 
-pub out_form : IsForm out IsOut out_at
+pub out_form : IsForm out FitsOut out_at
 unfolding out_at
-out_form = made_form (seq_form number_8 text_form) (λ x. true) out_of out_parts IsOut out_makes out_again
+out_form = made_form (seq_form number_8 long_text_form) (λ x. true) out_of out_parts FitsOut out_makes out_again
 
 abbrev due_parts : Due → ℕ × (ℕ × (ℕ × List ℕ))
 due_parts m = (m.to, (m.number, (m.stamp, m.bytes)))
@@ -75,15 +80,15 @@ due_parts m = (m.to, (m.number, (m.stamp, m.bytes)))
 abbrev due_of : ℕ × (ℕ × (ℕ × List ℕ)) → Due
 due_of x = record { to = x.0; number = x.1.0; stamp = x.1.1.0; bytes = x.1.1.1 }
 
-due_makes : (a : ℕ × (ℕ × (ℕ × List ℕ))) → (a.0 < 2 ^ 8) × ((a.1.0 < 2 ^ 64) × ((a.1.1.0 < 2 ^ 64) × IsText a.1.1.1)) → true ≡ true → IsDue (due_of a) × (due_parts (due_of a) ≡ a)
+due_makes : (a : ℕ × (ℕ × (ℕ × List ℕ))) → (a.0 < 2 ^ 8) × ((a.1.0 < 2 ^ 64) × ((a.1.1.0 < 2 ^ 64) × FitsText a.1.1.1)) → true ≡ true → FitsDue (due_of a) × (due_parts (due_of a) ≡ a)
 due_makes a fit test = (record { to = fit.0; number = fit.1.0; stamp = fit.1.1.0; bytes = fit.1.1.1 }, refl)
 
-due_again : (m : Due) → IsDue m → ((m.to < 2 ^ 8) × ((m.number < 2 ^ 64) × ((m.stamp < 2 ^ 64) × IsText m.bytes))) × (true ≡ true) × (due_of (due_parts m) ≡ m)
+due_again : (m : Due) → FitsDue m → ((m.to < 2 ^ 8) × ((m.number < 2 ^ 64) × ((m.stamp < 2 ^ 64) × FitsText m.bytes))) × (true ≡ true) × (due_of (due_parts m) ≡ m)
 due_again m is = ((is.to, (is.number, (is.stamp, is.bytes))), refl, refl)
 
-pub due_form : IsForm due IsDue due_at
+pub due_form : IsForm due FitsDue due_at
 unfolding due_at
-due_form = made_form (seq_form number_1 (seq_form number_8 (seq_form number_8 text_form))) (λ x. true) due_of due_parts IsDue due_makes due_again
+due_form = made_form (seq_form number_1 (seq_form number_8 (seq_form number_8 long_text_form))) (λ x. true) due_of due_parts FitsDue due_makes due_again
 
 abbrev page_parts : Page → ℕ × List ℕ
 page_parts p = (p.page, p.bytes)
@@ -119,13 +124,13 @@ draws_form = sized_form 1 16 number_1 (omega arith) length (items_form number_8)
 sends_form : IsForm (counted 1 sent) (AtMost 16 IsSent) (sized 1 16 (items_at sent_at))
 sends_form = sized_form 1 16 number_1 (omega arith) length (items_form sent_form)
 
-outs_form : IsForm (counted 1 out) (AtMost 16 IsOut) (sized 1 16 (items_at out_at))
+outs_form : IsForm (counted 1 out) (AtMost 16 FitsOut) (sized 1 16 (items_at out_at))
 outs_form = sized_form 1 16 number_1 (omega arith) length (items_form out_form)
 
 pages_form : IsForm (counted 2 page) (AtMost 4096 IsPage) (sized 2 4096 (items_at page_at))
 pages_form = sized_form 2 4096 number_2 (omega arith) length (items_form page_form)
 
-lists_form : IsForm (λ (x : List ℕ × (List Sent × (List Out × List Page))). counted 1 (number 8) x.0 ++ (counted 1 sent x.1.0 ++ (counted 1 out x.1.1.0 ++ counted 2 page x.1.1.1))) (λ x. AtMost 16 IsWord x.0 × (AtMost 16 IsSent x.1.0 × (AtMost 16 IsOut x.1.1.0 × AtMost 4096 IsPage x.1.1.1))) lists_at
+lists_form : IsForm (λ (x : List ℕ × (List Sent × (List Out × List Page))). counted 1 (number 8) x.0 ++ (counted 1 sent x.1.0 ++ (counted 1 out x.1.1.0 ++ counted 2 page x.1.1.1))) (λ x. AtMost 16 IsWord x.0 × (AtMost 16 IsSent x.1.0 × (AtMost 16 FitsOut x.1.1.0 × AtMost 4096 IsPage x.1.1.1))) lists_at
 unfolding lists_at
 lists_form = seq_form draws_form (seq_form sends_form (seq_form outs_form pages_form))
 
@@ -173,17 +178,18 @@ abbrev record_parts : Record → Parts
 record_parts r = ((r.turn, (r.stamp, (r.from, r.number))), (r.draws, (r.sends, (r.outs, r.pages))))
 
 abbrev PartsFit : Parts → Type 0
-PartsFit x = ((x.0.0 < 2 ^ 64) × ((x.0.1.0 < 2 ^ 64) × ((x.0.1.1.0 < 2 ^ 8) × (x.0.1.1.1 < 2 ^ 64)))) × (AtMost 16 IsWord x.1.0 × (AtMost 16 IsSent x.1.1.0 × (AtMost 16 IsOut x.1.1.1.0 × AtMost 4096 IsPage x.1.1.1.1)))
+PartsFit x = ((x.0.0 < 2 ^ 64) × ((x.0.1.0 < 2 ^ 64) × ((x.0.1.1.0 < 2 ^ 8) × (x.0.1.1.1 < 2 ^ 64)))) × (AtMost 16 IsWord x.1.0 × (AtMost 16 IsSent x.1.1.0 × (AtMost 16 FitsOut x.1.1.1.0 × AtMost 4096 IsPage x.1.1.1.1)))
 
-record_makes : (a : Parts) → PartsFit a → is_sound (record_of a) ≡ true → IsRecord One (record_of a) × (record_parts (record_of a) ≡ a)
+record_makes : (a : Parts) → PartsFit a → is_sound (record_of a) && are_short (record_of a).outs ≡ true → IsRecord One (record_of a) × (record_parts (record_of a) ≡ a)
 record_makes a fit test =
-    let s = is_sound_sound (record_of a) test in (
+    let two = both (is_sound (record_of a)) (are_short a.1.1.1.0) test in
+    let s = is_sound_sound (record_of a) two.0 in (
       record {
         turn = (s.turn, fit.0.0);
         stamp = (s.stamp, fit.0.1.0);
         from = s.from;
         number = (s.number, fit.0.1.1.1);
-        lists = (fit.1.0, fit.1.1.0, fit.1.1.1.0, fit.1.1.1.1);
+        lists = (fit.1.0, fit.1.1.0, (fit.1.1.1.0.0, short_outs a.1.1.1.0 fit.1.1.1.0.1 two.1), fit.1.1.1.1);
         numbered = s.numbered;
         rising = s.rising;
       },
@@ -193,14 +199,14 @@ record_makes a fit test =
 sender_byte : (from : ℕ) → (from < 8) ⊎ (from ≡ 255) → from < 2 ^ 8
 sender_byte from h = omega arith
 
-record_again : (r : Record) → IsRecord One r → PartsFit (record_parts r) × (is_sound r ≡ true) × (record_of (record_parts r) ≡ r)
+record_again : (r : Record) → IsRecord One r → PartsFit (record_parts r) × (is_sound r && are_short r.outs ≡ true) × (record_of (record_parts r) ≡ r)
 record_again r is =
     let s : Sound r = record { turn = is.turn.0; stamp = is.stamp.0; from = is.from; number = is.number.0; numbered = is.numbered; rising = is.rising } in
-    (((is.turn.1, (is.stamp.1, (sender_byte r.from is.from, is.number.1))), (is.lists.0, (is.lists.1, (is.lists.2, is.lists.3)))), sound_is_sound r s, refl)
+    (((is.turn.1, (is.stamp.1, (sender_byte r.from is.from, is.number.1))), (is.lists.0, (is.lists.1, ((is.lists.2.0, outs_fit r.outs is.lists.2.1), is.lists.3)))), rw (sound_is_sound r s) (outs_short r.outs is.lists.2.1), refl)
 
 pub fields_form : IsForm (fields One) (IsRecord One) (fields_at One)
 unfolding fields_at
-fields_form = made_form (seq_form origin_form lists_form) (λ x. is_sound (record_of x)) record_of record_parts (IsRecord One) record_makes record_again
+fields_form = made_form (seq_form origin_form lists_form) (λ x. is_sound (record_of x) && are_short (record_of x).outs) record_of record_parts (IsRecord One) record_makes record_again
 
 pub record_form : (v : Version) → IsForm (record_bytes v) (IsRecord v) (record_at v)
 unfolding record_at
@@ -212,15 +218,18 @@ counts_form : IsForm (λ (x : ℕ × (List ℕ × (List ℕ × ℕ))). number 8 
 unfolding counts_at
 counts_form = seq_form number_8 (seq_form (items_form number_8 9) (seq_form (items_form number_8 8) number_8))
 
-dues_form : IsForm (counted 4 due) (AtMost 0xffff_ffff IsDue) (sized 4 0xffff_ffff (items_at due_at))
+dues_form : IsForm (counted 4 due) (AtMost 0xffff_ffff FitsDue) (sized 4 0xffff_ffff (items_at due_at))
 dues_form = sized_form 4 0xffff_ffff number_4 (omega arith) length (items_form due_form)
 
-all_outs_form : IsForm (counted 4 out) (AtMost 0xffff_ffff IsOut) (sized 4 0xffff_ffff (items_at out_at))
+all_outs_form : IsForm (counted 4 out) (AtMost 0xffff_ffff FitsOut) (sized 4 0xffff_ffff (items_at out_at))
 all_outs_form = sized_form 4 0xffff_ffff number_4 (omega arith) length (items_form out_form)
 
-kept_form : IsForm (λ (x : List Due × (List Out × List Page)). counted 4 due x.0 ++ (counted 4 out x.1.0 ++ counted 2 page x.1.1)) (λ x. AtMost 0xffff_ffff IsDue x.0 × (AtMost 0xffff_ffff IsOut x.1.0 × AtMost 4096 IsPage x.1.1)) kept_at
+base_pages_form : IsForm (counted 2 page) (AtMost 0xffff IsPage) (sized 2 0xffff (items_at page_at))
+base_pages_form = sized_form 2 0xffff number_2 (omega arith) length (items_form page_form)
+
+kept_form : IsForm (λ (x : List Due × (List Out × List Page)). counted 4 due x.0 ++ (counted 4 out x.1.0 ++ counted 2 page x.1.1)) (λ x. AtMost 0xffff_ffff FitsDue x.0 × (AtMost 0xffff_ffff FitsOut x.1.0 × AtMost 0xffff IsPage x.1.1)) kept_at
 unfolding kept_at
-kept_form = seq_form dues_form (seq_form all_outs_form pages_form)
+kept_form = seq_form dues_form (seq_form all_outs_form base_pages_form)
 
 abbrev BaseParts : Type 0
 BaseParts = (ℕ × (List ℕ × (List ℕ × ℕ))) × (List Due × (List Out × List Page))
@@ -229,7 +238,7 @@ abbrev base_parts : Base → BaseParts
 base_parts b = ((b.stamp, (b.consumed, (b.sent, b.outputs))), (b.messages, (b.outs, b.pages)))
 
 abbrev BaseFits : BaseParts → Type 0
-BaseFits x = ((x.0.0 < 2 ^ 64) × (Exactly 9 IsWord x.0.1.0 × (Exactly 8 IsWord x.0.1.1.0 × (x.0.1.1.1 < 2 ^ 64)))) × (AtMost 0xffff_ffff IsDue x.1.0 × (AtMost 0xffff_ffff IsOut x.1.1.0 × AtMost 4096 IsPage x.1.1.1))
+BaseFits x = ((x.0.0 < 2 ^ 64) × (Exactly 9 IsWord x.0.1.0 × (Exactly 8 IsWord x.0.1.1.0 × (x.0.1.1.1 < 2 ^ 64)))) × (AtMost 0xffff_ffff FitsDue x.1.0 × (AtMost 0xffff_ffff FitsOut x.1.1.0 × AtMost 0xffff IsPage x.1.1.1))
 
 base_makes : (a : BaseParts) → BaseFits a → base_rises (base_of a) ≡ true → IsBase One (base_of a) × (base_parts (base_of a) ≡ a)
 base_makes a fit test = (

@@ -21,6 +21,10 @@ IsWord n = n < 2 ^ 64
 abbrev pub IsText : List ℕ → Type 0
 IsText bytes = length bytes ≤ 512
 
+-- a text whose length its two bytes hold
+abbrev pub FitsText : List ℕ → Type 0
+FitsText bytes = length bytes < 2 ^ 16
+
 pub record IsSent (s : Sent) : Type 0 where
   pub to : s.to < 8
   pub number : IsCount s.number
@@ -35,6 +39,17 @@ pub record IsDue (m : Due) : Type 0 where
 pub record IsOut (o : Out) : Type 0 where
   pub number : IsWord o.number
   pub text : IsText o.text
+
+-- a message and an output whose fields hold them
+pub record FitsDue (m : Due) : Type 0 where
+  pub to : m.to < 2 ^ 8
+  pub number : IsWord m.number
+  pub stamp : IsWord m.stamp
+  pub bytes : FitsText m.bytes
+
+pub record FitsOut (o : Out) : Type 0 where
+  pub number : IsWord o.number
+  pub text : FitsText o.text
 
 pub record IsPage (p : Page) : Type 0 where
   pub page : p.page < 2 ^ 32
@@ -68,6 +83,11 @@ abbrev pub are_numbered : List Out → Bool
 are_numbered [] = true
 are_numbered (o ∷ os) = nat_lt 0 o.number && are_numbered os
 
+-- whether no output has more than 512 bytes
+abbrev pub are_short : List Out → Bool
+are_short [] = true
+are_short (o ∷ os) = nat_le (length o.text) 512 && are_short os
+
 -- what is in the lists of a record
 abbrev pub HasLists : Version → Record → Type 0
 HasLists One r = AtMost 16 IsWord r.draws × AtMost 16 IsSent r.sends × AtMost 16 IsOut r.outs × AtMost 4096 IsPage r.pages
@@ -85,9 +105,9 @@ pub record IsRecord (v : Version) (r : Record) : Type 0 where
 abbrev pub HasCounts : Version → Base → Type 0
 HasCounts v b = Exactly (senders v) IsWord b.consumed × Exactly 8 IsWord b.sent
 
--- what is in the lists of a base
+-- what is in the lists of a base: whatever its fields hold
 abbrev pub HasKept : Base → Type 0
-HasKept b = AtMost 0xffff_ffff IsDue b.messages × AtMost 0xffff_ffff IsOut b.outs × AtMost 4096 IsPage b.pages
+HasKept b = AtMost 0xffff_ffff FitsDue b.messages × AtMost 0xffff_ffff FitsOut b.outs × AtMost 0xffff IsPage b.pages
 
 -- whether its messages, outputs and pages rise
 abbrev pub base_rises : Base → Bool

@@ -15,7 +15,7 @@ use Rattle.ken_record.specs.declared.item.Item.TheVariants as items
 use Rattle.ken_record.specs.declared.item.ItemKind.{ItemKind}
 use Rattle.ken_record.specs.declared.item.ItemKind.TheVariants as kinds
 use Rattle.ken_record.specs.Versions.{Version, One, version_byte, most_fields, senders}
-use Rattle.ken_record.specs.Grammar.{rise_from, page_rank, are_numbered, base_rises}
+use Rattle.ken_record.specs.Grammar.{rise_from, page_rank, are_numbered, are_short, base_rises}
 
 -- What a function returned, seen by view, is what reading gives, unless memory ran out.
 abbrev pub Fails : {Y : Type 0} → RecordFault → Option Y → Type 0
@@ -77,16 +77,20 @@ within reads n bytes = do
 unfoldable pub text_at : List ℕ → Option (List ℕ × List ℕ)
 text_at bytes = sized 2 512 part_at bytes
 
+-- two bytes of length, and so many bytes
+unfoldable pub long_text_at : List ℕ → Option (List ℕ × List ℕ)
+long_text_at bytes = sized 2 0xffff part_at bytes
+
 -- the node that it goes to, its number and its bytes
 unfoldable pub sent_at : List ℕ → Option (Sent × List ℕ)
 sent_at bytes = made (λ x. nat_lt x.0 8 && nat_lt 0 x.1.0) (λ x. record { to = x.0; number = x.1.0; bytes = x.1.1 }) (seq (number_at 1) (seq (number_at 8) text_at)) bytes
 
--- the same with a stamp
+-- the same with a stamp, and as long as its length tells
 unfoldable pub due_at : List ℕ → Option (Due × List ℕ)
-due_at bytes = made (λ x. true) (λ x. record { to = x.0; number = x.1.0; stamp = x.1.1.0; bytes = x.1.1.1 }) (seq (number_at 1) (seq (number_at 8) (seq (number_at 8) text_at))) bytes
+due_at bytes = made (λ x. true) (λ x. record { to = x.0; number = x.1.0; stamp = x.1.1.0; bytes = x.1.1.1 }) (seq (number_at 1) (seq (number_at 8) (seq (number_at 8) long_text_at))) bytes
 
 unfoldable pub out_at : List ℕ → Option (Out × List ℕ)
-out_at bytes = made (λ x. true) (λ x. record { number = x.0; text = x.1 }) (seq (number_at 8) text_at) bytes
+out_at bytes = made (λ x. true) (λ x. record { number = x.0; text = x.1 }) (seq (number_at 8) long_text_at) bytes
 
 unfoldable pub page_at : List ℕ → Option (Page × List ℕ)
 page_at bytes = made (λ x. true) (λ x. record { page = x.0; bytes = x.1 }) (seq (number_at 4) (part_at 256)) bytes
@@ -107,7 +111,7 @@ abbrev pub record_of : (ℕ × (ℕ × (ℕ × ℕ))) × (List ℕ × (List Sent
 record_of x = record { turn = x.0.0; stamp = x.0.1.0; from = x.0.1.1.0; number = x.0.1.1.1; draws = x.1.0; sends = x.1.1.0; outs = x.1.1.1.0; pages = x.1.1.1.1 }
 
 unfoldable pub fields_at : Version → List ℕ → Option (Record × List ℕ)
-fields_at One bytes = made (λ x. is_sound (record_of x)) record_of (seq origin_at lists_at) bytes
+fields_at One bytes = made (λ x. is_sound (record_of x) && are_short (record_of x).outs) record_of (seq origin_at lists_at) bytes
 
 -- a length, and just so many bytes of fields
 unfoldable pub record_at : Version → List ℕ → Option (Record × List ℕ)
@@ -119,7 +123,7 @@ counts_at v bytes = seq (number_at 8) (seq (items_at (number_at 8) (senders v)) 
 
 -- its messages, outputs and pages
 unfoldable pub kept_at : List ℕ → Option ((List Due × (List Out × List Page)) × List ℕ)
-kept_at bytes = seq (sized 4 0xffff_ffff (items_at due_at)) (seq (sized 4 0xffff_ffff (items_at out_at)) (sized 2 4096 (items_at page_at))) bytes
+kept_at bytes = seq (sized 4 0xffff_ffff (items_at due_at)) (seq (sized 4 0xffff_ffff (items_at out_at)) (sized 2 0xffff (items_at page_at))) bytes
 
 abbrev pub base_of : (ℕ × (List ℕ × (List ℕ × ℕ))) × (List Due × (List Out × List Page)) → Base
 base_of x = record { stamp = x.0.0; consumed = x.0.1.0; sent = x.0.1.1.0; outputs = x.0.1.1.1; messages = x.1.0; outs = x.1.1.0; pages = x.1.1.1 }

@@ -15,7 +15,7 @@ use crate::field::{
 };
 use crate::page::Page;
 use crate::rising::rise;
-use ken_model::{Items, MAX_NODES, MAX_PAGES, Out};
+use ken_model::{Items, MAX_NODES, Out};
 use std::alloc::{AllocError, Global};
 
 /// Those whose messages a base counts: the nodes 0 to 7, and the outside.
@@ -23,6 +23,9 @@ pub const SENDERS: usize = 9;
 
 // The most messages, and the most outputs: their counts have four bytes.
 const MAX_KEPT: usize = 0xffff_ffff;
+
+// The most pages: their count has two bytes.
+const MOST_PAGES: usize = 0xffff;
 
 // The bytes of the fields before the lists.
 const COUNTS_LEN: usize = 152;
@@ -69,7 +72,7 @@ impl Base {
     {
         at_most(MAX_KEPT, self.messages.as_slice())
             && at_most(MAX_KEPT, self.outs.as_slice())
-            && at_most(MAX_PAGES as usize, self.pages.as_slice())
+            && at_most(MOST_PAGES, self.pages.as_slice())
     }
 
     // Whether its messages, outputs and pages rise strictly.
@@ -147,7 +150,7 @@ fn kept_front(alloc: Global, bytes: &[u8]) -> Result<(Kept, &[u8]), RecordFault>
 {
     let (messages, rest) = most_front(alloc, bytes)?;
     let (outs, rest) = most_front(alloc, rest)?;
-    let (pages, rest) = many_front(alloc, MAX_PAGES as usize, rest)?;
+    let (pages, rest) = many_front(alloc, MOST_PAGES, rest)?;
     Ok(((messages, (outs, pages)), rest))
 }
 

@@ -1,14 +1,17 @@
 // Numbers and byte strings at the front of bytes. What appends one leaves a front of its spelling where memory runs out.
 ghost use Rattle.std.specs.Prelude.{◌≡◌, ◌++◌, OnOk, OnErr};
 ghost use Rattle.ken_record.specs.Spelling.{number, text};
-ghost use Rattle.ken_record.specs.Grammar.{IsText};
+ghost use Rattle.ken_record.specs.Grammar.{FitsText};
 ghost use Rattle.ken_record.specs.Appending.{HasFront};
-ghost use Rattle.ken_record.specs.Reading.{Gives, number_at, part_at, text_at};
+ghost use Rattle.ken_record.specs.Reading.{Gives, number_at, part_at, text_at, long_text_at};
 
 use crate::RecordFault;
 use ken_model::{MAX_TEXT, Octets};
 use ken_num::{put_u8, put_u16, put_u32, put_u64, u8_at, u16_at, u32_at, u64_at};
 use std::alloc::{AllocError, Global};
+
+/// The most bytes of a text: its length has two bytes.
+pub(crate) const LONGEST: usize = 0xffff;
 
 #[tactic(auto, unfolding(crate::specs::Reading::number_at))]
 pub(crate) fn u8_front(bytes: &[u8]) -> Result<(u8, &[u8]), RecordFault>
@@ -61,6 +64,7 @@ pub(crate) fn part_front(bytes: &[u8], len: usize) -> Result<(&[u8], &[u8]), Rec
     Ok(bytes.split_at(len))
 }
 
+// A text of at most 512 bytes.
 #[tactic(auto, unfolding(crate::specs::Reading::text_at))]
 pub(crate) fn text_front(alloc: Global, bytes: &[u8]) -> Result<(Octets, &[u8]), RecordFault>
     ensures { Gives (λ x. (x.0, x.1.now)) result (text_at bytes.now) }
@@ -71,6 +75,16 @@ pub(crate) fn text_front(alloc: Global, bytes: &[u8]) -> Result<(Octets, &[u8]),
         return Err(RecordFault::Bad);
     }
     let (text, rest) = part_front(rest, len)?;
+    Ok((Octets::new(Vec::from_slice(alloc, text)?), rest))
+}
+
+// The same, of whatever length the two bytes tell.
+#[tactic(auto, unfolding(crate::specs::Reading::long_text_at))]
+pub(crate) fn long_text_front(alloc: Global, bytes: &[u8]) -> Result<(Octets, &[u8]), RecordFault>
+    ensures { Gives (λ x. (x.0, x.1.now)) result (long_text_at bytes.now) }
+{
+    let (len, rest) = u16_front(bytes)?;
+    let (text, rest) = part_front(rest, usize::from(len))?;
     Ok((Octets::new(Vec::from_slice(alloc, text)?), rest))
 }
 
@@ -116,7 +130,7 @@ pub(crate) fn put_part(out: &mut Vec<u8>, bytes: &[u8]) -> Result<(), AllocError
 
 #[tactic(auto, using(crate::proofs::Appended::appended))]
 pub(crate) fn put_text(out: &mut Vec<u8>, bytes: &[u8]) -> Result<(), AllocError>
-    requires { IsText bytes.now }
+    requires { FitsText bytes.now }
     ensures ok { OnOk result (out.new.items ≡ out.old.items ++ text bytes.now) }
     ensures err { OnErr result (HasFront out.old.items (text bytes.now) out.new.items) }
 {

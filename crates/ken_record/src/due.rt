@@ -1,13 +1,13 @@
 ghost use Rattle.std.specs.Prelude.{◌≡◌};
 ghost use Rattle.ken_record.specs.Spelling.{due};
-ghost use Rattle.ken_record.specs.Grammar.{IsDue, due_rank};
+ghost use Rattle.ken_record.specs.Grammar.{FitsDue, due_rank};
 ghost use Rattle.ken_record.specs.Reading.{due_at};
 
 use crate::RecordFault;
-use crate::bytes::{put_1, put_8, put_text, text_front, u8_front, u64_front};
+use crate::bytes::{LONGEST, long_text_front, put_1, put_8, put_text, u8_front, u64_front};
 use crate::field::Field;
 use crate::rising::Ranked;
-use ken_model::{MAX_TEXT, Octets};
+use ken_model::Octets;
 use std::alloc::{AllocError, Global};
 
 // One more than the greatest number of a message.
@@ -25,7 +25,7 @@ pub struct Due {
 }
 
 impl Field for Due {
-    ghost is = { IsDue };
+    ghost is = { FitsDue };
 
     ghost spell = { due };
 
@@ -36,7 +36,7 @@ impl Field for Due {
         let _to = self.to;
         let _number = self.number;
         let _stamp = self.stamp;
-        self.bytes.len() <= MAX_TEXT
+        self.bytes.len() <= LONGEST
     }
 
     #[tactic(auto, using(crate::proofs::Sizes::due_long))]
@@ -57,7 +57,7 @@ impl Field for Due {
         let (to, rest) = u8_front(bytes)?;
         let (number, rest) = u64_front(rest)?;
         let (stamp, rest) = u64_front(rest)?;
-        let (bytes, rest) = text_front(alloc, rest)?;
+        let (bytes, rest) = long_text_front(alloc, rest)?;
         Ok((
             Due {
                 to,

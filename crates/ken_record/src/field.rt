@@ -24,11 +24,11 @@ pub(crate) trait Field: Drop + Sized {
     fn fits(&self) -> bool
         ensures { IsTrue result ↔ is self.now };
 
-    // The length of its spelling, at most 1,024 bytes.
+    // The length of its spelling, at most 65,554 bytes.
     fn len(&self) -> usize
         requires { is self.now }
         ensures len { result ≡ length (spell self.now) }
-        ensures short { result ≤ 1024 };
+        ensures short { result ≤ 65554 };
 
     // Appends its spelling. After an error a front of it may stand behind the old bytes.
     fn put(&self, out: &mut Vec<u8>) -> Result<(), AllocError>
@@ -97,7 +97,7 @@ fn len_all<T: Field>(items: &[T]) -> usize
     requires few { length items.now < 2 ^ 32 }
     requires fit { AllByRecursion T.is items.now }
     ensures len { result ≡ length (flat_map T.spell items.now) }
-    ensures short { result ≤ 1024 * length items.now }
+    ensures short { result ≤ 65554 * length items.now }
 {
     let mut len = 0;
     for item in items {
@@ -113,7 +113,7 @@ pub(crate) fn counted_len<T: Field>(width: usize, items: &[T]) -> usize
     requires few { length items.now < 2 ^ 32 }
     requires fit { AllByRecursion T.is items.now }
     ensures len { result ≡ length (counted width T.spell items.now) }
-    ensures short { result ≤ 4 + 1024 * length items.now }
+    ensures short { result ≤ 4 + 65554 * length items.now }
 {
     width + len_all(items)
 }

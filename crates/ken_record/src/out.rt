@@ -1,18 +1,19 @@
 // An output, as an item of a list.
-ghost use Rattle.std.specs.Prelude.{◌≡◌};
+ghost use Rattle.std.specs.Prelude.{◌≡◌, ◌↔◌, IsTrue};
+ghost use Rattle.std.specs.List.{AllByRecursion};
 ghost use Rattle.ken_record.specs.Spelling.{out};
-ghost use Rattle.ken_record.specs.Grammar.{IsOut, out_rank, are_numbered};
+ghost use Rattle.ken_record.specs.Grammar.{FitsOut, IsOut, out_rank, are_numbered, are_short};
 ghost use Rattle.ken_record.specs.Reading.{out_at};
 
 use crate::RecordFault;
-use crate::bytes::{put_8, put_text, text_front, u64_front};
+use crate::bytes::{LONGEST, long_text_front, put_8, put_text, u64_front};
 use crate::field::Field;
 use crate::rising::Ranked;
 use ken_model::{MAX_TEXT, Out};
 use std::alloc::{AllocError, Global};
 
 impl Field for Out {
-    ghost is = { IsOut };
+    ghost is = { FitsOut };
 
     ghost spell = { out };
 
@@ -20,7 +21,7 @@ impl Field for Out {
 
     fn fits(&self) -> bool {
         let _any = self.number;
-        self.text.len() <= MAX_TEXT
+        self.text.len() <= LONGEST
     }
 
     #[tactic(auto, using(crate::proofs::Sizes::out_long))]
@@ -37,7 +38,7 @@ impl Field for Out {
     #[tactic(auto, unfolding(crate::specs::Reading::out_at))]
     fn read(alloc: Global, bytes: &[u8]) -> Result<(Self, &[u8]), RecordFault> {
         let (number, rest) = u64_front(bytes)?;
-        let (text, rest) = text_front(alloc, rest)?;
+        let (text, rest) = long_text_front(alloc, rest)?;
         Ok((Out { number, text }, rest))
     }
 }
@@ -56,6 +57,21 @@ pub(crate) fn are_numbered(outs: &[Out]) -> bool
 {
     for out in outs {
         if out.number == 0 {
+            return false;
+        }
+    }
+    true
+}
+
+// Whether none has a text of more than 512 bytes.
+pub(crate) fn are_short(outs: &[Out]) -> bool
+    ensures test { result ≡ are_short outs.now }
+    ensures each { IsTrue result ↔ AllByRecursion IsOut outs.now }
+{
+    for out in outs {
+        // What is read is in its type's range.
+        let _number = out.number;
+        if out.text.len() > MAX_TEXT {
             return false;
         }
     }

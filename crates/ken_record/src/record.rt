@@ -8,7 +8,7 @@ ghost use Rattle.ken_record.specs.Reading.{Gives, origin_at, lists_at, fields_at
 use crate::RecordFault;
 use crate::bytes::{part_front, put_1, put_4, put_8, u8_front, u32_front, u64_front};
 use crate::field::{at_most, counted_len, few_front, many_front, put_few, put_many};
-use crate::out::are_numbered;
+use crate::out::{are_numbered, are_short};
 use crate::page::Page;
 use crate::rising::rise;
 use crate::sent::Sent;
@@ -75,7 +75,8 @@ impl Record {
     {
         at_most(MAX_DRAWS, self.draws.as_slice())
             && at_most(MAX_SENDS, self.sends.as_slice())
-            && at_most(MAX_OUTS, self.outs.as_slice())
+            && self.outs.len() <= MAX_OUTS
+            && are_short(self.outs.as_slice())
             && at_most(MAX_PAGES as usize, self.pages.as_slice())
     }
 
@@ -186,7 +187,7 @@ fn fields_front(alloc: Global, bytes: &[u8]) -> Result<(Record, &[u8]), RecordFa
         outs,
         pages,
     };
-    if read.is_sound() {
+    if read.is_sound() && are_short(read.outs.as_slice()) {
         Ok((read, rest))
     } else {
         Err(RecordFault::Bad)

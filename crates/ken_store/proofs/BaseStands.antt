@@ -13,13 +13,13 @@ use Rattle.ken_record.specs.declared.due.Due.{Due}
 use Rattle.ken_record.specs.declared.header.Header.{Header}
 use Rattle.ken_record.specs.declared.record.Record.{Record}
 use Rattle.ken_record.specs.declared.sent.Sent.{Sent}
-use Rattle.ken_record.specs.Grammar.{IsWord, IsSent, IsDue, IsOut, IsRecord, IsBase}
+use Rattle.ken_record.specs.Grammar.{IsWord, IsSent, FitsDue, IsDue, FitsOut, IsOut, IsRecord, IsBase}
 use Rattle.ken_record.specs.Spelling.{record_bytes}
 use Rattle.ken_record.specs.Versions.{One}
 use Rattle.ken_log.specs.Layout.{IsHead}
 use Rattle.ken_store.specs.declared.numbers.Numbers.{Numbers}
 use Rattle.ken_store.specs.declared.owner.Owner.{Owner}
-use Rattle.ken_store.specs.Bases.{base_numbers, are_unused, goes_on, messages_follow, last_after, reach, messages_stand, outs_stand, counts_stand, base_stands}
+use Rattle.ken_store.specs.Bases.{base_numbers, are_unused, goes_on, messages_follow, last_after, reach, messages_stand, outs_stand, counts_stand, is_short_due, is_short_out, texts_stand, base_stands}
 use Rattle.ken_store.specs.Kept.{record_outs, outs_in}
 use Rattle.ken_store.specs.Numbers.{no_numbers, sender_index, sends_follow, sent_after, outs_follow, outputs_after, are_within, comes_next, follows, after_record, after_records}
 use Rattle.ken_store.specs.Recovered.{numbers_from, numbers_of}
@@ -39,7 +39,7 @@ less a b is = grind (arith, nat_tests)
 pub is_less : (a b : ℕ) → a < b → nat_lt a b ≡ true
 is_less a b is = grind (arith, nat_tests)
 
-at_most : (a b : ℕ) → nat_le a b ≡ true → a ≤ b
+pub at_most : (a b : ℕ) → nat_le a b ≡ true → a ≤ b
 at_most a b is = grind (arith, nat_tests)
 
 pub is_most : (a b : ℕ) → a ≤ b → nat_le a b ≡ true
@@ -47,6 +47,37 @@ is_most a b is = grind (arith, nat_tests)
 
 pub equal : (a b : ℕ) → eqb a b ≡ true → a ≡ b
 equal a b is = grind (arith, nat_tests)
+
+-- ---- texts of a base that stands
+
+pub short_dues : (ms : List Due) → AllByRecursion FitsDue ms → list_all is_short_due ms ≡ true → AllByRecursion IsDue ms
+short_dues [] fits short = tt
+short_dues (m ∷ ms) fits short =
+    let two = and_true (is_short_due m) (list_all is_short_due ms) short in
+    (record { to = fits.0.to; number = fits.0.number; stamp = fits.0.stamp; bytes = at_most (length m.bytes) 512 two.0 }, short_dues ms fits.1 two.1)
+
+short_outs : (os : List Out) → AllByRecursion FitsOut os → list_all is_short_out os ≡ true → AllByRecursion IsOut os
+short_outs [] fits short = tt
+short_outs (o ∷ os) fits short =
+    let two = and_true (is_short_out o) (list_all is_short_out os) short in
+    (record { number = fits.0.number; text = at_most (length o.text) 512 two.0 }, short_outs os fits.1 two.1)
+
+-- and of one that a node writes
+pub dues_fit : (ms : List Due) → AllByRecursion IsDue ms → AllByRecursion FitsDue ms × (list_all is_short_due ms ≡ true)
+dues_fit [] are = (tt, refl)
+dues_fit (m ∷ ms) are =
+    let rest = dues_fit ms are.1 in (
+      (record { to = are.0.to; number = are.0.number; stamp = are.0.stamp; bytes = omega (arith, are.0.bytes) }, rest.0),
+      both (is_short_due m) (list_all is_short_due ms) (is_most (length m.bytes) 512 are.0.bytes) rest.1,
+    )
+
+pub outs_fit : (os : List Out) → AllByRecursion IsOut os → AllByRecursion FitsOut os × (list_all is_short_out os ≡ true)
+outs_fit [] are = (tt, refl)
+outs_fit (o ∷ os) are =
+    let rest = outs_fit os are.1 in (
+      (record { number = are.0.number; text = omega (arith, are.0.text) }, rest.0),
+      both (is_short_out o) (list_all is_short_out os) (is_most (length o.text) 512 are.0.text) rest.1,
+    )
 
 -- ---- numbers that go on by one
 
@@ -458,7 +489,9 @@ module _ (o : Owner) (eight : o.nodes ≤ 8) where
 
   base_stand : (head : Header) (b : Base) → head.turns < 2 ^ 64 → IsBase One b → base_stands o head b ≡ true → Standing o (base_numbers head b) b.messages b.outs
   base_stand head b small fits is =
-      let first = and_true (counts_stand o head b && are_within o.pages b.pages && messages_stand o.nodes b) (outs_stand b.outputs b.outs) is in
+      let texts = and_true (counts_stand o head b && are_within o.pages b.pages && messages_stand o.nodes b && outs_stand b.outputs b.outs) (texts_stand b) is in
+      let short = and_true (list_all is_short_due b.messages) (list_all is_short_out b.outs) texts.1 in
+      let first = and_true (counts_stand o head b && are_within o.pages b.pages && messages_stand o.nodes b) (outs_stand b.outputs b.outs) texts.0 in
       let second = and_true (counts_stand o head b && are_within o.pages b.pages) (messages_stand o.nodes b) first.0 in
       let third = and_true (counts_stand o head b) (are_within o.pages b.pages) second.0 in
       let messages = and_true (messages_follow o.nodes b.stamp (replicate 8 0) b.messages) (reach (last_after (replicate 8 0) b.messages) b.sent) second.1 in
@@ -482,7 +515,7 @@ module _ (o : Owner) (eight : o.nodes ≤ 8) where
           unused = unused.1;
           words = fits.counts.1.0;
           each = follow.each;
-          dues = fits.kept.0.1;
+          dues = short_dues b.messages fits.kept.0.1 short.0;
           links = λ i lt.
               let at : slice_index_or (last_after (replicate 8 0) b.messages) i 0 ≡ last_of 0 (numbers_to i b.messages) = last_after-at o.nodes b.stamp eight (replicate 8 0) b.messages i zeros follow.each ∙ ap (λ (k : ℕ). last_of k (numbers_to i b.messages)) (zeros_at 8 i) in
               record {
@@ -490,7 +523,7 @@ module _ (o : Owner) (eight : o.nodes ≤ 8) where
                 ends = subst (λ (k : ℕ). (k ≡ 0) ⊎ (k ≡ slice_index_or b.sent i 0)) at (reach_is (last_after (replicate 8 0) b.messages) b.sent (last_long ∙ sym sent_long) messages.1 i (omega (arith, last_long, lt)));
               };
         };
-        outs = outs_of_base b.outputs b.outs fits.outputs fits.kept.1.1 first.1;
+        outs = outs_of_base b.outputs b.outs fits.outputs (short_outs b.outs fits.kept.1.1 short.1) first.1;
       }
 
   module _ (n : Numbers) where

@@ -1,7 +1,7 @@
 -- The base that a log goes over to stands behind the next header, and tells the same.
 use Rattle.std.proofs.Common.{◌≡◌, ℕ, ◌+◌, ◌*◌, ◌<◌, ◌≤◌, ◌^◌, suc, zero, List, [], ◌∷◌, ◌++◌, length, map, cond, eqb, leb, Bool, true, false, ◌&&◌, Option, Some, None, refl, sym, ap, subst, ◌∙◌, arith, inl, inr, ◌⊎◌, ⊎_elim, length-append, eq-eqb, ne_eqb, append-nil}
 use Rattle.std.specs.Prelude.{if◌then◌else◌, ◌==◌, nat_lt, nat_le, slice_index, slice_index_or, sum, replicate}
-use Rattle.std.specs.List.{AllByRecursion, filter, flat_map, range_with_len}
+use Rattle.std.specs.List.{AllByRecursion, filter, flat_map, list_all, range_with_len}
 use Rattle.std.proofs.lemmas.Bool.{cases_eq}
 use Rattle.std.proofs.lemmas.Bool.Decides.{nat_tests}
 use Rattle.std.proofs.lemmas.List.{map-append}
@@ -15,7 +15,7 @@ use Rattle.ken_record.specs.declared.header.Header.{Header}
 use Rattle.ken_record.specs.declared.page.Page.{Page}
 use Rattle.ken_record.specs.declared.record.Record.{Record}
 use Rattle.ken_record.specs.declared.sent.Sent.{Sent}
-use Rattle.ken_record.specs.Grammar.{IsWord, IsDue, IsOut, IsPage, IsBase, rise_from, due_rank, out_rank, page_rank}
+use Rattle.ken_record.specs.Grammar.{IsWord, FitsDue, IsDue, FitsOut, IsOut, IsPage, IsBase, rise_from, due_rank, out_rank, page_rank}
 use Rattle.ken_record.specs.Spelling.{number, counted, due, out, page, counts, kept, base_bytes}
 use Rattle.ken_record.specs.Versions.{One}
 use Rattle.ken_record.proofs.Sizes.{due_long, out_long}
@@ -25,12 +25,12 @@ use Rattle.ken_cover.specs.Sides.{TurnPages, last_change, stays, base_change, ba
 use Rattle.ken_cover.proofs.Bases.{AreOwn-base, AreWithin-own}
 use Rattle.ken_store.specs.declared.numbers.Numbers.{Numbers}
 use Rattle.ken_store.specs.declared.owner.Owner.{Owner}
-use Rattle.ken_store.specs.Bases.{are_unused, messages_follow, last_after, reach, messages_stand, outs_stand, counts_stand, base_stands}
+use Rattle.ken_store.specs.Bases.{are_unused, messages_follow, last_after, reach, messages_stand, outs_stand, counts_stand, is_short_due, is_short_out, texts_stand, base_stands}
 use Rattle.ken_store.specs.Kept.{message_due, due_to, sent_to, message_sent, messages_to, messages_in, base_messages}
 use Rattle.ken_store.specs.Numbers.{are_within, outs_follow, outputs_after}
 use Rattle.ken_store.specs.Turnovers.{due_of, record_dues, dues_in, is_due, unacked_to, all_due, outs_above, page_in}
 use Rattle.ken_store.proofs.Sealing.{all_within, are_pages}
-use Rattle.ken_store.proofs.BaseStands.{and_true, both, is_less, is_most, Runs, last_of, above_to, goes_to, due_number, numbers_to, IsSoundDue, Follow, from_follow, length-last_after, last_after-at, is_reach, zeros_at, RunsTo, out_numbers, Standing}
+use Rattle.ken_store.proofs.BaseStands.{and_true, both, dues_fit, outs_fit, is_less, is_most, Runs, last_of, above_to, goes_to, due_number, numbers_to, IsSoundDue, Follow, from_follow, length-last_after, last_after-at, is_reach, zeros_at, RunsTo, out_numbers, Standing}
 
 -- ---- messages of a list, by the node that they go to
 
@@ -162,7 +162,10 @@ module _ (o : Owner) (eight : o.nodes ≤ 8) (n : Numbers) (ms : List Due) (os :
       let outputs : nat_le n.outputs (16 * head.turns) ≡ true = is_most n.outputs (16 * head.turns) (omega (arith, turns, is.most_outputs)) in
       let sent : nat_le (sum n.sent) (16 * head.turns) ≡ true = is_most (sum n.sent) (16 * head.turns) (omega (arith, turns, is.most_sent)) in
       let b : Base = record { stamp = n.stamp; consumed = n.consumed; sent = n.sent; outputs = n.outputs; messages = all_due acked ms; outs = outs_above emitted os; pages = pages } in
-      both (counts_stand o head b && are_within o.pages pages && messages_stand o.nodes b) (outs_stand n.outputs (outs_above emitted os))
+      let short_dues = (dues_fit (all_due acked ms) (all_groups IsDue (unacked_to acked ms) (λ i. all_filter IsDue (is_due acked i) ms is.sends.dues) 0 8)).1 in
+      let short_outs = (outs_fit (outs_above emitted os) (all_filter IsOut (λ (x : Out). nat_lt emitted x.number) os is.outs.each)).1 in
+      both (counts_stand o head b && are_within o.pages pages && messages_stand o.nodes b && outs_stand n.outputs (outs_above emitted os)) (texts_stand b)
+      (both (counts_stand o head b && are_within o.pages pages && messages_stand o.nodes b) (outs_stand n.outputs (outs_above emitted os))
       (both (counts_stand o head b && are_within o.pages pages) (messages_stand o.nodes b)
       (both (counts_stand o head b) (are_within o.pages pages)
       (both (are_unused o.nodes n.consumed && are_unused o.nodes n.sent && nat_le n.outputs (16 * head.turns)) (nat_le (sum n.sent) (16 * head.turns))
@@ -174,7 +177,8 @@ module _ (o : Owner) (eight : o.nodes ≤ 8) (n : Numbers) (ms : List Due) (os :
       (both (messages_follow o.nodes n.stamp (replicate 8 0) (all_due acked ms)) (reach (last_after (replicate 8 0) (all_due acked ms)) n.sent)
       (from_follow o.nodes n.stamp eight (replicate 8 0) (all_due acked ms) refl follow_due)
       reach_due))
-      (outs_do_stand n.outputs (outs_above emitted os) outs_due)
+      (outs_do_stand n.outputs (outs_above emitted os) outs_due))
+      (both (list_all is_short_due (all_due acked ms)) (list_all is_short_out (outs_above emitted os)) short_dues short_outs)
 
 -- ---- it is one of the grammar
 
@@ -315,8 +319,8 @@ module _ (o : Owner) (eight : o.nodes ≤ 8) (most : o.pages ≤ 4096) (n : Numb
         outputs = subst IsWord (sym (ap (λ (x : Base). x.outputs) same)) is.outs.word;
         counts = rw (ap (λ (x : Base). x.consumed) same, ap (λ (x : Base). x.sent) same) ((is.consumed_words, is.consumed_long), (is.sends.words, is.sends.long));
         kept = (
-          (omega (arith, long.0, short), subst (AllByRecursion IsDue) (sym messages) (all_groups IsDue (unacked_to acked ms) (λ i. all_filter IsDue (is_due acked i) ms is.sends.dues) 0 8)),
-          (omega (arith, long.1, short), subst (AllByRecursion IsOut) (sym outs) (all_filter IsOut (λ (x : Out). nat_lt emitted x.number) os is.outs.each)),
+          (omega (arith, long.0, short), subst (AllByRecursion FitsDue) (sym messages) (dues_fit (all_due acked ms) (all_groups IsDue (unacked_to acked ms) (λ i. all_filter IsDue (is_due acked i) ms is.sends.dues) 0 8)).0),
+          (omega (arith, long.1, short), subst (AllByRecursion FitsOut) (sym outs) (outs_fit (outs_above emitted os) (all_filter IsOut (λ (x : Out). nat_lt emitted x.number) os is.outs.each)).0),
           (omega (arith, ap length pages, few), subst (AllByRecursion IsPage) (sym pages) (are_pages o.pages (map page_in (base_changes o.pages settled t)) most within)),
         );
         rising = both (rise_from due_rank 0 b.messages && rise_from out_rank 0 b.outs) (rise_from page_rank 0 b.pages)

@@ -35,7 +35,7 @@ use Rattle.ken_store.specs.declared.store.Recovered.{Recovered}
 use Rattle.ken_store.specs.declared.store.Recovered.TheVariants as found
 use Rattle.ken_store.specs.Logs.{front_of, logs_of, log_on, may_own}
 use Rattle.ken_store.specs.Numbers.{no_numbers, are_within, follows, after_record, after_records}
-use Rattle.ken_store.specs.Bases.{base_numbers, base_stands, counts_stand, messages_stand, outs_stand}
+use Rattle.ken_store.specs.Bases.{base_numbers, base_stands, counts_stand, messages_stand, outs_stand, texts_stand}
 use Rattle.ken_store.specs.Kept.{base_pages, HasPagesWithin}
 use Rattle.ken_store.specs.Reads.{AreSame}
 use Rattle.ken_store.specs.Recovered.{Recovery, Whole, Broken, IsRefusedAt, numbers_from, numbers_of, with_numbers, checked, with_value, with_image, heap_of}
@@ -79,7 +79,8 @@ pub record PagesFit (o : Owner) (base : Option Base) (records : List Record) : T
 
 base_within : (o : Owner) (head : Header) (b : Base) → base_stands o head b ≡ true → IsBase One b → AreWithin o.pages b.pages
 base_within o head b test is =
-    let first = and_true (counts_stand o head b && are_within o.pages b.pages && messages_stand o.nodes b) (outs_stand b.outputs b.outs) test in
+    let texts = and_true (counts_stand o head b && are_within o.pages b.pages && messages_stand o.nodes b && outs_stand b.outputs b.outs) (texts_stand b) test in
+    let first = and_true (counts_stand o head b && are_within o.pages b.pages && messages_stand o.nodes b) (outs_stand b.outputs b.outs) texts.0 in
     let second = and_true (counts_stand o head b && are_within o.pages b.pages) (messages_stand o.nodes b) first.0 in
     within_pages o.pages b.pages (and_true (counts_stand o head b) (are_within o.pages b.pages) second.0).1 is.kept.2.1
 

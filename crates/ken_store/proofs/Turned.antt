@@ -18,7 +18,7 @@ use Rattle.ken_record.specs.declared.base.Base.{Base}
 use Rattle.ken_record.specs.declared.header.Header.{Header}
 use Rattle.ken_record.specs.declared.page.Page.{Page}
 use Rattle.ken_record.specs.declared.record.Record.{Record}
-use Rattle.ken_record.specs.Grammar.{IsRecord, IsBase}
+use Rattle.ken_record.specs.Grammar.{IsDue, IsOut, IsRecord, IsBase}
 use Rattle.ken_record.specs.Spelling.{base_bytes}
 use Rattle.ken_record.specs.Versions.{One}
 use Rattle.ken_log.specs.declared.faults.SealFault.{SealFault}
@@ -47,12 +47,12 @@ use Rattle.ken_store.specs.declared.numbers.Numbers.{Numbers}
 use Rattle.ken_store.specs.declared.owner.Owner.{Owner}
 use Rattle.ken_store.specs.declared.turning.TurnSide.{TurnSide}
 use Rattle.ken_store.specs.Bases.{base_numbers, base_stands}
-use Rattle.ken_store.specs.Kept.{base_pages, HasPagesWithin, messages_in, outs_in, pages_in}
+use Rattle.ken_store.specs.Kept.{base_messages, base_outs, base_pages, record_outs, HasPagesWithin, messages_in, outs_in, pages_in}
 use Rattle.ken_store.specs.Logs.{front_of}
 use Rattle.ken_store.specs.Reads.{of_seal}
 use Rattle.ken_store.specs.Recovered.{numbers_from, numbers_of, state_of, with_numbers}
 use Rattle.ken_store.specs.Turning.{Turning, IsPassed, PassesOver, changed_in, record_layer, live_layers, sealed_bytes, turn_pages, state_in, log_answer}
-use Rattle.ken_store.specs.Turnovers.{dues_in, outs_above, is_waiting, page_in, turn_in, changes_kept, base_of, without_told, IsUnturned, ReplacesOn}
+use Rattle.ken_store.specs.Turnovers.{record_dues, dues_in, outs_above, is_waiting, page_in, turn_in, changes_kept, base_of, without_told, IsUnturned, ReplacesOn}
 use Rattle.ken_store.proofs.Lasts.{changes_in}
 use Rattle.ken_store.proofs.Mounted.{front_none, front_whole}
 use Rattle.ken_store.proofs.NextBase.{next_fits, next_stands, messages_waiting}
@@ -99,12 +99,23 @@ kept_is g side settled last items long idle tells is =
 
 -- ---- the base
 
+all_front : {A : Type 0} (P : A → Type 0) (xs ys : List A) → AllByRecursion P (xs ++ ys) → AllByRecursion P xs
+all_front P [] ys all = tt
+all_front P (x ∷ xs) ys all = (all.0, all_front P xs ys all.1)
+
 module _ {D : Type 0} (told : D → Option Story) (size : D → ℕ) (side : TurnSide D) (is : Turning told size side) where
   pub side_stands : Standing side.owner side.numbers (dues_in side.log.base side.records.items) (outs_in side.log.base side.records.items) × (side.numbers.turns ≡ side.log.header.turns + length side.records.items)
   side_stands = log_stands side.owner eight side.numbers side.log.header side.log.base side.records.items is.log.header is.items is.numbers
     where
       eight : side.owner.nodes ≤ 8
       eight = is.owner.nodes
+
+  -- the texts of its base are short, as those of its records are
+  pub base_dues : AllByRecursion IsDue (base_messages side.log.base)
+  base_dues = all_front IsDue (base_messages side.log.base) (flat_map record_dues side.records.items) side_stands.0.sends.dues
+
+  pub base_outputs : AllByRecursion IsOut (base_outs side.log.base)
+  base_outputs = all_front IsOut (base_outs side.log.base) (flat_map record_outs side.records.items) side_stands.0.outs.each
 
   pub base_fits : (settled : ℕ) (acked : List ℕ) (emitted : ℕ) → side.objects.begun ≡ None → length (base_bytes One (base_of side settled acked emitted)) < 2 ^ 32 → IsBase One (base_of side settled acked emitted)
   base_fits settled acked emitted idle short =

@@ -1,5 +1,5 @@
 -- Which base a recovery doesn't refuse, and the numbers that it tells.
-use Rattle.std.specs.Prelude.{ℕ, ◌+◌, ◌-◌, ◌*◌, ◌==◌, ◌&&◌, ◌||◌, nat_lt, nat_le, List, [], ◌∷◌, take, drop, replicate, sum, slice_index_or, slice_set, Bool, true}
+use Rattle.std.specs.Prelude.{ℕ, ◌+◌, ◌-◌, ◌*◌, ◌==◌, ◌&&◌, ◌||◌, nat_lt, nat_le, List, [], ◌∷◌, length, take, drop, replicate, sum, slice_index_or, slice_set, Bool, true}
 use Rattle.std.specs.List.{list_all, zip}
 use Rattle.ken_model.specs.declared.messages.Out.{Out}
 use Rattle.ken_record.specs.declared.due.Due.{Due}
@@ -47,6 +47,16 @@ outs_stand outputs (o ∷ os) = nat_lt 0 o.number && (outs_follow o.number os &&
 abbrev pub counts_stand : Owner → Header → Base → Bool
 counts_stand o head b = are_unused o.nodes b.consumed && are_unused o.nodes b.sent && nat_le b.outputs (16 * head.turns) && nat_le (sum b.sent) (16 * head.turns)
 
+-- no message and no output has more than 512 bytes
+abbrev pub is_short_due : Due → Bool
+is_short_due m = nat_le (length m.bytes) 512
+
+abbrev pub is_short_out : Out → Bool
+is_short_out o = nat_le (length o.text) 512
+
+abbrev pub texts_stand : Base → Bool
+texts_stand b = list_all is_short_due b.messages && list_all is_short_out b.outs
+
 -- a base that a recovery doesn't refuse
 abbrev pub base_stands : Owner → Header → Base → Bool
-base_stands o head b = counts_stand o head b && are_within o.pages b.pages && messages_stand o.nodes b && outs_stand b.outputs b.outs
+base_stands o head b = counts_stand o head b && are_within o.pages b.pages && messages_stand o.nodes b && outs_stand b.outputs b.outs && texts_stand b

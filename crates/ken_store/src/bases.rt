@@ -1,11 +1,12 @@
 // Which base a recovery doesn't refuse.
 ghost use Rattle.std.specs.Prelude.{◌≡◌, ◌==◌, ◌&&◌, ◌≤◌, nat_le, sum, IsTrue};
+ghost use Rattle.std.specs.List.{list_all};
 ghost use Rattle.ken_store.specs.Numbers.{outs_follow, outputs_after};
-ghost use Rattle.ken_store.specs.Bases.{are_unused, messages_follow, last_after, reach, messages_stand, outs_stand, counts_stand, base_stands, goes_on};
+ghost use Rattle.ken_store.specs.Bases.{are_unused, messages_follow, last_after, reach, messages_stand, outs_stand, counts_stand, is_short_due, is_short_out, texts_stand, base_stands, goes_on};
 
 use crate::numbers::{NODES, are_within, is_next, take_outs};
 use crate::owner::Owner;
-use ken_model::Out;
+use ken_model::{MAX_TEXT, Out};
 use ken_record::{Base, Due, Header};
 
 // The most messages, and the most outputs, of a turn.
@@ -20,6 +21,7 @@ pub(crate) fn base_stands(owner: &Owner, header: &Header, base: &Base) -> bool
         && are_within(owner.pages, base.pages.as_slice())
         && messages_stand(owner.nodes, base)
         && outs_stand(base.outputs, base.outs.as_slice())
+        && texts_stand(base)
 }
 
 fn counts_stand(owner: &Owner, header: &Header, base: &Base) -> bool
@@ -121,4 +123,25 @@ fn reach_output(first: u64, last: u64, outs: &[Out]) -> bool
 {
     let mut reached = first;
     take_outs(&mut reached, outs) && reached == last
+}
+
+// Whether no message and no output has more than 512 bytes.
+fn texts_stand(base: &Base) -> bool
+    ensures { result ≡ texts_stand base.now }
+{
+    messages_are_short(base.messages.as_slice()) && outs_are_short(base.outs.as_slice())
+}
+
+fn messages_are_short(messages: &[Due]) -> bool
+    ensures { result ≡ list_all is_short_due messages.now }
+{
+    messages
+        .iter()
+        .all(|message| message.bytes.len() <= MAX_TEXT)
+}
+
+fn outs_are_short(outs: &[Out]) -> bool
+    ensures { result ≡ list_all is_short_out outs.now }
+{
+    outs.iter().all(|out| out.text.len() <= MAX_TEXT)
 }

@@ -21,3 +21,5 @@ mod heaps;
 mod plays;
 #[cfg(test)]
 mod recoveries;
+#[cfg(test)]
+mod texts;

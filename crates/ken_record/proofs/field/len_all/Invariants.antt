@@ -3,4 +3,4 @@ use Rattle.std.specs.List.{flat_map}
 use Rattle.ken_record.proofs.field.len_all.Given as goal
 
 abbrev pub invariant-loop-item : goal.invariant-loop-item
-invariant-loop-item g l = (l.len ≡ length (flat_map g.T.Field.spell (take l.item-index l.items))) × (l.len ≤ 1024 * l.item-index)
+invariant-loop-item g l = (l.len ≡ length (flat_map g.T.Field.spell (take l.item-index l.items))) × (l.len ≤ 65554 * l.item-index)

@@ -8,8 +8,14 @@ use Rattle.ken_cover.proofs.Bases.{AreOwn-base, AreWithin-own}
 use Rattle.ken_store.specs.Turning.{turn_pages}
 use Rattle.ken_store.specs.Turnovers.{base_of, page_in, changes_kept}
 use Rattle.ken_store.proofs.Sizing.{base_size, heap_long, length-pages, sized}
-use Rattle.ken_store.proofs.Turned.{side_stands}
+use Rattle.ken_store.proofs.Turned.{base_dues, base_outputs, side_stands}
 use Rattle.ken_store.proofs.turning.TurnSide.base_size.Goals as goal
+
+pub due_size-messages-requires-clause-base : goal.due_size-messages-requires-clause-base
+due_size-messages-requires-clause-base g c = rw c.base_messages.ensures (base_dues g.D.Disk.told g.D.Disk.size c.args.self.now c.requires.turning)
+
+pub outs_size-outs-requires-clause-base : goal.outs_size-outs-requires-clause-base
+outs_size-outs-requires-clause-base g c = rw c.base_outs.ensures (base_outputs g.D.Disk.told g.D.Disk.size c.args.self.now c.requires.turning)
 
 pub returns : goal.returns
 returns g c =

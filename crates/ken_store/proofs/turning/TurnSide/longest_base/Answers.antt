@@ -10,8 +10,14 @@ use Rattle.ken_store.specs.Turning.{turn_pages}
 use Rattle.ken_store.specs.Turnovers.{base_of, page_in, changes_kept}
 use Rattle.ken_store.proofs.Longest.{changes-few}
 use Rattle.ken_store.proofs.Sizing.{base_size, heap_long, length-pages}
-use Rattle.ken_store.proofs.Turned.{side_stands}
+use Rattle.ken_store.proofs.Turned.{base_dues, base_outputs, side_stands}
 use Rattle.ken_store.proofs.turning.TurnSide.longest_base.Goals as goal
+
+pub longest_dues-messages-requires-clause-base : goal.longest_dues-messages-requires-clause-base
+longest_dues-messages-requires-clause-base g c = rw c.base_messages.ensures (base_dues g.D.Disk.told g.D.Disk.size c.args.self.now c.requires.turning)
+
+pub longest_outs-outs-requires-clause-base : goal.longest_outs-outs-requires-clause-base
+longest_outs-outs-requires-clause-base g c = rw c.base_outs.ensures (base_outputs g.D.Disk.told g.D.Disk.size c.args.self.now c.requires.turning)
 
 pub returns : goal.returns
 returns g c = λ settled acked emitted.
