@@ -15,7 +15,8 @@ use Rattle.ken_cover.proofs.Bases.{pages_of-with_pages, pages_of-recounted}
 use Rattle.ken_cover.proofs.Newest.{AreWithin-append}
 use Rattle.ken_image.specs.Whole.{IsWhole, Keeps}
 use Rattle.ken_store.specs.declared.store.Store.{Store}
-use Rattle.ken_store.specs.Ahead.{ahead_layers, page_layers, record_layers}
+use Rattle.ken_store.specs.declared.patching.Origin.TheVariants.{Base}
+use Rattle.ken_store.specs.Ahead.{ahead_layers, origins, page_layers, page_origins, record_layers, record_origins}
 use Rattle.ken_store.specs.Kept.{base_pages, record_pages, pages_in, HasPagesWithin}
 use Rattle.ken_store.specs.Patching.{HoldsImage, IsInOrder, TakesPatches, Patching}
 use Rattle.ken_store.specs.PatchLaws.{IsAheadOf, LastChangedBefore}
@@ -113,5 +114,5 @@ module _ {D : Type 0} (told : D → Option Story) (size : D → ℕ) (store : St
       before = before;
     }
 
-  pub ready : (state : State) → state ≡ state_in store.turns → IsReadyStore told size store.turns.owner store state
-  ready state tells = record { takes = takes; owner = refl; idle = idle; tells = tells; again = λ h is i shut holds. stands h is i shut holds; counted = turns }
+  pub ready : (state : State) → state ≡ state_in store.turns → origins store.patches.ahead.items ≡ page_origins Base (base_pages store.turns.log.base) ++ record_origins store.turns.records.items → IsReadyStore told size store.turns.owner store state
+  ready state tells first = record { takes = takes; owner = refl; idle = idle; tells = tells; again = λ h is i shut holds. stands h is i shut holds; counted = turns; ahead = first }

@@ -57,3 +57,14 @@ page_layers turn pages = onto turn (changes_at turn pages) []
 -- those of records
 abbrev pub record_layers : List records.Record → List Layer
 record_layers rs = flat_map (λ (r : records.Record). page_layers r.turn r.pages) rs
+
+-- whose pages they are: the base's come first, exactly where it has some, and then each record's that has some
+abbrev pub origins : List Ahead → List Origin
+origins items = map (λ (a : Ahead). a.origin) items
+
+abbrev pub page_origins : Origin → List Page → List Origin
+page_origins origin [] = []
+page_origins origin (e ∷ es) = origin ∷ []
+
+abbrev pub record_origins : List records.Record → List Origin
+record_origins rs = flat_map (λ (r : records.Record). page_origins Record r.pages) rs

@@ -152,6 +152,11 @@ GoesOnBy (Ok true) old new = GoesOn old new
 GoesOnBy (Ok false) old new = new ≡ old
 GoesOnBy (Err fault) old new = new ≡ old
 
+-- what is ahead, and the last turn that is known, are as before
+pub record KeepsAhead {D : Type 0} (old new : PatchSide D) : Type 0 where
+  pub items : new.ahead.items ≡ old.ahead.items
+  pub known : new.known ≡ old.known
+
 -- a record's pages are to patch after all others; one without pages adds nothing
 pub record IsRecordOf (turn : ℕ) (pages : List Page) (a : Ahead) : Type 0 where
   pub turn_is : a.turn ≡ turn

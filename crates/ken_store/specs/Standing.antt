@@ -20,7 +20,9 @@ use Rattle.ken_store.specs.declared.faults.StoreFault.{StoreFault}
 use Rattle.ken_store.specs.declared.store.Recovered.{Recovered}
 use Rattle.ken_store.specs.declared.store.Recovered.TheVariants as found
 use Rattle.ken_store.specs.Answers.{TellsAll, AreAtRest, AreUnformatted}
-use Rattle.ken_store.specs.Patching.{HoldsImage, TakesPatches, Patching}
+use Rattle.ken_store.specs.declared.patching.Origin.TheVariants as origin
+use Rattle.ken_store.specs.Ahead.{origins, page_origins, record_origins}
+use Rattle.ken_store.specs.Patching.{Grows, HoldsImage, TakesPatches, Patching}
 use Rattle.ken_store.specs.PatchLaws.{IsAheadOf, LastChangedBefore}
 use Rattle.ken_store.specs.Kept.{base_pages}
 use Rattle.ken_store.specs.Numbers.{after_record}
@@ -61,6 +63,8 @@ pub record IsReadyStore {D : Type 0} (told : D → Option Story) (size : D → �
   pub again : StandsAgain told size store
   -- each page of its base counts as changed by the base's last turn
   pub counted : store.turns.base_turns.items ≡ replicate (length (base_pages store.turns.log.base)) store.turns.log.header.turns
+  -- what is ahead begins with the base, exactly where that has pages
+  pub ahead : origins store.patches.ahead.items ≡ page_origins origin.Base (base_pages store.turns.log.base) ++ record_origins store.turns.records.items
 
 abbrev pub IsReady : {D : Type 0} → (D → Option Story) → (D → ℕ) → Owner → Result (Recovered D) StoreFault → Type 0
 IsReady told size o (Ok (found.Whole store state records)) = IsReadyStore told size o store state
@@ -95,4 +99,5 @@ pub record StandsSealed {D : Type 0} (told : D → Option Story) (size : D → �
   pub pages : List Page
   pub sealed : IsSealed e old.turns turn pages new.turns
   pub changed : AreChangedPages (turn_pages old.turns).heap pages
+  pub grows : Grows turn pages old.patches.ahead.items new.patches.ahead.items
   pub stands : (i : ImagePages) → Standing told size old i → Standing told size new (handed_pages turn pages i)

@@ -15,7 +15,7 @@ ghost use Rattle.ken_image.specs.Calls.{Sync, Called};
 ghost use Rattle.ken_store.specs.Answers.{disks_in};
 ghost use Rattle.ken_store.specs.Lending.{LendsStoreHeap};
 ghost use Rattle.ken_store.specs.Numbers.{follows};
-ghost use Rattle.ken_store.specs.Patching.{Holds, IsFaultOfCall, PatchesBy, PatchSuffers, SettlesBy, disk_answer, patch_calls, settled_turn};
+ghost use Rattle.ken_store.specs.Patching.{GoesOnBy, Holds, IsFaultOfCall, KeepsAhead, PatchesBy, PatchSuffers, SettlesBy, disk_answer, patch_calls, settled_turn};
 ghost use Rattle.ken_store.specs.Recovered.{Whole};
 ghost use Rattle.ken_store.specs.Standing.{IsNoneOrWhole, RecoversMeanwhile, Standing, StandsSealed, TakesCalls, is_either, is_one, sealed_recovery};
 ghost use Rattle.ken_store.specs.Turnovers.{BeginsWith, IsTurned, IsUnturned, ReplacesOn, base_of, kept_disk, replaced_disk, without_told};
@@ -87,6 +87,7 @@ impl<D: Disk> Store<D> {
         ensures log { SealsOn D.told D.faults D.fate (log_answer result) self.old.turns.log.end (coming_record self.old.turns effects.now) self.old.turns.log.disk self.new.turns.log.disk }
         ensures others { IsSameNode self.old.turns self.new.turns }
         ensures image { self.new.patches.image ≡ self.old.patches.image }
+        ensures unhanded { OnErr result (KeepsAhead self.old.patches self.new.patches) }
         ensures sound { (disk place : ℕ) → IsErrOf result (StoreFault.Damaged disk place) → ⊥ }
     {
         self.turns.objects.stands();
@@ -136,6 +137,8 @@ impl<D: Disk> Store<D> {
         ensures recovers { (i : ImagePages) (v : Value) → Standing D.told D.size self.old i → read_value (turn_pages self.old.turns).heap ≡ Some v → RecoversMeanwhile D.told self.old.turns.owner (disks_in self.old) (disks_in self.new) (is_one (Whole (state_in self.old.turns) v)) }
         ensures turns { self.new.turns ≡ self.old.turns }
         ensures more { IfOk result (λ more. IsTrue more ↔ (self.old.patches.ahead.items ≢ [])) }
+        ensures ahead { GoesOnBy result self.old.patches.ahead.items self.new.patches.ahead.items }
+        ensures known { self.new.patches.known ≡ self.old.patches.known }
         ensures takes { OnOk result (TakesCalls D.told D.size self.new) }
         ensures goes_on { IsErrOf result StoreFault.Memory → TakesCalls D.told D.size self.new }
         ensures calls { Follows (Called (disk_answer result) (patch_calls self.old.patches.ahead.items)) (D.told self.old.patches.image.disk) (D.told self.new.patches.image.disk) }
@@ -153,6 +156,7 @@ impl<D: Disk> Store<D> {
     pub fn settle(&mut self) -> Result<u64, StoreFault>
         requires { TakesCalls D.told D.size self.old }
         ensures told { IfOk result (λ turn. turn ≡ settled_turn self.old.patches.known self.old.patches.ahead.items) }
+        ensures ahead { KeepsAhead self.old.patches self.new.patches }
         ensures clean { (i : ImagePages) → Standing D.told D.size self.old i → IfOk result (λ turn. MayLeaveOut turn (turn_pages self.new.turns) (synced_pages i)) }
         ensures stands { (i : ImagePages) → Standing D.told D.size self.old i → SettlesBy result (Standing D.told D.size self.new) (Holds D.told self.new.patches) i }
         ensures recovers { (i : ImagePages) (v : Value) → Standing D.told D.size self.old i → read_value (turn_pages self.old.turns).heap ≡ Some v → RecoversMeanwhile D.told self.old.turns.owner (disks_in self.old) (disks_in self.new) (is_one (Whole (state_in self.old.turns) v)) }

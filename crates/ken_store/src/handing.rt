@@ -2,7 +2,8 @@
 ghost use Rattle.std.specs.Prelude.{◌≡◌, ◌≤◌, ◌++◌, [], length, map, IsTrue, IfOk, OnOk};
 ghost use Rattle.std.specs.List.{All, AllByRecursion};
 ghost use Rattle.ken_record.specs.Grammar.{rise_from, page_rank};
-ghost use Rattle.ken_store.specs.Ahead.{AreFound, MayAdd, ahead_layers, frame_pages, page_layers, record_layers};
+ghost use Rattle.ken_store.specs.declared.patching.Origin.TheVariants.{Base};
+ghost use Rattle.ken_store.specs.Ahead.{AreFound, MayAdd, ahead_layers, frame_pages, origins, page_layers, page_origins, record_layers, record_origins};
 ghost use Rattle.ken_store.specs.Kept.{HasPagesWithin};
 ghost use Rattle.ken_cover.specs.Overlay.{AreWithin};
 
@@ -28,6 +29,7 @@ pub(crate) fn ahead_of(
     requires rise { All (λ r. IsTrue (rise_from page_rank 0 r.pages)) records.now }
     ensures found { IfOk result (λ ahead. AreFound ahead.items) }
     ensures layers { IfOk result (λ ahead. ahead_layers ahead.items ≡ page_layers turns base.now ++ record_layers records.now) }
+    ensures origins { IfOk result (λ ahead. origins ahead.items ≡ page_origins Base base.now ++ record_origins records.now) }
 {
     let mut ahead = VecDeque::new(alloc);
     put_ahead(alloc, &mut ahead, turns, Origin::Base, base, count)?;
@@ -51,6 +53,7 @@ fn put_ahead(
     requires rising { IsTrue (rise_from page_rank 0 pages.now) }
     ensures found { OnOk result (MayAdd origin turn ahead.old.items → AreFound ahead.new.items) }
     ensures layers { OnOk result (ahead_layers ahead.new.items ≡ ahead_layers ahead.old.items ++ page_layers turn pages.now) }
+    ensures origins { OnOk result (origins ahead.new.items ≡ origins ahead.old.items ++ page_origins origin pages.now) }
 {
     if !pages.is_empty() {
         let pages = frames_of(alloc, pages, count)?;

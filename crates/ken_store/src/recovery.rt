@@ -14,7 +14,8 @@ ghost use Rattle.ken_store.specs.Standing.{IsReady};
 ghost use Rattle.ken_store.specs.Turning.{IsOwner};
 ghost use Rattle.ken_store.specs.Reads.{ReadsDisks};
 ghost use Rattle.ken_cover.specs.Overlay.{AreWithin};
-ghost use Rattle.ken_store.specs.Ahead.{AreFound, ahead_layers, page_layers, record_layers};
+ghost use Rattle.ken_store.specs.declared.patching.Origin.TheVariants.{Base};
+ghost use Rattle.ken_store.specs.Ahead.{AreFound, ahead_layers, origins, page_layers, page_origins, record_layers, record_origins};
 ghost use Rattle.ken_store.specs.Kept.{base_pages, HasPagesWithin};
 ghost use Rattle.ken_store.specs.Recovered.{checked, recovered, with_log, with_state};
 
@@ -220,6 +221,7 @@ fn kept_of<D: Disk>(
     ensures base { IfOk result (λ kept. kept.base_turns.items ≡ replicate (length (base_pages log.now.base)) log.now.header.turns) }
     ensures records { IfOk result (λ kept. kept.records.items ≡ records.now) }
     ensures found { IfOk result (λ kept. AreFound kept.ahead.items) }
+    ensures origins { IfOk result (λ kept. origins kept.ahead.items ≡ page_origins Base (base_pages log.now.base) ++ record_origins records.now) }
     ensures ahead { IfOk result (λ kept. ahead_layers kept.ahead.items ≡ page_layers log.now.header.turns (base_pages log.now.base) ++ record_layers records.now) }
 {
     let turns = log.header().turns;

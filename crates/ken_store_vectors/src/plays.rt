@@ -241,6 +241,47 @@ fn a_turn_is_settled_once_all_its_pages_are_written(rt: HostRuntime) -> Result<(
     check_patches(&rt, &mut store)
 }
 
+// A log goes over before anything was settled, and has one turn more: its base has both pages, and its record one.
+fn unsettled(rt: &(impl Abort + AllocGlobal)) -> Result<Store<MemDisk>, StoreFault>
+    ensures { IfOk result IsIdle }
+{
+    let mut store = played(rt)?;
+    renew_unsettled(rt, &mut store)?;
+    store_again(rt.alloc(), store)
+}
+
+fn renew_unsettled(
+    rt: &(impl Abort + AllocGlobal),
+    store: &mut Store<MemDisk>,
+) -> Result<(), StoreFault>
+    requires { IsIdle store.old }
+    ensures { OnOk result (IsIdle store.new) }
+{
+    turnover(rt, store, 0, 1)?;
+    assert_eq!(rt; turn(rt, store, 8)?, 3);
+    Ok(())
+}
+
+// What four patches and settles tell after a recovery, one after the other: of the base's two pages, and of the record's.
+const PATCHED_AGAIN: [(bool, u64); 4] = [(true, 0), (true, 2), (true, 3), (false, 3)];
+
+fn check_patches_again(rt: &impl Abort, store: &mut Store<MemDisk>) -> Result<(), StoreFault>
+    requires { IsIdle store.old }
+{
+    assert_eq!(rt; store.settle()?, 0);
+    for want in &PATCHED_AGAIN {
+        assert_eq!(rt; patched(store)?, *want);
+    }
+    Ok(())
+}
+
+// While the base is to patch, no turn is settled.
+#[test]
+fn a_recovered_base_settles_no_turn(rt: HostRuntime) -> Result<(), StoreFault> {
+    let mut store = unsettled(&rt)?;
+    check_patches_again(&rt, &mut store)
+}
+
 // A log goes over once all its pages were settled and its first output was emitted: no page is in its base, and of the
 // outputs the second.
 fn renew(rt: &impl Abort, store: &mut Store<MemDisk>) -> Result<(), StoreFault>

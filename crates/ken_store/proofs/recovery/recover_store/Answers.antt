@@ -5,7 +5,8 @@ use Rattle.ken_record.specs.Grammar.{IsRecord}
 use Rattle.ken_record.specs.Versions.{One}
 use Rattle.ken_log.specs.Mounts.{Whole}
 use Rattle.ken_cover.specs.Overlay.{overlay}
-use Rattle.ken_store.specs.Ahead.{ahead_layers, page_layers, record_layers}
+use Rattle.ken_store.specs.declared.patching.Origin.TheVariants.{Base}
+use Rattle.ken_store.specs.Ahead.{ahead_layers, origins, page_layers, page_origins, record_layers, record_origins}
 use Rattle.ken_store.specs.Kept.{base_pages, pages_in, HasPagesWithin}
 use Rattle.ken_store.specs.declared.store.Store.{Store}
 use Rattle.ken_store.specs.declared.turning.TurnSide.{TurnSide}
@@ -113,3 +114,4 @@ returns-clause-ready g c =
     (c.in-Ok-rebuild.ensures.count ∙ c.mount-image.ensures.count) refl
     (λ h told. bytes h (sym c.in-Ok-rebuild.ensures.reads.story ∙ told) ∙ ap (λ rs. overlay (take (256 * owner.pages) h.now.seen) (pages_in log.base rs)) (sym records))
     c.in-Ok.found.1 (checked_state owner c.args.heads.which c.args.heads.first c.args.heads.second log.header log.base c.args.records.items c.in-Ok.found.1 c.in-Ok.found.0 ok numbers ∙ ap (state_of owner.node c.in-Ok.found.0 log.base) (sym records))
+    (subst (λ rs. origins c.in-Ok-kept_of.kept.ahead.items ≡ page_origins Base (base_pages log.base) ++ record_origins rs) (sym records) (rw c.deref-3.ensures.value at c.in-Ok-kept_of.ensures.origins))

@@ -6,7 +6,9 @@ use Rattle.ken_model.specs.Reading.{read_value}
 use Rattle.ken_model.proofs.ReadBack.{read_some}
 use Rattle.ken_store.specs.declared.faults.StoreFault.TheVariants as faults
 use Rattle.ken_store.specs.Standing.{TakesCalls}
+use Rattle.ken_store.specs.declared.patching.Ahead.{Ahead}
 use Rattle.ken_store.specs.Ahead.{frame_pages}
+use Rattle.ken_store.specs.Patching.{Grows}
 use Rattle.ken_store.specs.Turning.{coming_record, turn_pages}
 use Rattle.ken_store.proofs.Sealing.{comes, unsealed}
 use Rattle.ken_store.proofs.SealMeanwhile.{changed_within, patches_same, patching_same, seal_any_moment, seal_memory, sealed_size, sealed_stands, stands_undone, undone_pages}
@@ -81,6 +83,7 @@ returns-clause-sealed g c =
       pages = pages;
       sealed = sealed;
       changed = c.in_ok-turn.ensures.changed;
+      grows = subst (λ (items : List Ahead). Grows c.in_ok-turn.turn pages items c.hand.new.self.ahead.items) c.reserve.ensures.ahead c.hand.ensures.grown;
       stands = λ i stands.
           sealed_stands g.D.Disk.told g.D.Disk.size c.args.self.now (record { turns = c.seal.new.self; patches = c.hand.new.self }) i c.in_ok-turn.turn pages stands takes sealed.live sealed.counted numbers c.in_ok-turn.ensures.others.owner within
           (c.hand.ensures.stands i (patching_same g.D.Disk.told g.D.Disk.size c.args.self.now.patches c.reserve.new.self i c.reserve.ensures.image c.reserve.ensures.ahead c.reserve.ensures.known stands.patches));
