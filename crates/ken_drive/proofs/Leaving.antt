@@ -329,7 +329,6 @@ module _ {D O U : Type 0} (told : Watched D → Option Story) (size : Watched D 
           stage_is = up.stage_is;
           whole = up.whole;
           empty = up.empty;
-          other = up.other;
           tell = up.tell;
         })
         stopped.others

@@ -81,7 +81,6 @@ module _ {D O U : Type 0} (told : Watched D → Option Story) (size : Watched D 
         stage_is = again.stage_is;
         whole = again.whole;
         empty = again.empty;
-        other = again.other;
         tell = again.tell;
       } in
       let grows = run-grows g (Contains stopped.given) v (stopped.nodes v) again.after again.call.events nothing again.call.run in

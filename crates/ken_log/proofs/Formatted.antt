@@ -7,11 +7,11 @@ use Rattle.std.proofs.lemmas.List.{append-nil}
 use Rattle.ken_disk.specs.declared.faults.DiskFault.{DiskFault}
 use Rattle.ken_disk.specs.declared.faults.DiskFault.TheVariants.{Failed, Memory}
 use Rattle.ken_disk.specs.Bytes.{overwrite}
-use Rattle.ken_disk.specs.Story.{Story, IsAtRest, Tells, Follows}
+use Rattle.ken_disk.specs.Story.{Story, IsAtRest, IsImage, Tells, Follows}
 use Rattle.ken_disk.specs.Through.{Torn}
 use Rattle.ken_disk.specs.Moments.{Through}
 use Rattle.ken_disk.specs.Writes.{Made}
-use Rattle.ken_disk.proofs.Images.{at_rest_leaves}
+use Rattle.ken_disk.proofs.Images.{at_rest_leaves, image-seen_at_rest}
 use Rattle.ken_log.proofs.Overwritten.{tears_weaker}
 use Rattle.ken_disk.proofs.Made.{Tears, made_more, made_no_more, none_made, rests-made_none, rests-after_some}
 use Rattle.ken_disk.proofs.Since.{stays, weaker}
@@ -26,7 +26,7 @@ use Rattle.ken_log.specs.Mounts.{Mounted, Unformatted, Whole, mount_of}
 use Rattle.ken_log.specs.Layout.{head_bytes, log_bytes, IsHead, IsLogOf}
 use Rattle.ken_log.specs.Seals.{MountsAs, MountsAsEither, as_fault, as_seal, as_disk}
 use Rattle.ken_log.specs.Opening.{IsClosedBehind, IsGateOf}
-use Rattle.ken_log.specs.Formats.{MountsAsAny, Replaces}
+use Rattle.ken_log.specs.Formats.{IsOldOrNone, IsOldNoneOrNew, Replaces}
 use Rattle.ken_log.specs.Settled.{Holds, IsSettled}
 use Rattle.ken_log.proofs.Changed.{changed_any, changed_ok, changed_memory, changed_failed}
 use Rattle.ken_log.proofs.LogMounts.{log_mounts, short_mounts, closed_mounts, closed_gate, head_long}
@@ -93,25 +93,29 @@ closed_first seen = at (closing_is seen)
     at (Stands is which) =
         subst (λ (b : List ℕ). IsClosedBehind [] (overwrite 0 b seen)) (sym is) (record { gate = 0; free = drop 1 seen; parts = refl; closed = λ e. absurd (let no : ⊥ = omega (arith, e) in no) })
 
+-- the same bytes, or no log
+abbrev IsSameOrNone : List ℕ → List ℕ → Type 0
+IsSameOrNone seen image = (image ≡ seen) ⊎ (mount_of image ≡ Unformatted)
+
 -- a torn write of a closed gate over an open one leaves what was there, or no log
-gate_torn_shut : (seen image : List ℕ) → (length seen ≡ 0) ⊎ (get_or seen 0 0 ≡ 165) → Torn 0 1 seen image → MountsAsEither (mount_of seen) Unformatted image
+gate_torn_shut : (seen image : List ℕ) → (length seen ≡ 0) ⊎ (get_or seen 0 0 ≡ 165) → Torn 0 1 seen image → IsSameOrNone seen image
 gate_torn_shut [] image which torn = inr (short_mounts image (omega (arith, torn.no_longer)))
 gate_torn_shut (gate ∷ free) image which torn =
     let t = torn_byte [] 0 gate free image refl torn in
     let open_one : gate ≡ 165 = ⊎_elim (λ none. absurd (let no : ⊥ = omega (arith, none) in no)) (λ stands. stands) which in
     ⊎_elim
-    (λ stands. inl (ap mount_of (t.1 ∙ ap (λ (b : ℕ). b ∷ free) (stands.1 ∙ sym open_one))))
+    (λ stands. inl (t.1 ∙ ap (λ (b : ℕ). b ∷ free) (stands.1 ∙ sym open_one)))
     (λ shut. inr (ap mount_of t.1 ∙ closed_mounts t.0 free shut.1))
     (eqb_tells t.0 165)
 
-closing_torn : (seen image : List ℕ) → Torn 0 (length (closing seen)) seen image → MountsAsEither (mount_of seen) Unformatted image
+closing_torn : (seen image : List ℕ) → Torn 0 (length (closing seen)) seen image → IsSameOrNone seen image
 closing_torn seen image torn = at (closing_is seen)
   where
-    at : Closing seen → MountsAsEither (mount_of seen) Unformatted image
+    at : Closing seen → IsSameOrNone seen image
     at (Shut is long shut) =
         let t : Torn 0 0 seen image = subst (λ (b : List ℕ). Torn 0 (length b) seen image) is torn in
         let same : image ≡ seen = t.after in
-        inl (ap mount_of same)
+        inl same
     at (Stands is which) =
         gate_torn_shut seen image which (subst (λ (b : List ℕ). Torn 0 (length b) seen image) is torn)
 
@@ -122,8 +126,11 @@ module _ (head : Header) (base : Option Base) (bytes : List ℕ) (is : IsHead he
   after = Whole head base []
 
   module _ (h new : Story) (rests : IsAtRest h.now) where
-    abbrev before : Mounted
-    before = mount_of h.now.seen
+    abbrev Early : List ℕ → Type 0
+    Early = IsOldOrNone h.now
+
+    abbrev Any : List ℕ → Type 0
+    Any = IsOldNoneOrNew h.now after
 
     abbrev shut_seen : List ℕ
     shut_seen = overwrite 0 (closing h.now.seen) h.now.seen
@@ -131,26 +138,32 @@ module _ (head : Header) (base : Option Base) (bytes : List ℕ) (is : IsHead he
     shut : IsClosedBehind [] shut_seen
     shut = closed_first h.now.seen
 
-    early : (image : List ℕ) → MountsAsEither before Unformatted image → MountsAsAny before after image
+    as_it_was : IsImage h.now h.now.seen
+    as_it_was = image-seen_at_rest h.now rests
+
+    same_early : (image : List ℕ) → IsSameOrNone h.now.seen image → Early image
+    same_early image e = ⊎_elim (λ same. inl (subst (IsImage h.now) (sym same) as_it_was)) (λ none. inr none) e
+
+    early : (image : List ℕ) → Early image → Any image
     early image e = ⊎_elim (λ same. inl same) (λ none. inr (inl none)) e
 
-    late : (image : List ℕ) → MountsAsEither Unformatted after image → MountsAsAny before after image
+    late : (image : List ℕ) → MountsAsEither Unformatted after image → Any image
     late image e = inr e
 
-    quiet : Tears (MountsAsEither before Unformatted) ((0, closing h.now.seen) ∷ (1, bytes) ∷ []) h.now.seen
+    quiet : Tears Early ((0, closing h.now.seen) ∷ (1, bytes) ∷ []) h.now.seen
     quiet =
         let inside : 0 ≤ length h.now.seen = omega arith in
-        let behind = tears_weaker (MountsAs Unformatted) (MountsAsEither before Unformatted) (λ image e. inr e) ((1, bytes) ∷ []) shut_seen (body_quiet [] bytes shut_seen 0 refl shut Unformatted after (head_gate head base bytes is spells)) in
-        (inside, closing_torn h.now.seen, behind)
+        let behind = tears_weaker (MountsAs Unformatted) Early (λ image e. inr e) ((1, bytes) ∷ []) shut_seen (body_quiet [] bytes shut_seen 0 refl shut Unformatted after (head_gate head base bytes is spells)) in
+        (inside, λ image torn. same_early image (closing_torn h.now.seen image torn), behind)
 
-    any : {T : Type 0} (r : Result T DiskFault) → Made r (first_writes bytes h.now.seen) h new → Through (MountsAsAny before after) h new
-    any r made = changed_any (MountsAsEither before Unformatted) (MountsAsEither Unformatted after) (MountsAs after) (MountsAsAny before after) early late ((0, closing h.now.seen) ∷ (1, bytes) ∷ []) (0, 165 ∷ []) h rests
+    any : {T : Type 0} (r : Result T DiskFault) → Made r (first_writes bytes h.now.seen) h new → Through Any h new
+    any r made = changed_any Early (MountsAsEither Unformatted after) (MountsAs after) Any early late ((0, closing h.now.seen) ∷ (1, bytes) ∷ []) (0, 165 ∷ []) h rests
         quiet (gate_inside [] bytes shut_seen 0 refl shut) (gate_torn [] bytes shut_seen 0 refl shut Unformatted after (head_gate head base bytes is spells)) (gate_holds [] bytes shut_seen 0 refl shut Unformatted after (head_gate head base bytes is spells)) r new made
 
-    replaced : {T : Type 0} (r : Result T DiskFault) → Made r (first_writes bytes h.now.seen) h new → Replaces before after (as_seal r) h new
+    replaced : {T : Type 0} (r : Result T DiskFault) → Made r (first_writes bytes h.now.seen) h new → Replaces after (as_seal r) h new
     replaced (Ok x) made = record {
       any_moment = any (Ok x) made;
-      ok = changed_ok (MountsAsEither before Unformatted) (MountsAsEither Unformatted after) (MountsAs after) (MountsAsAny before after) early late ((0, closing h.now.seen) ∷ (1, bytes) ∷ []) (0, 165 ∷ []) h rests
+      ok = changed_ok Early (MountsAsEither Unformatted after) (MountsAs after) Any early late ((0, closing h.now.seen) ∷ (1, bytes) ∷ []) (0, 165 ∷ []) h rests
           quiet (gate_inside [] bytes shut_seen 0 refl shut) (gate_torn [] bytes shut_seen 0 refl shut Unformatted after (head_gate head base bytes is spells)) (gate_holds [] bytes shut_seen 0 refl shut Unformatted after (head_gate head base bytes is spells)) (Ok x) new made;
       memory = λ m. absurd (let no : ⊥ = cc in no);
       in_doubt = λ m. absurd (let no : ⊥ = cc in no);
@@ -159,29 +172,29 @@ module _ (head : Header) (base : Option Base) (bytes : List ℕ) (is : IsHead he
       any_moment = any {T = T} (Err Failed) made;
       ok = tt;
       memory = λ m. absurd (let no : ⊥ = cc in no);
-      in_doubt = λ m. changed_failed (MountsAsEither before Unformatted) (MountsAsEither Unformatted after) (MountsAs after) (MountsAsAny before after) early late ((0, closing h.now.seen) ∷ (1, bytes) ∷ []) (0, 165 ∷ []) h rests
+      in_doubt = λ m. changed_failed Early (MountsAsEither Unformatted after) (MountsAs after) Any early late ((0, closing h.now.seen) ∷ (1, bytes) ∷ []) (0, 165 ∷ []) h rests
           quiet (gate_inside [] bytes shut_seen 0 refl shut) (gate_torn [] bytes shut_seen 0 refl shut Unformatted after (head_gate head base bytes is spells)) (gate_holds [] bytes shut_seen 0 refl shut Unformatted after (head_gate head base bytes is spells)) T new made;
     }
     replaced {T = T} (Err Memory) made = record {
       any_moment = any {T = T} (Err Memory) made;
       ok = tt;
-      memory = λ m. changed_memory (MountsAsEither before Unformatted) (MountsAsEither Unformatted after) (MountsAs after) (MountsAsAny before after) early late ((0, closing h.now.seen) ∷ (1, bytes) ∷ []) (0, 165 ∷ []) h rests
+      memory = λ m. changed_memory Early (MountsAsEither Unformatted after) (MountsAs after) Any early late ((0, closing h.now.seen) ∷ (1, bytes) ∷ []) (0, 165 ∷ []) h rests
           quiet (gate_inside [] bytes shut_seen 0 refl shut) (gate_torn [] bytes shut_seen 0 refl shut Unformatted after (head_gate head base bytes is spells)) (gate_holds [] bytes shut_seen 0 refl shut Unformatted after (head_gate head base bytes is spells)) T new made;
       in_doubt = λ m. absurd (let no : ⊥ = cc in no);
     }
 
     -- the read before them failed
-    unread : (T : Type 0) → new ≡ h → Replaces {T = T} before after (as_seal {T = T} (Err Failed)) h new
+    unread : (T : Type 0) → new ≡ h → Replaces {T = T} after (as_seal {T = T} (Err Failed)) h new
     unread T same =
-        let still : Through (MountsAsEither before Unformatted) h h = stays (MountsAsEither before Unformatted) h (at_rest_leaves (MountsAsEither before Unformatted) h.now rests (inl refl)) in
+        let still : Through Early h h = stays Early h (at_rest_leaves Early h.now rests (inl as_it_was)) in
         record {
-          any_moment = subst (Through (MountsAsAny before after) h) (sym same) (weaker (MountsAsEither before Unformatted) (MountsAsAny before after) h h early still);
+          any_moment = subst (Through Any h) (sym same) (weaker Early Any h h early still);
           ok = tt;
           memory = λ m. absurd (let no : ⊥ = cc in no);
-          in_doubt = λ _. inl (subst (Through (MountsAsEither before Unformatted) h) (sym same) still);
+          in_doubt = λ _. inl (subst (Through Early h) (sym same) still);
         }
 
-    pub replaced_after_read : {T : Type 0} (r : Result T DiskFault) → MadeAfterRead r (first_writes bytes h.now.seen) h new → Replaces before after (as_seal r) h new
+    pub replaced_after_read : {T : Type 0} (r : Result T DiskFault) → MadeAfterRead r (first_writes bytes h.now.seen) h new → Replaces after (as_seal r) h new
     replaced_after_read (Ok x) made = replaced (Ok x) made
     replaced_after_read {T = T} (Err Failed) made = ⊎_elim (unread T) (replaced {T = T} (Err Failed)) made
     replaced_after_read {T = T} (Err Memory) made = replaced {T = T} (Err Memory) made
@@ -189,9 +202,9 @@ module _ (head : Header) (base : Option Base) (bytes : List ℕ) (is : IsHead he
   abbrev Begun : {T : Type 0} → Result T DiskFault → Story → Story → Type 0
   Begun r h s = MadeAfterRead r (first_writes bytes h.now.seen) h s
 
-  pub begun_replaces : {T : Type 0} (r : Result T DiskFault) (old new : Option Story) → Follows (Begun r) old new → Follows (λ h s. IsAtRest h.now → Replaces (mount_of h.now.seen) after (as_seal r) h s) old new
+  pub begun_replaces : {T : Type 0} (r : Result T DiskFault) (old new : Option Story) → Follows (Begun r) old new → Follows (λ h s. IsAtRest h.now → Replaces after (as_seal r) h s) old new
   begun_replaces r old new made =
-      weakened (Begun r) (λ h s. IsAtRest h.now → Replaces (mount_of h.now.seen) after (as_seal r) h s) old new made (λ h s _ m rests. replaced_after_read h s rests r m)
+      weakened (Begun r) (λ h s. IsAtRest h.now → Replaces after (as_seal r) h s) old new made (λ h s _ m rests. replaced_after_read h s rests r m)
 
   pub begun_calls : {T : Type 0} (r : Result T DiskFault) (old new : Option Story) → Follows (Begun r) old new → Follows (λ h s. MadeAfterRead r (log_writes head base h.now.seen) h s) old new
   begun_calls r old new made =
@@ -225,11 +238,11 @@ module _ (head : Header) (base : Option Base) (bytes : List ℕ) (is : IsHead he
   begun_none T old new same = by_none (Begun {T = T} (Err Memory)) old new same (λ h. none_made T (0, closing h.now.seen) (gate_writes 0 bytes) h)
 
   abbrev Told : Type 0 → SealFault → Option Story → Option Story → Type 0
-  Told U f old new = Follows (λ h s. IsAtRest h.now → Replaces {T = U} (mount_of h.now.seen) after (Err f) h s) old new × Follows (λ h s. MadeAfterRead (as_disk {T = U} (Err f)) (log_writes head base h.now.seen) h s) old new × (f ≡ seals.Memory → Follows (λ h s. IsAtRest h.now → IsAtRest s.now) old new)
+  Told U f old new = Follows (λ h s. IsAtRest h.now → Replaces {T = U} after (Err f) h s) old new × Follows (λ h s. MadeAfterRead (as_disk {T = U} (Err f)) (log_writes head base h.now.seen) h s) old new × (f ≡ seals.Memory → Follows (λ h s. IsAtRest h.now → IsAtRest s.now) old new)
 
   -- told of the fault of a log
   pub begun_faults : (T U : Type 0) (e : DiskFault) (f : SealFault) (old new : Option Story) → f ≡ as_fault e → Follows (Begun {T = T} (Err e)) old new
-      → Follows (λ h s. IsAtRest h.now → Replaces {T = U} (mount_of h.now.seen) after (Err f) h s) old new × Follows (λ h s. MadeAfterRead (as_disk {T = U} (Err f)) (log_writes head base h.now.seen) h s) old new × (f ≡ seals.Memory → Follows (λ h s. IsAtRest h.now → IsAtRest s.now) old new)
+      → Follows (λ h s. IsAtRest h.now → Replaces {T = U} after (Err f) h s) old new × Follows (λ h s. MadeAfterRead (as_disk {T = U} (Err f)) (log_writes head base h.now.seen) h s) old new × (f ≡ seals.Memory → Follows (λ h s. IsAtRest h.now → IsAtRest s.now) old new)
   begun_faults T U Failed f old new tells made = subst (λ (g : SealFault). Told U g old new) (sym tells) (
     begun_replaces {T = U} (Err Failed) old new made,
     begun_calls {T = U} (Err Failed) old new made,

@@ -1,6 +1,6 @@
 -- A log takes the place of what a disk held: by a format, or by a turnover.
 use Rattle.std.specs.Prelude.{◌≡◌, ℕ, ◌+◌, ◌⊎◌, List, length, Result, Ok, Err, OnOk, IsErrOf}
-use Rattle.ken_disk.specs.Story.{Story, Leaves}
+use Rattle.ken_disk.specs.Story.{DiskState, Story, IsImage, Leaves}
 use Rattle.ken_disk.specs.Moments.{Through}
 use Rattle.ken_record.specs.declared.header.Header.{Header}
 use Rattle.ken_record.specs.declared.base.Base.{Base}
@@ -38,17 +38,21 @@ next_header log base = record log.header {
   base_len = length (base_bytes (version_of log.header) base);
 }
 
--- an image mounts as before, as no log, or as after
-abbrev pub MountsAsAny : Mounted → Mounted → List ℕ → Type 0
-MountsAsAny before after image = (mount_of image ≡ before) ⊎ ((mount_of image ≡ Unformatted) ⊎ (mount_of image ≡ after))
+-- an image is one that a crash may have left before, byte for byte, or it mounts as no log
+abbrev pub IsOldOrNone : DiskState → List ℕ → Type 0
+IsOldOrNone before image = IsImage before image ⊎ (mount_of image ≡ Unformatted)
+
+-- or it mounts as after
+abbrev pub IsOldNoneOrNew : DiskState → Mounted → List ℕ → Type 0
+IsOldNoneOrNew before after image = IsImage before image ⊎ MountsAsEither Unformatted after image
 
 -- three writes: the first closes the first gate, so that there is no log, and the last opens it on another
-pub record Replaces {T : Type 0} (before after : Mounted) (result : Result T SealFault) (old new : Story) : Type 0 where
-  -- a crash at any moment of the call leaves what mounts as before, as no log, or as after
-  pub any_moment : Through (MountsAsAny before after) old new
+pub record Replaces {T : Type 0} (after : Mounted) (result : Result T SealFault) (old new : Story) : Type 0 where
+  -- a crash at any moment of the call leaves what it may have left before the call, no log, or what mounts as after
+  pub any_moment : Through (IsOldNoneOrNew old.now after) old new
   -- then it leaves only what mounts as after
   pub ok : OnOk result (Leaves (MountsAs after) new.now)
-  -- after Memory nothing that a crash leaves, or left since the call began, mounts as after
-  pub memory : IsErrOf result Memory → Through (MountsAsEither before Unformatted) old new
+  -- after Memory nothing that a crash leaves, or left since the call began, is of the last kind
+  pub memory : IsErrOf result Memory → Through (IsOldOrNone old.now) old new
   -- after Disk neither; or the last write is in doubt, all syncs but its own have answered Ok, and nothing is as before
-  pub in_doubt : IsErrOf result Disk → Through (MountsAsEither before Unformatted) old new ⊎ (Leaves (MountsAsEither Unformatted after) new.now × (new.now.syncs + 1 ≡ old.now.syncs + 3))
+  pub in_doubt : IsErrOf result Disk → Through (IsOldOrNone old.now) old new ⊎ (Leaves (MountsAsEither Unformatted after) new.now × (new.now.syncs + 1 ≡ old.now.syncs + 3))

@@ -25,7 +25,7 @@ impl<D: Disk> Log<D> {
     /// there, no log, or the whole one; after `Memory` not the new one; after `Disk` this is in doubt.
     pub fn format(alloc: Global, mut disk: D, header: &Header) -> Result<Log<D>, (SealFault, D)>
         requires { IsHead header.now None }
-        ensures story { Follows (λ h s. IsAtRest h.now → Replaces (mount_of h.now.seen) (Whole header.now None []) (answer_of result) h s) (D.told disk) (D.told (disk_of result)) }
+        ensures story { Follows (λ h s. IsAtRest h.now → Replaces (Whole header.now None []) (answer_of result) h s) (D.told disk) (D.told (disk_of result)) }
         ensures calls { Follows (λ h s. MadeAfterRead (as_disk (answer_of result)) (log_writes header.now None h.now.seen) h s) (D.told disk) (D.told (disk_of result)) }
         ensures settled { IfOk result (λ log. IsSettled D.told D.size log) }
         ensures made { IfOk result (λ log. (log.header ≡ header.now) × (log.base ≡ None) × (log.records ≡ 0) × (log.end ≡ 32)) }

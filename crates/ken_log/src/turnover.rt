@@ -6,7 +6,7 @@ ghost use Rattle.ken_record.specs.Spelling.{header_bytes, base_bytes};
 ghost use Rattle.ken_record.specs.Versions.{version_of};
 ghost use Rattle.ken_log.specs.Calls.{log_writes, MadeAfterRead};
 ghost use Rattle.ken_log.specs.Formats.{written_disk, old_disk, next_header, Replaces};
-ghost use Rattle.ken_log.specs.Mounts.{Whole, mount_of};
+ghost use Rattle.ken_log.specs.Mounts.{Whole};
 ghost use Rattle.ken_log.specs.Seals.{HasLogCause, as_disk};
 ghost use Rattle.ken_log.specs.Settled.{IsSettled};
 
@@ -25,15 +25,16 @@ impl<D: Disk> Log<D> {
     /// Goes over to a log of the next generation on another disk, with this base and no records, by the six calls of a format
     /// on that disk. After `Ok` the two disks have changed places: this log is the new one, and `other` is the disk of the old
     /// one, as it was. After an error they haven't, and this log's own disk is as it was. Of another disk that has nothing
-    /// pending, a crash at any moment leaves what was there, no log, or the whole new one; after `Memory` not the new one, and
-    /// this log goes on; after `Disk` this is in doubt, and this log is spent: it takes no more seals.
+    /// pending, a crash at any moment leaves the bytes that were there, whatever they are, no log, or the whole new one; after
+    /// `Memory` not the new one, and this log goes on; after `Disk` this is in doubt, and this log is spent: it takes no more
+    /// seals.
     pub fn turnover(&mut self, alloc: Global, other: &mut D, base: &Base) -> Result<(), SealFault>
         requires settled { IsSettled D.told D.size self.old }
         requires base { IsBase (version_of self.old.header) base.now }
         requires length { length (base_bytes (version_of self.old.header) base.now) < 2 ^ 32 }
         requires generation { self.old.header.generation + 1 < 2 ^ 32 }
         requires turns { self.old.header.turns + self.old.records < 2 ^ 64 }
-        ensures story { Follows (λ h s. IsAtRest h.now → Replaces (mount_of h.now.seen) (Whole (next_header self.old base.now) (Some base.now) []) result h s) (D.told other.old) (D.told (written_disk result self.new other.new)) }
+        ensures story { Follows (λ h s. IsAtRest h.now → Replaces (Whole (next_header self.old base.now) (Some base.now) []) result h s) (D.told other.old) (D.told (written_disk result self.new other.new)) }
         ensures calls { Follows (λ h s. MadeAfterRead (as_disk result) (log_writes (next_header self.old base.now) (Some base.now) h.now.seen) h s) (D.told other.old) (D.told (written_disk result self.new other.new)) }
         ensures own { old_disk result self.new other.new ≡ self.old.disk }
         ensures settled { OnOk result (IsSettled D.told D.size self.new) }

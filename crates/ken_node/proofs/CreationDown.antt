@@ -26,7 +26,7 @@ use Rattle.ken_node.specs.declared.parts.Parts.{Parts}
 use Rattle.ken_node.specs.declared.stage.Stage.{Stage}
 use Rattle.ken_node.specs.declared.stage.Stage.TheVariants.{Uncreated}
 use Rattle.ken_node.specs.Created.{owner_of}
-use Rattle.ken_node.specs.Down.{AreReady, IsDown, IsOlder, IsSound, Left, MountedLog, TellsNode, a_log, nothing}
+use Rattle.ken_node.specs.Down.{AreReady, IsDown, IsSound, Left, MountedLog, TellsNode, a_log, nothing}
 use Rattle.ken_node.specs.DownLaws.{CreationGoesDown}
 use Rattle.ken_node.specs.First.{AreFirst, IsNewRing}
 use Rattle.ken_node.specs.Meeting.{IsEmptied}
@@ -39,6 +39,8 @@ use Rattle.ken_node.proofs.Paced.{paced-first}
 use Rattle.std.proofs.lemmas.List.{length-replicate}
 use Rattle.ken_links.specs.declared.push_end.PushEnd.{PushEnd}
 use Rattle.ken_links.specs.declared.pop_end.PopEnd.{PopEnd}
+use Rattle.ken_store.specs.Turning.{IsPassed}
+use Rattle.ken_store.proofs.Mounted.{front_none}
 
 -- ---- what a first log tells
 
@@ -108,7 +110,7 @@ module _ (g : Game) (v : ℕ) (given : List Packet) (limits : IsWithinLimits g) 
       (λ holds. ⊎_elim
       (λ no_log. nothing refl refl no_log none)
       (λ whole. a_log false (first_node g) (first_log g v) refl tt (first-sound g v limits) (first-told g v)
-      (record { which = First; mounts = whole; owned = owned (owner_of g v); other = subst (IsOlder (owner_of g v) (first_header (owner_of g v))) (sym none) tt })
+      (record { which = First; mounts = whole; owned = owned (owner_of g v); other = subst (IsPassed (owner_of g v) (first_header (owner_of g v))) (sym (front_none second none)) tt })
       (first-possible g image limits (holds image in_image)))
       (creates.logs.each log (now_too l l2 log creates.logs.on in_log)))
       creates.order

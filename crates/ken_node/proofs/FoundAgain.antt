@@ -29,82 +29,15 @@ use Rattle.ken_store.specs.declared.disks.Which.TheVariants.{First, Second}
 use Rattle.ken_store.specs.declared.numbers.Numbers.{Numbers}
 use Rattle.ken_store.specs.declared.owner.Owner.{Owner}
 use Rattle.ken_store.specs.Kept.{base_pages, pages_in, record_pages}
-use Rattle.ken_store.specs.Logs.{logs_of, log_on, other_log, is_owned, may_own}
+use Rattle.ken_store.specs.Logs.{logs_of, log_on, other_log, is_owned, may_own, front_of}
 use Rattle.ken_store.specs.Recovered.{Recovery, Fresh, Whole, IsRefusedAt, checked, heap_of, numbers_of, recovered, state_of, with_image, with_log, with_logs, with_state}
-use Rattle.ken_store.specs.Turning.{changed_in, live_layers, record_layer}
+use Rattle.ken_store.specs.Turning.{changed_in, live_layers, record_layer, IsPassed}
 use Rattle.ken_store.proofs.Creating.{fresh}
+use Rattle.ken_store.proofs.Standing.{found_over, recovered_by}
 use Rattle.ken_store.proofs.Mounted.{front_none, front_whole}
 use Rattle.ken_node.specs.Created.{owner_of}
-use Rattle.ken_node.specs.Down.{ComesOut, Finds, HasLanded, IsOlder, IsSound, Left, MountedLog, TellsNode, a_log, nothing}
+use Rattle.ken_node.specs.Down.{ComesOut, Finds, HasLanded, IsSound, Left, MountedLog, TellsNode, a_log, nothing}
 use Rattle.ken_node.proofs.Creation.{size_is}
-
--- ---- which log is current
-
-ap-two : {A B C : Type 0} (f : A → B → C) {a a2 : A} {b b2 : B} → a ≡ a2 → b ≡ b2 → f a b ≡ f a2 b2
-ap-two f {a2 = a2} {b = b} one other = ap (λ x. f x b) one ∙ ap (f a2) other
-
-module _ (o : Owner) (head : Header) (base : Option Base) (records : List Record) (owned : is_owned o head ≡ true) where
-  -- of two logs this one is read, and both headers are the owner's
-  record IsCurrent (which : Which) (log image second : List ℕ) : Type 0 where
-    first : Option Header
-    later : Option Header
-    reads : recovered o log image second ≡ with_log o which first later image (mount_of (log_on which log second))
-    own_first : may_own o first ≡ true
-    own_later : may_own o later ≡ true
-
-  beside : (which : Which) (log image second : List ℕ) (m : Mounted) → mount_of (log_on which log second) ≡ mounts.Whole head base records → mount_of (log_on (other_log which) log second) ≡ m → IsOlder o head m → IsCurrent which log image second
-  beside First log image second mounts.Unformatted this that older = record {
-    first = Some head;
-    later = None;
-    reads = ap-two (λ a b. with_logs o log image second (logs_of a b)) (front_whole log head base records this) (front_none second that);
-    own_first = owned;
-    own_later = refl;
-  }
-  beside Second log image second mounts.Unformatted this that older = record {
-    first = None;
-    later = Some head;
-    reads = ap-two (λ a b. with_logs o log image second (logs_of a b)) (front_none log that) (front_whole second head base records this);
-    own_first = refl;
-    own_later = owned;
-  }
-  beside which log image second (mounts.Damaged place) this that older = absurd older
-  beside First log image second (mounts.Whole h b rs) this that older =
-      let less : h.generation < head.generation = older.0 in
-      let different : (head.generation == h.generation) ≡ false = ne_eqb head.generation h.generation (λ e. let none : ⊥ = omega (arith, e, less) in none) in
-      let no_less : nat_lt head.generation h.generation ≡ false = le-ltb _ _ (omega (arith, less)) in
-      record {
-        first = Some head;
-        later = Some h;
-        reads = ap-two (λ a b. with_logs o log image second (logs_of a b)) (front_whole log head base records this) (front_whole second h b rs that) ∙ rw (different, no_less) refl;
-        own_first = owned;
-        own_later = older.1;
-      }
-  beside Second log image second (mounts.Whole h b rs) this that older =
-      let less : h.generation < head.generation = older.0 in
-      let different : (h.generation == head.generation) ≡ false = ne_eqb h.generation head.generation (λ e. let none : ⊥ = omega (arith, e, less) in none) in
-      let is_less : nat_lt h.generation head.generation ≡ true = lt-ltb _ _ less in
-      record {
-        first = Some h;
-        later = Some head;
-        reads = ap-two (λ a b. with_logs o log image second (logs_of a b)) (front_whole log h b rs that) (front_whole second head base records this) ∙ rw (different, is_less) refl;
-        own_first = older.1;
-        own_later = owned;
-      }
-
-  module _ (n : Numbers) (numbers : numbers_of o head base records ≡ Ok n) (image heap : List ℕ) (long : 256 * o.pages ≤ length image) (laid : heap_of o base records image ≡ heap) (value : Value) (reads : read_value heap ≡ Some value) where
-    image-found : with_image o (state_of o.node n base records) base records image ≡ Whole (state_of o.node n base records) value
-    image-found =
-        let enough : nat_lt (length image) (256 * o.pages) ≡ false = le-ltb _ _ long in
-        rw (enough, laid, reads) refl
-
-    log-found : (which : Which) (log second : List ℕ) → mount_of (log_on which log second) ≡ mounts.Whole head base records → IsOlder o head (mount_of (log_on (other_log which) log second)) → recovered o log image second ≡ Whole (state_of o.node n base records) value
-    log-found which log second this older =
-        let are = beside which log image second (mount_of (log_on (other_log which) log second)) this refl older in
-        let passes : checked o which are.first are.later head base records ≡ Ok (state_of o.node n base records) = rw (are.own_first, are.own_later, numbers) refl in
-        are.reads
-        ∙ ap (with_log o which are.first are.later image) this
-        ∙ ap (with_state o base records image) passes
-        ∙ image-found
 
 -- ---- the pages that the log tells
 
@@ -141,6 +74,11 @@ pub record HasLog (g : Game) (v : ℕ) (given : List Packet) (n : Node) (doubt :
   pub finds : Finds (owner_of g v) log second mounted
   pub possible : IsPossible node.patching (take g.size image)
 
+-- by which log is current
+by-which : (which : Which) (o : Owner) (log image second : List ℕ) → recovered_by which o (log_on which log second) image (log_on (other_log which) log second) ≡ recovered o log image second
+by-which First o log image second = refl
+by-which Second o log image second = refl
+
 module _ (g : Game) (v : ℕ) (limits : IsWithinLimits g) where
   -- what such disks recover to: the state that the log tells, and the value of the node's heap
   pub log-is-found : (m : Node) (k : MountedLog) (log image second : List ℕ) (sound : IsSound g v m) (tells : TellsNode g v m k) → Finds (owner_of g v) log second k → IsPossible m.patching (take g.size image)
@@ -150,12 +88,10 @@ module _ (g : Game) (v : ℕ) (limits : IsWithinLimits g) where
       let size = size_is g limits in
       let pages : pages_of m.turning.pages.live ≡ pages_in k.base k.records =
       sym (pages_of-recounted m.turning.pages.live) ∙ ap pages_of tells.live ∙ live-pages k.head k.base k.records in
-      let laid : heap_of o k.base k.records image ≡ m.turning.pages.heap =
-      ap (λ (n : ℕ). overlay (take n image) (pages_in k.base k.records)) size
-      ∙ ap (overlay (take g.size image)) (sym pages)
-      ∙ images_recover (heap_pages g) true m.turning.pages m.patching (take g.size image) sound.covers possible in
-      let taken = sym (length-take g.size image) ∙ possible.size ∙ sound.covers.image_size in
-      log-found o k.head k.base k.records finds.owned tells.numbers tells.numbers_are image m.turning.pages.heap (omega (arith, taken)) laid sound.value sound.reads finds.which log second finds.mounts finds.other
+      sym (by-which finds.which o log image second)
+      ∙ found_over o k.head k.base k.records tells.numbers tells.numbers_are true m.turning.pages m.patching sound.covers pages sound.value sound.reads finds.which
+      (log_on finds.which log second) image (log_on (other_log finds.which) log second) finds.mounts finds.owned finds.other
+      (subst (λ (n : ℕ). IsPossible m.patching (take n image)) (sym size) possible)
 
   module _ (given : List Packet) (n : Node) (doubt : Doubt) (log image second : List ℕ) where
     -- nothing is found where the node was being created, and else a state and a value

@@ -34,7 +34,6 @@ use Rattle.ken_store.specs.Kept.{base_pages}
 use Rattle.ken_store.specs.Logs.{front_of, is_owned, log_on}
 use Rattle.ken_store.specs.Patching.{HoldsImage}
 use Rattle.ken_store.specs.Recovered.{numbers_of, state_of}
-use Rattle.ken_store.specs.Standing.{IsNoneOrWhole}
 use Rattle.ken_store.specs.Turning.{IsPassed, PassesOver, changed_in, live_layers, record_layer, state_in, turn_pages}
 use Rattle.ken_store.proofs.ApartPages.{hand_all-possible}
 use Rattle.ken_store.proofs.Mounted.{front_whole}
@@ -44,7 +43,7 @@ use Rattle.ken_node.specs.declared.patcher.PatchWorker.{PatchWorker}
 use Rattle.ken_node.specs.declared.stage.Stage.TheVariants.{Created}
 use Rattle.ken_node.specs.declared.worker.TurnWorker.{TurnWorker}
 use Rattle.ken_node.specs.Created.{owner_of}
-use Rattle.ken_node.specs.Down.{AreTold, ComesOut, Finds, HasLanded, IsDown, IsOlder, IsSound, LeavesLog, LeavesNode, MountedLog, TellsNode, a_log}
+use Rattle.ken_node.specs.Down.{AreTold, ComesOut, Finds, HasLanded, IsDown, IsSound, LeavesLog, LeavesNode, MountedLog, TellsNode, a_log}
 use Rattle.ken_node.specs.DownLaws.{PatchGoesDown, SyncGoesDown, WholeGoesDown}
 use Rattle.ken_node.specs.Meeting.{AreJoined}
 use Rattle.ken_node.specs.Patches.{waits_of}
@@ -55,21 +54,14 @@ use Rattle.ken_node.proofs.PatchesWhole.{covers-node, joined-patcher}
 -- ---- which of two logs is current
 
 module _ (o : Owner) (k : MountedLog) (owned : is_owned o k.head ≡ true) where
-  pub finds-current : (which : Which) (log other : List ℕ) → mount_of log ≡ mounts.Whole k.head k.base k.records → IsOlder o k.head (mount_of other) → Finds o (log_on which log other) (log_on which other log) k
+  pub finds-current : (which : Which) (log other : List ℕ) → mount_of log ≡ mounts.Whole k.head k.base k.records → IsPassed o k.head (front_of other) → Finds o (log_on which log other) (log_on which other log) k
   finds-current First log other is older = record { which = First; mounts = is; owned = owned; other = older }
   finds-current Second log other is older = record { which = Second; mounts = is; owned = owned; other = older }
 
   -- the log on the other disk
-  pub finds-other : (which : Which) (log other : List ℕ) → mount_of other ≡ mounts.Whole k.head k.base k.records → IsOlder o k.head (mount_of log) → Finds o (log_on which log other) (log_on which other log) k
+  pub finds-other : (which : Which) (log other : List ℕ) → mount_of other ≡ mounts.Whole k.head k.base k.records → IsPassed o k.head (front_of log) → Finds o (log_on which log other) (log_on which other log) k
   finds-other First log other is older = record { which = Second; mounts = is; owned = owned; other = older }
   finds-other Second log other is older = record { which = First; mounts = is; owned = owned; other = older }
-
--- a disk that is passed over has no log or an older one
-pub older-passed : {D : Type 0} (told : D → Option Story) (disk : D) (o : Owner) (head : Header) (s : Story) → told disk ≡ Some s → IsNoneOrWhole told disk → IsPassed o head (front_of s.now.seen) → IsOlder o head (mount_of s.now.seen)
-older-passed told disk o head s is none_or_whole passed = ⊎_elim
-    (λ none. subst (IsOlder o head) (sym none) tt)
-    (λ whole. subst (IsOlder o head) (sym whole.1.1.1) (subst (IsPassed o head) (front_whole s.now.seen whole.0 whole.1.0 whole.1.1.0 whole.1.1.1) passed))
-    (none_or_whole s is)
 
 -- ---- what a crash leaves, where a log is there
 
@@ -220,21 +212,20 @@ module _ {D : Type 0} (told : D → Option Story) (size : D → ℕ) (g : Game) 
     }
 
   -- the disks of the logs are at rest: a crash leaves what they show
-  pub finds-now : (l o : Story) → told t.side.log.disk ≡ Some l → told t.side.other ≡ Some o → IsNoneOrWhole told t.side.other → (log other : List ℕ) → IsImage l.now log → IsImage o.now other → Finds (owner_of g v) (log_on t.side.which log other) (log_on t.side.which other log) log-of
-  finds-now l o tl to none_or_whole log other in_log in_other =
+  pub finds-now : (l o : Story) → told t.side.log.disk ≡ Some l → told t.side.other ≡ Some o → (log other : List ℕ) → IsImage l.now log → IsImage o.now other → Finds (owner_of g v) (log_on t.side.which log other) (log_on t.side.which other log) log-of
+  finds-now l o tl to log other in_log in_other =
       let log_is : log ≡ l.now.seen = image_at_rest l.now (w.working.side.log.rests l tl) log in_log in
       let other_is : other ≡ o.now.seen = image_at_rest o.now (w.working.side.rests o to) other in_other in
       let passes : PassesOver (owner_of g v) t.side.log.header (front_of o.now.seen) = subst (λ (x : Owner). PassesOver x t.side.log.header (front_of o.now.seen)) owner-is (w.working.side.other l tl o to) in
-      let older = older-passed told t.side.other (owner_of g v) t.side.log.header o to none_or_whole passes.passed in
-      finds-current (owner_of g v) log-of passes.owned t.side.which log other (ap mount_of log_is ∙ w.working.side.mounts l tl) (subst (λ (x : List ℕ). IsOlder (owner_of g v) t.side.log.header (mount_of x)) (sym other_is) older)
+      finds-current (owner_of g v) log-of passes.owned t.side.which log other (ap mount_of log_is ∙ w.working.side.mounts l tl) (subst (λ (x : List ℕ). IsPassed (owner_of g v) t.side.log.header (front_of x)) (sym other_is) passes.passed)
 
   -- so they leave a node that is sound, whatever is possible of its image
-  pub leaves-now : (given : List Packet) (image : ImagePages) (disk : D) → Covers (heap_pages g) true n.turning.pages image → Tells (told disk) (λ h. (b : List ℕ) → IsImage h.now b → IsPossible image (take g.size b)) → IsNoneOrWhole told t.side.other
+  pub leaves-now : (given : List Packet) (image : ImagePages) (disk : D) → Covers (heap_pages g) true n.turning.pages image → Tells (told disk) (λ h. (b : List ℕ) → IsImage h.now b → IsPossible image (take g.size b))
       → LeavesLogs told g v given (record n { patching = image }) no_doubt (disks_from t.side.which t.side.log.disk disk t.side.other)
-  leaves-now given image disk covers possible none_or_whole =
+  leaves-now given image disk covers possible =
       leaves-by told g v given (record n { patching = image }) no_doubt t.side.log.disk disk t.side.other t.side.which
       (λ l i o tl ti to a b c la ib oc.
-      found-over image given no_doubt (log_on t.side.which a c) b (log_on t.side.which c a) covers refl tt (finds-now l o tl to none_or_whole a c la oc) (possible i ti b ib))
+      found-over image given no_doubt (log_on t.side.which a c) b (log_on t.side.which c a) covers refl tt (finds-now l o tl to a c la oc) (possible i ti b ib))
 
 -- an image that a crash leaves is possible also of what the handler has sealed and not handed over
 pub possible-all : (g : Game) (waiting : List (ℕ × List Page)) (image : ImagePages) (pages : ℕ) (h : Story) → HoldsImage pages image h.now → 256 * pages ≡ g.size → (b : List ℕ) → IsImage h.now b → IsPossible (hand_all waiting image) (take g.size b)
@@ -250,11 +241,11 @@ possible-now told size g v n t p s whole h th b is =
 
 module _ {D : Type 0} (told : D → Option Story) (size : D → ℕ) where
   pub whole_goes_down : WholeGoesDown told size
-  whole_goes_down g v given n t p s limits known whole none_or_whole tell =
+  whole_goes_down g v given n t p s limits known whole tell =
       let w = whole.workers in
       let h = whole.pages in
       is-down told g v given n no_doubt t p s limits known w.of_run w.joined w.turns.kept tell
-      (leaves-now told size g v n t p s w h.turning given n.patching p.side.image.disk (covers-node told size g v n t p w.of_run.size h) (possible-now told size g v n t p s whole) none_or_whole)
+      (leaves-now told size g v n t p s w h.turning given n.patching p.side.image.disk (covers-node told size g v n t p w.of_run.size h) (possible-now told size g v n t p s whole))
 
   -- a patch changes nothing but the image
   only-image : (g : Game) (v : ℕ) (n after : Node) → Call g v [] (IsPatchOf v) n nothing after → after ≡ record n { patching = after.patching }
@@ -265,7 +256,7 @@ module _ {D : Type 0} (told : D → Option Story) (size : D → ℕ) where
       last ∙ step ∙ ap (λ (x : Node). record n { patching = x.patching }) (sym last)
 
   pub patch_goes_down : PatchGoesDown told size
-  patch_goes_down g v given n t p p2 s limits known whole same fails none_or_whole tell =
+  patch_goes_down g v given n t p p2 s limits known whole same fails tell =
       let w = whole.workers in
       let after : Node = fails.after in
       let is : after ≡ record n { patching = after.patching } = only-image g v n after fails.call in
@@ -273,10 +264,10 @@ module _ {D : Type 0} (told : D → Option Story) (size : D → ℕ) where
       is-down told g v given after no_doubt t p2 s limits known w.of_run (joined-patcher told size g v t p p2 s w.joined same) (w.turns.kept ∙ ap (λ (x : Node). x.turning.turns) (sym is)) tell
       (subst (λ (x : Node). LeavesLogs told g v given x no_doubt (disks_apart t.side p2.side)) (sym is)
       (leaves-now told size g v n t p s w whole.pages.turning given after.patching p2.side.image.disk covers
-      (λ i ti b ib. subst (λ (x : ImagePages). IsPossible x (take g.size b)) (sym fails.patching) (possible-all g (waits_of fails.queue) fails.image p2.side.image.pages i (fails.holds i ti) fails.pages b ib)) none_or_whole))
+      (λ i ti b ib. subst (λ (x : ImagePages). IsPossible x (take g.size b)) (sym fails.patching) (possible-all g (waits_of fails.queue) fails.image p2.side.image.pages i (fails.holds i ti) fails.pages b ib))))
 
   pub sync_goes_down : SyncGoesDown told size
-  sync_goes_down g v given n t p p2 s limits known whole same fails none_or_whole tell =
+  sync_goes_down g v given n t p p2 s limits known whole same fails tell =
       let w = whole.workers in
       is-down told g v given n no_doubt t p2 s limits known w.of_run (joined-patcher told size g v t p p2 s w.joined same) w.turns.kept tell
-      (leaves-now told size g v n t p s w whole.pages.turning given n.patching p2.side.image.disk (covers-node told size g v n t p w.of_run.size whole.pages) fails none_or_whole)
+      (leaves-now told size g v n t p s w whole.pages.turning given n.patching p2.side.image.disk (covers-node told size g v n t p w.of_run.size whole.pages) fails)

@@ -57,7 +57,6 @@ pub mod CreationDown
 pub mod ShortMails
 pub mod SealDown
 pub mod TurnoverDown
-pub mod OtherDisk
 pub mod TurnDown
 pub mod MeetingDown
 pub mod Restarted

@@ -107,7 +107,7 @@ module _ {D : Type 0} (told : D → Option Story) (size count : D → ℕ) (fate
       after = leads.after;
       call = leads.call;
       spelled = tt;
-      up = met-up told size t t2 p1 p2 s s2 met g v leads.after up.limits up.known leads.whole up.other (disks-told t p p1 goes up.tell) same joined empty;
+      up = met-up told size t t2 p1 p2 s s2 met g v leads.after up.limits up.known leads.whole (disks-told t p p1 goes up.tell) same joined empty;
     }
 
     -- where no page is to be written, none waits of the node's
@@ -138,7 +138,7 @@ module _ {D : Type 0} (told : D → Option Story) (size count : D → ℕ) (fate
           spelled = tt;
           down =
               meeting_stays_down told size g v [] fails.after no_doubt t t2 p1 p2 s s2
-              (patch_goes_down told size g v [] n t p p1 s up.limits up.known up.whole still fails up.other (disks-told t p p1 (patched-told (Err store.Disk) p p1 is) up.tell)) same joined met;
+              (patch_goes_down told size g v [] n t p p1 s up.limits up.known up.whole still fails (disks-told t p p1 (patched-told (Err store.Disk) p p1 is) up.tell)) same joined met;
         }
     patch-steps (Err Memory) sound still is = tt
     patch-steps (Err Outlet) sound still is = sound
@@ -154,7 +154,7 @@ module _ {D : Type 0} (told : D → Option Story) (size count : D → ℕ) (fate
           spelled = tt;
           down =
               meeting_stays_down told size g v [] n no_doubt t t2 p1 p2 s s2
-              (sync_goes_down told size g v [] n t p p1 s up.limits up.known up.whole still fails up.other (disks-told t p p1 (settled-told {T = Unit {0}} (Err store.Disk) p p1 is) up.tell)) same joined met;
+              (sync_goes_down told size g v [] n t p p1 s up.limits up.known up.whole still fails (disks-told t p p1 (settled-told {T = Unit {0}} (Err store.Disk) p p1 is) up.tell)) same joined met;
         }
     settle-steps (Err Memory) sound still is = tt
     settle-steps (Err Outlet) sound still is = sound

@@ -36,7 +36,7 @@ use Rattle.ken_node.specs.declared.stage.Stage.{Stage}
 use Rattle.ken_node.specs.declared.stage.Stage.TheVariants.{Created}
 use Rattle.ken_node.specs.declared.worker.TurnWorker.{TurnWorker}
 use Rattle.ken_node.specs.Created.{AreOver, owner_of}
-use Rattle.ken_node.specs.Down.{AreTold, Finds, IsOlder, MountedLog}
+use Rattle.ken_node.specs.Down.{AreTold, Finds, MountedLog}
 use Rattle.ken_node.specs.First.{AreFirst}
 use Rattle.ken_node.specs.NodeCalls.{UnlessMemory}
 use Rattle.ken_node.specs.Restarting.{HaveCounts, LeaveLess}
@@ -46,6 +46,8 @@ use Rattle.ken_node.proofs.Fresh.{has-one}
 use Rattle.ken_node.proofs.Recovered.{read-less, some-is}
 use Rattle.ken_node.proofs.Restarted.{was-told}
 use Rattle.ken_node.proofs.Synced.{no-log, one-found, same-numbers, worked-less}
+use Rattle.ken_store.specs.Turning.{IsPassed}
+use Rattle.ken_store.proofs.Mounted.{front_none}
 
 -- ---- a creation
 
@@ -120,7 +122,7 @@ module _ {D T : Type 0} (told : D → Option Story) (count : D → ℕ) (g : Gam
       (λ (no_first : mount_of log ≡ mounts.Unformatted). absurd (no-log finds.which log after k finds.mounts no_first no_second))
       (λ (whole : mount_of log ≡ mounts.Whole (first_header o) None []).
       let there : mount_of log ≡ mounts.Unformatted → ⊥ = λ un. let none : ⊥ = cc (whole, un) in none in
-      let found : Finds o log after (first-log g v) = record { which = First; mounts = whole; owned = owned o; other = subst (IsOlder o (first_header o)) (sym no_second) tt } in
+      let found : Finds o log after (first-log g v) = record { which = First; mounts = whole; owned = owned o; other = subst (IsPassed o (first_header o)) (sym (front_none after no_second)) tt } in
       let numbers : no_numbers ≡ m = same-numbers o (first-log g v) k no_numbers m (one-found o log after (first-log g v) k found finds) refl is in
       let none : m.turns ≡ 0 = ap (λ (x : Numbers). x.turns) (sym numbers) in
       worked-less told count (3 + 2 * m.turns) 3 new.log new.second (omega (arith, none)) (works (record { story = l2; is_told = tl2; image = log; left = in_log; there = there })))

@@ -33,8 +33,7 @@ use Rattle.ken_store.specs.Kept.{base_pages}
 use Rattle.ken_store.specs.Logs.{front_of, log_on}
 use Rattle.ken_store.specs.Numbers.{after_record}
 use Rattle.ken_store.specs.Recovered.{numbers_of}
-use Rattle.ken_store.specs.Standing.{IsNoneOrWhole}
-use Rattle.ken_store.specs.Turning.{MaySeal as MaySealOn, PassesOver, live_layers, turn_pages}
+use Rattle.ken_store.specs.Turning.{MaySeal as MaySealOn, PassesOver, live_layers, turn_pages, IsPassed}
 use Rattle.ken_store.proofs.Creating.{follows_at}
 use Rattle.ken_store.proofs.SealMeanwhile.{changed_within}
 use Rattle.ken_store.proofs.Sealing.{live_more, numbers_more, told_before}
@@ -45,14 +44,14 @@ use Rattle.ken_node.specs.declared.stage.Stage.TheVariants.{Created}
 use Rattle.ken_node.specs.declared.worker.TurnWorker.{TurnWorker}
 use Rattle.ken_node.specs.Calls.{IsQuiet}
 use Rattle.ken_node.specs.Created.{owner_of}
-use Rattle.ken_node.specs.Down.{AreTold, IsDown, IsOlder, IsSound, MountedLog, TellsNode}
+use Rattle.ken_node.specs.Down.{AreTold, IsDown, IsSound, MountedLog, TellsNode}
 use Rattle.ken_node.specs.DownLaws.{SealGoesDown}
 use Rattle.ken_node.specs.Making.{IsMade}
 use Rattle.ken_node.specs.Sealing.{SealsTurn, coming_pages, coming_turn}
 use Rattle.ken_node.specs.TurnLaws.{turn_made}
 use Rattle.ken_node.specs.Whole.{IsWhole}
 use Rattle.ken_node.specs.Workers.{next}
-use Rattle.ken_node.proofs.GoesDown.{FoundLog, LeavesLogs, comes, finds-current, found-over, is-down, leaves-by, live-recounted, log-of, older-passed, owner-is, possible-now}
+use Rattle.ken_node.proofs.GoesDown.{FoundLog, LeavesLogs, comes, finds-current, found-over, is-down, leaves-by, live-recounted, log-of, owner-is, possible-now}
 use Rattle.ken_node.proofs.Paced.{paced-more}
 use Rattle.ken_node.proofs.PatchesWhole.{covers-node}
 use Rattle.ken_node.proofs.SealsWhole.{after, begun-heap, comes-of, coming, counted-after, handler-made, number-is, own-after, sent-after, stands-after, state-after, turn, turns-are}
@@ -129,7 +128,7 @@ module _ {D : Type 0} (told : D → Option Story) (size : D → ℕ) (g : Game) 
 
   -- what a crash leaves while the seal is in doubt: the log without the record or with it
   module _ (count : D → ℕ) (fate : D → Option Fate) (given : List Packet) (room : length t.side.records.items < 32) (short : IsShortText m.bytes) (sealable : MaySeal g (Contains given) v n m.from e.draws (coming_pages begun) (turn_made m e made.effect)) (new : TurnSide D)
-      (sealing : SealsTurn told size count fate {T = Unit {0}} (Err store.Disk) e begun new) (none_or_whole : IsNoneOrWhole told new.other) where
+      (sealing : SealsTurn told size count fate {T = Unit {0}} (Err store.Disk) e begun new) where
     abbrev doubt : Doubt
     doubt = seal m.from e.draws (coming_pages begun)
 
@@ -158,8 +157,8 @@ module _ {D : Type 0} (told : D → Option Story) (size : D → ℕ) (g : Game) 
         let to_old : told t.side.other ≡ Some o = ap told (sym other-new) ∙ to in
         let other_is : other ≡ o.now.seen = image_at_rest o.now (side.rests o to_old) other in_other in
         let passes : PassesOver (owner_of g v) t.side.log.header (front_of o.now.seen) = subst (λ (x : Owner). PassesOver x t.side.log.header (front_of o.now.seen)) (owner-is told size g v n t p s w h.turning) (side.other start.0 before o to_old) in
-        let older : IsOlder (owner_of g v) t.side.log.header (mount_of other) =
-        subst (λ (x : List ℕ). IsOlder (owner_of g v) t.side.log.header (mount_of x)) (sym other_is) (older-passed told new.other (owner_of g v) t.side.log.header o to none_or_whole passes.passed) in
+        let older : IsPassed (owner_of g v) t.side.log.header (front_of other) =
+        subst (λ (x : List ℕ). IsPassed (owner_of g v) t.side.log.header (front_of x)) (sym other_is) passes.passed in
         let possible : IsPossible n.patching (take g.size image) = possible-now told size g v n t p s whole i ti image in_image in
         let mounted = side.mounts start.0 before in
         ⊎_elim
@@ -189,7 +188,7 @@ module _ {D : Type 0} (told : D → Option Story) (size : D → ℕ) (g : Game) 
 
 module _ {D O N : Type 0} (told : D → Option Story) (size count : D → ℕ) (fate : D → Option Fate) (clocks words : O → Option (List ℕ)) (given_between : N → N → List (List ℕ) → Type 0) (put_between : N → N → List Put → Type 0) where
   pub seal_goes_down : SealGoesDown told size count fate clocks words given_between put_between
-  seal_goes_down g v n t t2 p s oracle oracle2 net net2 limits known doubts none_or_whole tell =
+  seal_goes_down g v n t t2 p s oracle oracle2 net net2 limits known doubts tell =
       let mid : TurnWorker D = doubts.mid in
       let node : Node = doubts.before.after in
       let whole = doubts.before.whole in
@@ -198,4 +197,4 @@ module _ {D O N : Type 0} (told : D → Option Story) (size count : D → ℕ) (
       let given : List Packet = packets_from g.nodes doubts.before.given in
       let may = subst (λ (x : Turn). MaySeal g (Contains given) v node m.from d.effects.draws (coming_pages d.begun) x) doubts.turn_is doubts.may in
       let short : IsShortText m.bytes = came-short g doubts.before.given v m limits may.came in
-      seal-down told size g v node mid p s whole m d.effects d.begun d.made d.seals.may count fate given doubts.room short may t2.side d.seals none_or_whole t2 refl d.quiet limits known tell
+      seal-down told size g v node mid p s whole m d.effects d.begun d.made d.seals.may count fate given doubts.room short may t2.side d.seals t2 refl d.quiet limits known tell

@@ -29,8 +29,7 @@ use Rattle.ken_store.specs.Answers.{disks_from}
 use Rattle.ken_store.specs.Apart.{disks_apart}
 use Rattle.ken_store.specs.Logs.{front_of, log_on, other_log}
 use Rattle.ken_store.specs.Recovered.{numbers_of}
-use Rattle.ken_store.specs.Standing.{IsNoneOrWhole}
-use Rattle.ken_store.specs.Turning.{KeepsLog, PassesOver, Turning}
+use Rattle.ken_store.specs.Turning.{KeepsLog, PassesOver, Turning, IsPassed}
 use Rattle.ken_store.specs.Work.{HaveWorked, MayHaveChanged}
 use Rattle.ken_store.proofs.Worked.{seal_works, turnover_works}
 use Rattle.ken_ship.specs.declared.worker.SendWorker.{SendWorker}
@@ -39,13 +38,14 @@ use Rattle.ken_node.specs.declared.stage.Stage.{Stage}
 use Rattle.ken_node.specs.declared.stage.Stage.TheVariants.{Created}
 use Rattle.ken_node.specs.declared.worker.TurnWorker.{TurnWorker}
 use Rattle.ken_node.specs.Created.{owner_of}
-use Rattle.ken_node.specs.Down.{AreTold, ComesOut, Finds, IsDown, IsOlder, LeavesLog, LeavesNode, Left, MountedLog, a_log, nothing}
+use Rattle.ken_node.specs.Down.{AreTold, ComesOut, Finds, IsDown, LeavesLog, LeavesNode, Left, MountedLog, a_log, nothing}
 use Rattle.ken_node.specs.Sealing.{RenewsBy, SealsTurn}
 use Rattle.ken_node.specs.Stages.{HasDisks}
 use Rattle.ken_node.specs.Synced.{HasSynced, LeavesSynced, UpHasSynced}
 use Rattle.ken_node.proofs.Fresh.{has-one}
-use Rattle.ken_node.proofs.GoesDown.{finds-current, older-passed, whole_goes_down}
+use Rattle.ken_node.proofs.GoesDown.{finds-current, whole_goes_down}
 use Rattle.ken_node.proofs.Recovered.{some-is}
+use Rattle.ken_store.proofs.Mounted.{front_whole}
 
 -- ---- one log is found
 
@@ -58,21 +58,21 @@ same-mounted a b is =
     ∙ ap (λ (x : Option Base). let k : MountedLog = record { head = b.head; base = x; records = a.records } in k) base
     ∙ ap (λ (x : List Record). let k : MountedLog = record { head = b.head; base = b.base; records = x } in k) records
 
-not-both : (o : Owner) (a b : MountedLog) (m m2 : Mounted) → m ≡ mounts.Whole a.head a.base a.records → m2 ≡ mounts.Whole b.head b.base b.records → IsOlder o a.head m2 → IsOlder o b.head m → ⊥
-not-both o a b m m2 is is2 older older2 =
-    let one : b.head.generation < a.head.generation = (subst (IsOlder o a.head) is2 older).0 in
-    let two : a.head.generation < b.head.generation = (subst (IsOlder o b.head) is older2).0 in
+not-both : (o : Owner) (a b : MountedLog) (x y : List ℕ) → mount_of x ≡ mounts.Whole a.head a.base a.records → mount_of y ≡ mounts.Whole b.head b.base b.records → IsPassed o a.head (front_of y) → IsPassed o b.head (front_of x) → ⊥
+not-both o a b x y is is2 older older2 =
+    let one : b.head.generation < a.head.generation = (subst (IsPassed o a.head) (front_whole y b.head b.base b.records is2) older).0 in
+    let two : a.head.generation < b.head.generation = (subst (IsPassed o b.head) (front_whole x a.head a.base a.records is) older2).0 in
     omega (arith, one, two)
 
 pub one-found : (o : Owner) (log second : List ℕ) (a b : MountedLog) → Finds o log second a → Finds o log second b → a ≡ b
 one-found o log second a b one two = by one.which two.which one.mounts one.other two.mounts two.other
   where
-    by : (w w2 : Which) → mount_of (log_on w log second) ≡ mounts.Whole a.head a.base a.records → IsOlder o a.head (mount_of (log_on (other_log w) log second))
-        → mount_of (log_on w2 log second) ≡ mounts.Whole b.head b.base b.records → IsOlder o b.head (mount_of (log_on (other_log w2) log second)) → a ≡ b
+    by : (w w2 : Which) → mount_of (log_on w log second) ≡ mounts.Whole a.head a.base a.records → IsPassed o a.head (front_of (log_on (other_log w) log second))
+        → mount_of (log_on w2 log second) ≡ mounts.Whole b.head b.base b.records → IsPassed o b.head (front_of (log_on (other_log w2) log second)) → a ≡ b
     by First First is older is2 older2 = same-mounted a b (sym is ∙ is2)
     by Second Second is older is2 older2 = same-mounted a b (sym is ∙ is2)
-    by First Second is older is2 older2 = absurd (not-both o a b (mount_of log) (mount_of second) is is2 older older2)
-    by Second First is older is2 older2 = absurd (not-both o a b (mount_of second) (mount_of log) is is2 older older2)
+    by First Second is older is2 older2 = absurd (not-both o a b log second is is2 older older2)
+    by Second First is older is2 older2 = absurd (not-both o a b second log is is2 older older2)
 
 -- a log that is found is there
 pub no-log : (which : Which) (log second : List ℕ) (k : MountedLog) → mount_of (log_on which log second) ≡ mounts.Whole k.head k.base k.records → mount_of log ≡ mounts.Unformatted → mount_of second ≡ mounts.Unformatted → ⊥
@@ -252,7 +252,7 @@ up_has_synced {D} told size count g v n stage disks up synced has =
     let at : disks ≡ disks_apart t.side p.side = subst (HasDisks disks) up.stage_is has in
     let here : HasDisks (disks_apart t.side p.side) stage = subst (HasDisks (disks_apart t.side p.side)) (sym up.stage_is) refl in
     subst (λ (d : Disks D). HasSynced told count (length n.turning.turns) d) (sym at)
-    (has-synced told count g v n t p s (whole_goes_down told size g v [] n t p s up.limits up.known up.whole up.other up.tell) (synced (disks_apart t.side p.side) here))
+    (has-synced told count g v n t p s (whole_goes_down told size g v [] n t p s up.limits up.known up.whole up.tell) (synced (disks_apart t.side p.side) here))
 
 -- ---- a seal that landed changed what the log's disk mounts as
 
@@ -264,7 +264,7 @@ module _ {D : Type 0} (told : D → Option Story) (count : D → ℕ) (o : Owner
   landed-changed First old log image other none l s tl ts a b in_a in_b finds h th x tx = (a, (subst (λ (y : Story). IsImage y.now a) (some_is l x (sym tl ∙ tx)) in_a, none h s th ts a b in_b finds))
   landed-changed Second old log image other none l s tl ts a b in_a in_b finds h th x tx = (b, (subst (λ (y : Story). IsImage y.now b) (some_is s x (sym ts ∙ tx)) in_b, none h l th tl b a in_a finds))
 
-module _ {D : Type 0} (told : D → Option Story) (size : D → ℕ) (o : Owner) (side : TurnSide D) (turning : Turning told size side) (owner : side.owner ≡ o) (none_or_whole : IsNoneOrWhole told side.other) where
+module _ {D : Type 0} (told : D → Option Story) (size : D → ℕ) (o : Owner) (side : TurnSide D) (turning : Turning told size side) (owner : side.owner ≡ o) where
   abbrev log-at : MountedLog
   log-at = record { head = side.log.header; base = side.log.base; records = side.records.items }
 
@@ -274,8 +274,7 @@ module _ {D : Type 0} (told : D → Option Story) (size : D → ℕ) (o : Owner)
   same-turns w h c th tc a b in_b same k finds m is =
       let b_is : b ≡ c.now.seen = image_at_rest c.now (turning.rests c tc) b in_b in
       let passes : PassesOver o side.log.header (front_of c.now.seen) = subst (λ (x : Owner). PassesOver x side.log.header (front_of c.now.seen)) owner (turning.other h th c tc) in
-      let older = older-passed told side.other o side.log.header c tc none_or_whole passes.passed in
       let now : Finds o (log_on w a b) (log_on w b a) log-at =
-      finds-current o log-at passes.owned w a b (same ∙ turning.mounts h th) (subst (λ (x : List ℕ). IsOlder o side.log.header (mount_of x)) (sym b_is) older) in
+      finds-current o log-at passes.owned w a b (same ∙ turning.mounts h th) (subst (λ (x : List ℕ). IsPassed o side.log.header (front_of x)) (sym b_is) passes.passed) in
       let numbers : numbers_of o side.log.header side.log.base side.records.items ≡ Ok side.numbers = ap (λ (x : Owner). numbers_of x side.log.header side.log.base side.records.items) (sym owner) ∙ turning.numbers in
       ap (λ (x : Numbers). x.turns) (sym (same-numbers o log-at k side.numbers m (one-found o (log_on w a b) (log_on w b a) log-at k now finds) numbers is))

@@ -4,7 +4,6 @@ use Rattle.ken_disk.specs.Fates.{Fate}
 use Rattle.ken_disk.specs.Story.{Story}
 use Rattle.ken_net.specs.Puts.{Put}
 use Rattle.ken_store.specs.declared.turning.TurnSide.{TurnSide}
-use Rattle.ken_store.specs.Standing.{IsNoneOrWhole}
 use Rattle.ken_ship.specs.declared.faults.NodeFault.TheVariants.{Disk}
 use Rattle.ken_node.specs.declared.worker.TurnWorker.{TurnWorker}
 use Rattle.ken_node.specs.Calls.{IsTurnInDoubt, IsTurnoverInDoubt}
@@ -12,7 +11,6 @@ use Rattle.ken_node.specs.DownLaws.{TurnGoesDown}
 use Rattle.ken_node.specs.Sealing.{is_full}
 use Rattle.ken_node.specs.Whole.{IsWhole}
 use Rattle.ken_node.specs.TurnLaws.{DoubtsSeal, DoubtsTurnover, Drew}
-use Rattle.ken_node.proofs.OtherDisk.{came-other, doubt-other}
 use Rattle.ken_node.proofs.SealDown.{seal_goes_down}
 use Rattle.ken_node.proofs.TurnoverDown.{turnover_goes_down}
 use Rattle.ken_node.proofs.TurnoversWhole.{may-turn}
@@ -20,24 +18,20 @@ use Rattle.ken_node.proofs.TurnsWhole.{doubt-from, doubt-leads, heard-whole, rea
 
 module _ {D O N : Type 0} (told : D → Option Story) (size count : D → ℕ) (fate : D → Option Fate) (clocks words : O → Option (List ℕ)) (given_between : N → N → List (List ℕ) → Type 0) (put_between : N → N → List Put → Type 0) where
   pub turn_goes_down : TurnGoesDown told size count fate clocks words given_between put_between
-  turn_goes_down g v n t mid t2 p s oracle oracle2 net net2 nones nones2 limits known whole same news takes fronts none_or_whole tell =
+  turn_goes_down g v n t mid t2 p s oracle oracle2 net net2 nones nones2 limits known whole same news takes fronts tell =
       let drew : List ℕ → Type 0 = Drew clocks words g.handler oracle oracle2 in
       let gave : List (List ℕ) → Type 0 = given_between net net2 in
       let put : List Put → Type 0 = put_between net net2 in
       let heard : IsWhole told size g v n mid p s = heard-whole told size count fate clocks words given_between put_between g v n t mid t2 p s oracle oracle2 net net2 (Err Disk) nones nones2 whole news takes fronts in
-      let side : mid.side ≡ t.side = ap (λ (x : TurnWorker D). x.side) news.rest in
-      let before : IsNoneOrWhole told mid.side.other = subst (λ (x : TurnSide D). IsNoneOrWhole told x.other) (sym side) none_or_whole in
       ⊎_elim
       (λ (in_doubt : IsTurnoverInDoubt told size count fate g.handler drew mid t2 gave put).
       let doubts : DoubtsTurnover told size g v n gave put mid p s = record { was_given = in_doubt.given; was_put = in_doubt.none; whole = heard; may = may-turn told size g v n mid p s heard } in
-      inl (record { doubts = doubts; down = λ given. turnover_goes_down told size count fate clocks words given_between put_between g v given n mid t2 p s oracle oracle2 net net2 limits known doubts in_doubt before tell }))
+      inl (record { doubts = doubts; down = λ given. turnover_goes_down told size count fate clocks words given_between put_between g v given n mid t2 p s oracle oracle2 net net2 limits known doubts in_doubt tell }))
       (λ (turn : IsTurnInDoubt told size count fate g.handler drew mid t2 gave put nones nones2).
       let ready = ready-by told size count fate drew g v p s gave n mid heard put nones nones2 turn.mid (Some turn.message) turn.came in
       let order = ap (λ (x : TurnWorker D). x.order) news.rest in
       let full = ap (λ (x : TurnWorker D). is_full x.side) news.rest in
       let doubts : DoubtsSeal told size count fate drew g v n gave put t t2 p s =
       doubt-from told size count fate drew g v p s gave put n t mid t2 order full (doubt-leads told size count fate drew g v p s gave n mid heard put turn.mid t2 turn.message ready turn.doubt) in
-      let other : IsNoneOrWhole told t2.side.other =
-      doubt-other told size count fate g.handler drew turn.message turn.mid t2 turn.doubt (came-other told size count fate g.handler drew gave put nones nones2 (Some turn.message) mid turn.mid heard.workers.working.side turn.came before) in
-      inr (record { doubts = doubts; down = seal_goes_down told size count fate clocks words given_between put_between g v n t t2 p s oracle oracle2 net net2 limits known doubts other tell }))
+      inr (record { doubts = doubts; down = seal_goes_down told size count fate clocks words given_between put_between g v n t t2 p s oracle oracle2 net net2 limits known doubts tell }))
       takes

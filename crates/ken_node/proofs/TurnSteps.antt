@@ -24,7 +24,6 @@ use Rattle.ken_core.specs.Runs.{NodeRun}
 use Rattle.ken_core.specs.Turns.{consumed_from as count_from}
 use Rattle.ken_store.specs.declared.turning.TurnSide.{TurnSide}
 use Rattle.ken_store.specs.Apart.{disks_apart}
-use Rattle.ken_store.specs.Standing.{IsNoneOrWhole}
 use Rattle.ken_ship.specs.declared.faults.NodeFault.{NodeFault}
 use Rattle.ken_ship.specs.declared.faults.NodeFault.TheVariants.{Disk, Damaged, Outlet, Memory}
 use Rattle.ken_ship.specs.declared.worker.SendWorker.{SendWorker}
@@ -51,7 +50,6 @@ use Rattle.ken_node.specs.Whole.{IsWhole}
 use Rattle.ken_node.specs.Workers.{HearsNews, IsSameWorker}
 use Rattle.ken_node.proofs.Again.{again-answered, again-few}
 use Rattle.ken_node.proofs.MeetingDown.{meeting_stays_down}
-use Rattle.ken_node.proofs.OtherDisk.{other_stays}
 use Rattle.ken_node.proofs.Over.{capped_over}
 use Rattle.ken_node.proofs.Quietly.{idle_keeps_sending, idle_keeps_turns}
 use Rattle.ken_node.proofs.Rings.{ring-popped, ring-pushed}
@@ -169,9 +167,9 @@ module _ {D O N : Type 0} (told : D → Option Story) (size count : D → ℕ) (
 
   -- ---- a call that no disk failed
 
-  handler-steps : (says : List Event → Type 0) → (lead : HandlerLeadsTo told size g v n says gave put t t1 p s) → length t.turns.items < 2 ^ 64 → length t1.turns.items < 2 ^ 64 → IsNoneOrWhole told t1.side.other → AreTold told (disks_apart t1.side p.side)
+  handler-steps : (says : List Event → Type 0) → (lead : HandlerLeadsTo told size g v n says gave put t t1 p s) → length t.turns.items < 2 ^ 64 → length t1.turns.items < 2 ^ 64 → AreTold told (disks_apart t1.side p.side)
       → HandlerSteps told size g v n gave put says (Created t2 p2 s2)
-  handler-steps says lead short short2 other tell = record {
+  handler-steps says lead short short2 tell = record {
     given = lead.given;
     was_given = lead.was_given;
     puts = map (ack_put v t.order) lead.before ++ map (ack_put v t1.order) lead.last;
@@ -183,12 +181,9 @@ module _ {D O N : Type 0} (told : D → Option Story) (size count : D → ℕ) (
       spelled =
           handler-spelled g (Contains (packets_from g.nodes lead.given)) v n lead.after lead.call.events lead.before lead.last t.order t1.order few-nodes up.known (order-counts told size g v n t p s up.whole) (order-counts told size g v lead.after t1 p s lead.whole)
           (subst (λ (es : List Effects). length es < 2 ^ 64) up.whole.workers.turns.kept short) (subst (λ (es : List Effects). length es < 2 ^ 64) lead.whole.workers.turns.kept short2) lead.call.run;
-      up = met-up told size t1 t2 p p2 s s2 met g v lead.after up.limits up.known lead.whole other tell same joined empty;
+      up = met-up told size t1 t2 p p2 s s2 met g v lead.after up.limits up.known lead.whole tell same joined empty;
     };
   }
-
-  other-after : (took : Took) → Takes (Ok took) → IsNoneOrWhole told t1.side.other
-  other-after took takes = other_stays told size count fate clocks words given_between put_between g t mid t1 oracle oracle2 net net2 (Ok took) nones nones2 up.whole.workers.working news takes up.other
 
   tell-after : (took : Took) → Takes (Ok took) → AreTold told (disks_apart t1.side p.side)
   tell-after took takes = turn-told told size count fate g.handler drew gave put nones nones2 p.side.image.disk took mid t1 takes heard-tell
@@ -202,7 +197,7 @@ module _ {D O N : Type 0} (told : D → Option Story) (size count : D → ℕ) (
       let few = few-turns takes.came.open_yet in
       let more : length t1.turns.items ≡ length t.turns.items + 1 = ap length turns ∙ length-append t.turns.items (e ∷ []) in
       record {
-        call = handler-steps (IsTurn v (is_full t.side)) lead (omega (arith, few)) (omega (arith, few, more)) (other-after Turn takes) (tell-after Turn takes);
+        call = handler-steps (IsTurn v (is_full t.side)) lead (omega (arith, few)) (omega (arith, few, more)) (tell-after Turn takes);
         turn = e;
         last = sym lead.whole.workers.turns.kept ∙ turns ∙ ap (λ (es : List Effects). es ++ e ∷ []) up.whole.workers.turns.kept;
         drawn = takes.ran.drawn;
@@ -230,7 +225,7 @@ module _ {D O N : Type 0} (told : D → Option Story) (size count : D → ℕ) (
       let puts : again_puts v mid.order listened.passed ≡ map (ack_put v t.order) lead.before ++ map (ack_put v t1.order) lead.last =
       listens.before_are ∙ ap (λ (c : Consumed). map (ack_put v c) lead.before) heard_order ∙ sym (append-nil (map (ack_put v t.order) lead.before)) ∙ ap (λ (senders : List ℕ). map (ack_put v t.order) lead.before ++ map (ack_put v t1.order) senders) (sym listens.last_are) in
       record {
-        call = handler-steps (IsIdle v (is_full t.side)) lead (omega (arith, few)) (omega (arith, few, same_count)) (other-after Idle takes) (tell-after Idle takes);
+        call = handler-steps (IsIdle v (is_full t.side)) lead (omega (arith, few)) (omega (arith, few, same_count)) (tell-after Idle takes);
         unmade = unmade takes.came.open_yet;
         most = let most = listened.most in subst (λ (bs : List (List ℕ)). length bs ≤ 4096) (sym listens.given_is) most;
         until = subst (λ (bs : List (List ℕ)). (length bs ≡ 4096) ⊎ (risen nones ≤ nones2)) (sym given) listened.ends.1;
@@ -256,7 +251,7 @@ module _ {D O N : Type 0} (told : D → Option Story) (size count : D → ℕ) (
           after = lead.after;
           call = record { events = []; run = (refl, run.1); which = refl };
           spelled = tt;
-          up = met-up told size t1 t2 p p2 s s2 met g v lead.after up.limits up.known lead.whole (other-after Capped takes) (tell-after Capped takes) same joined empty;
+          up = met-up told size t1 t2 p p2 s s2 met g v lead.after up.limits up.known lead.whole (tell-after Capped takes) same joined empty;
         };
         same = run.1;
         heard = mid;
@@ -323,7 +318,7 @@ module _ {D O N : Type 0} (told : D → Option Story) (size count : D → ℕ) (
       ⊎_elim
       (λ (turnover : TurnoverIsDown told size g v n gave put mid t1 p s). inl (turnover-fails turnover))
       (λ (turn : SealIsDown told size count fate drew g v n gave put t t1 p s). inr (seal-fails takes turn))
-      (turn_goes_down told size count fate clocks words given_between put_between g v n t mid t1 p s oracle oracle2 net net2 nones nones2 up.limits up.known up.whole still news takes fronts up.other tell)
+      (turn_goes_down told size count fate clocks words given_between put_between g v n t mid t1 p s oracle oracle2 net net2 nones nones2 up.limits up.known up.whole still news takes fronts tell)
 
   -- ---- by the answer
 

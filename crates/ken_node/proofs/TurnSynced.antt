@@ -15,7 +15,6 @@ use Rattle.ken_store.specs.declared.numbers.Numbers.{Numbers}
 use Rattle.ken_store.specs.declared.turning.TurnSide.{TurnSide}
 use Rattle.ken_store.specs.Apart.{disks_apart}
 use Rattle.ken_store.specs.Recovered.{numbers_of}
-use Rattle.ken_store.specs.Standing.{IsNoneOrWhole}
 use Rattle.ken_store.specs.Turning.{Turning}
 use Rattle.ken_store.specs.Work.{MayHaveChanged}
 use Rattle.ken_ship.specs.declared.faults.NodeFault.{NodeFault}
@@ -41,7 +40,6 @@ use Rattle.ken_node.specs.TurnLaws.{DoubtsTurnover, Drew, told_of}
 use Rattle.ken_node.specs.Whole.{IsWhole}
 use Rattle.ken_node.specs.Workers.{HearsNews, IsSameWorker}
 use Rattle.ken_node.proofs.GoesDown.{owner-is, whole_goes_down}
-use Rattle.ken_node.proofs.OtherDisk.{came-other, other_stays}
 use Rattle.ken_node.proofs.Synced.{WorkedAt, begun-work, calm-turns, doubted-work, has-synced, landed-changed, landed-work, leaves-by, leaves-synced, renewed-work, same-turns, seal-turns, sealed-work, turnover-turns, unsealed-work, worked-from, worked-less, worked-to}
 use Rattle.ken_node.proofs.TurnDisks.{disk-failed, turn-told}
 use Rattle.ken_node.proofs.TurnDown.{turn_goes_down}
@@ -85,9 +83,6 @@ module _ {D O N : Type 0} (told : D → Option Story) (size count : D → ℕ) (
   heard-tell : AreTold told (disks_apart mid.side p.side)
   heard-tell = subst (λ (x : TurnSide D). AreTold told (disks_apart x p.side)) (sym heard-side) up.tell
 
-  heard-other : IsNoneOrWhole told mid.side.other
-  heard-other = subst (λ (x : TurnSide D). IsNoneOrWhole told x.other) (sym heard-side) up.other
-
   -- the node may make a turn more
   few-turns : (IsCapped mid → ⊥) → length t.turns.items < 100000
   few-turns yet =
@@ -103,7 +98,7 @@ module _ {D O N : Type 0} (told : D → Option Story) (size count : D → ℕ) (
     -- what the disks have before
     worked : WorkedAt told count (3 + 2 * count-now) mid.side
     worked =
-        let has = has-synced told count g v n t p s (whole_goes_down told size g v [] n t p s up.limits up.known up.whole up.other up.tell) before in
+        let has = has-synced told count g v n t p s (whole_goes_down told size g v [] n t p s up.limits up.known up.whole up.tell) before in
         subst (WorkedAt told count (3 + 2 * count-now)) (sym heard-side) (worked-to told count (3 + 2 * count-now) t.side.which t.side.log.disk p.side.image.disk t.side.other has)
 
     -- so they have enough for so many turns
@@ -114,16 +109,13 @@ module _ {D O N : Type 0} (told : D → Option Story) (size count : D → ℕ) (
     -- ---- a call that no disk failed
 
     -- it leads to a node with so many turns
-    after-ok : (after : Node) → IsWhole told size g v after t1 p s → IsNoneOrWhole told t1.side.other → AreTold told (disks_apart t1.side p.side) → (has : ℕ) → 3 + 2 * length t1.turns.items ≤ has → WorkedAt told count has t1.side → After
-    after-ok after whole other tell has less have =
-        leaves-synced told count g v [] after no_doubt (Created t1 p s) (whole_goes_down told size g v [] after t1 p s up.limits up.known whole other tell) (disks_apart t1.side p.side) refl
+    after-ok : (after : Node) → IsWhole told size g v after t1 p s → AreTold told (disks_apart t1.side p.side) → (has : ℕ) → 3 + 2 * length t1.turns.items ≤ has → WorkedAt told count has t1.side → After
+    after-ok after whole tell has less have =
+        leaves-synced told count g v [] after no_doubt (Created t1 p s) (whole_goes_down told size g v [] after t1 p s up.limits up.known whole tell) (disks_apart t1.side p.side) refl
         (λ turns tells.
         let counted : turns ≡ length after.turning.turns = calm-turns g v [] after turns tells in
         let kept : length t1.turns.items ≡ length after.turning.turns = ap length whole.workers.turns.kept in
         enough turns has (omega (arith, less, counted, kept)) have)
-
-    other-after : (took : Took) → Takes (Ok took) → IsNoneOrWhole told t1.side.other
-    other-after took takes = other_stays told size count fate clocks words given_between put_between g t mid t1 oracle oracle2 net net2 (Ok took) nones nones2 up.whole.workers.working news takes up.other
 
     tell-after : (took : Took) → Takes (Ok took) → AreTold told (disks_apart t1.side p.side)
     tell-after took takes = turn-told told size count fate g.handler drew gave put nones nones2 p.side.image.disk took mid t1 takes heard-tell
@@ -139,7 +131,7 @@ module _ {D O N : Type 0} (told : D → Option Story) (size count : D → ℕ) (
         let renewed : WorkedAt told count (3 + 2 * count-now) takes.mid.side = renewed-work told count size fate (3 + 2 * count-now) (is_full mid.side) mid takes.mid.side takes.came.renews worked in
         let begun : WorkedAt told count (3 + 2 * count-now) takes.ran.begun = begun-work told count (3 + 2 * count-now) takes.mid.side takes.ran.begun takes.ran.made.same renewed in
         let sealed : WorkedAt told count (3 + 2 * count-now + 2) t1.side = sealed-work told count size fate (3 + 2 * count-now) e takes.ran.begun t1.side takes.ran.seals (omega (arith, few, now)) begun in
-        after-ok lead.after lead.whole (other-after Turn takes) (tell-after Turn takes) (3 + 2 * count-now + 2) (omega (arith, more, now)) sealed
+        after-ok lead.after lead.whole (tell-after Turn takes) (3 + 2 * count-now + 2) (omega (arith, more, now)) sealed
 
     idle-synced : Takes (Ok Idle) → After
     idle-synced takes =
@@ -147,7 +139,7 @@ module _ {D O N : Type 0} (told : D → Option Story) (size count : D → ℕ) (
         let turns : length t1.turns.items ≡ length t.turns.items = ap length (ap (λ (w : TurnWorker D). w.turns.items) takes.came.rest ∙ heard-turns) in
         let now = kept-count in
         let renewed : WorkedAt told count (3 + 2 * count-now) t1.side = renewed-work told count size fate (3 + 2 * count-now) (is_full mid.side) mid t1.side takes.came.renews worked in
-        after-ok lead.after lead.whole (other-after Idle takes) (tell-after Idle takes) (3 + 2 * count-now) (omega (arith, turns, now)) renewed
+        after-ok lead.after lead.whole (tell-after Idle takes) (3 + 2 * count-now) (omega (arith, turns, now)) renewed
 
     capped-synced : Takes (Ok Capped) → After
     capped-synced takes =
@@ -155,7 +147,7 @@ module _ {D O N : Type 0} (told : D → Option Story) (size count : D → ℕ) (
         let turns : length t1.turns.items ≡ length t.turns.items = ap length (ap (λ (w : TurnWorker D). w.turns.items) takes.same ∙ heard-turns) in
         let now = kept-count in
         let same : WorkedAt told count (3 + 2 * count-now) t1.side = subst (λ (w : TurnWorker D). WorkedAt told count (3 + 2 * count-now) w.side) (sym takes.same) worked in
-        after-ok lead.after lead.whole (other-after Capped takes) (tell-after Capped takes) (3 + 2 * count-now) (omega (arith, turns, now)) same
+        after-ok lead.after lead.whole (tell-after Capped takes) (3 + 2 * count-now) (omega (arith, turns, now)) same
 
     -- ---- one in which a disk failed
 
@@ -172,7 +164,7 @@ module _ {D O N : Type 0} (told : D → Option Story) (size count : D → ℕ) (
     turnover-synced is tell =
         let heard : IsWhole told size g v n mid p s = heard-whole told size count fate clocks words given_between put_between g v n t mid t1 p s oracle oracle2 net net2 (Err Disk) nones nones2 up.whole news (inl is) fronts in
         let doubts : DoubtsTurnover told size g v n gave put mid p s = record { was_given = is.given; was_put = is.none; whole = heard; may = may-turn told size g v n mid p s heard } in
-        after-turnover (turnover_goes_down told size count fate clocks words given_between put_between g v [] n mid t1 p s oracle oracle2 net net2 up.limits up.known doubts is heard-other tell)
+        after-turnover (turnover_goes_down told size count fate clocks words given_between put_between g v [] n mid t1 p s oracle oracle2 net net2 up.limits up.known doubts is tell)
         (doubted-work told count size fate (3 + 2 * count-now) (is_full mid.side) mid t1.side is.renews worked)
 
     module _ (is : IsTurnInDoubt told size count fate g.handler drew mid t1 gave put nones nones2) where
@@ -204,14 +196,11 @@ module _ {D O N : Type 0} (told : D → Option Story) (size count : D → ℕ) (
       changed k m numbers more =
           landed-changed told count (owner_of g v) k t1.side.which begun.log.disk t1.side.log.disk p.side.image.disk t1.side.other
           (λ h c th tc a b in_b finds same.
-          let counted = same-turns told size (owner_of g v) is.mid.side is.came.working.side owner-same (came-other told size count fate g.handler drew gave put nones nones2 (Some is.message) mid is.mid (heard-turning) is.came heard-other)
+          let counted = same-turns told size (owner_of g v) is.mid.side is.came.working.side owner-same
           t1.side.which h c (ap (λ (x : Log D). told x.disk) (sym log-same) ∙ th) (ap told (sym other-same) ∙ tc) a b in_b same k finds m numbers in
           let kept = is.came.working.count in
           let now = same-count in
           omega (arith, counted, kept, now, more))
-        where
-          heard-turning : Turning told size mid.side
-          heard-turning = subst (λ (x : TurnSide D). Turning told size x) (sym heard-side) up.whole.workers.working.side
 
       seal-synced : AreTold told (disks_apart t1.side p.side) → After
       seal-synced tell =
@@ -240,7 +229,7 @@ module _ {D O N : Type 0} (told : D → Option Story) (size count : D → ℕ) (
           enough m.turns (3 + 2 * count-now + 2) (omega (arith, more))
           (landed-work told count size fate (3 + 2 * count-now) is.doubt.effects begun t1.side is.doubt.seals (omega (arith, few, now)) (changed k m numbers more l x tl tx a b in_a in_b finds) begun-worked))
           (seal-turns g v given lead.after from draws pages m.turns tells)))
-          (turn_goes_down told size count fate clocks words given_between put_between g v n t mid t1 p s oracle oracle2 net net2 nones nones2 up.limits up.known up.whole still news (inr is) fronts up.other tell)
+          (turn_goes_down told size count fate clocks words given_between put_between g v n t mid t1 p s oracle oracle2 net net2 nones nones2 up.limits up.known up.whole still news (inr is) fronts tell)
 
     -- ---- by the answer
 

@@ -33,8 +33,7 @@ use Rattle.ken_store.specs.Apart.{disks_apart}
 use Rattle.ken_store.specs.Bases.{base_numbers, base_stands}
 use Rattle.ken_store.specs.Logs.{front_of, log_on}
 use Rattle.ken_store.specs.Recovered.{numbers_from, numbers_of, state_of}
-use Rattle.ken_store.specs.Standing.{IsNoneOrWhole}
-use Rattle.ken_store.specs.Turning.{PassesOver, changed_in, live_layers}
+use Rattle.ken_store.specs.Turning.{PassesOver, changed_in, live_layers, IsPassed}
 use Rattle.ken_store.specs.Turnovers.{changes_kept, page_in}
 use Rattle.ken_store.proofs.Creating.{follows_at}
 use Rattle.ken_store.proofs.Sealing.{told_before}
@@ -46,15 +45,16 @@ use Rattle.ken_node.specs.declared.stage.Stage.TheVariants.{Created}
 use Rattle.ken_node.specs.declared.worker.TurnWorker.{TurnWorker}
 use Rattle.ken_node.specs.Capped.{base_in}
 use Rattle.ken_node.specs.Created.{owner_of}
-use Rattle.ken_node.specs.Down.{AreTold, IsDown, IsOlder, IsSound, MountedLog, TellsNode}
+use Rattle.ken_node.specs.Down.{AreTold, IsDown, IsSound, MountedLog, TellsNode}
 use Rattle.ken_node.specs.DownLaws.{TurnoverGoesDown}
 use Rattle.ken_node.specs.Sealing.{RenewsBy, TurnsOver, is_full}
 use Rattle.ken_node.specs.TurnLaws.{told_of}
 use Rattle.ken_node.specs.Whole.{IsWhole}
-use Rattle.ken_node.proofs.GoesDown.{FoundLog, LeavesLogs, comes, finds-current, finds-other, found-over, is-down, leaves-by, log-of, older-passed, owner-is, possible-now}
+use Rattle.ken_node.proofs.GoesDown.{FoundLog, LeavesLogs, comes, finds-current, finds-other, found-over, is-down, leaves-by, log-of, owner-is, possible-now}
 use Rattle.ken_node.proofs.Paced.{paced-next}
 use Rattle.ken_node.proofs.PatchesWhole.{covers-node}
 use Rattle.ken_node.proofs.TurnoversWhole.{joined-side, of-run-side, raised-long, sent-turned, state-turned, turned}
+use Rattle.ken_store.proofs.Mounted.{front_none, front_whole}
 
 -- the pages of a base, each counted as changed by the base's last turn
 recount-kept : (turn : ℕ) (cs : List Change) → map (λ (c : Change). record c { turn = turn }) cs ≡ map changed_in (zip (replicate (length (map page_in cs)) turn) (map page_in cs))
@@ -130,12 +130,12 @@ module _ {D : Type 0} (told : D → Option Story) (size : D → ℕ) (g : Game) 
       }
 
   -- what a crash leaves while the turnover is in doubt: the log that was, or the new one on the other disk
-  module _ (count : D → ℕ) (fate : D → Option Fate) (given : List Packet) (full : is_full t.side ≡ true) (new : TurnSide D) (over : TurnsOver told size count fate {T = Unit {0}} (Err store.Disk) t new) (none_or_whole : IsNoneOrWhole told t.side.other) where
+  module _ (count : D → ℕ) (fate : D → Option Fate) (given : List Packet) (full : is_full t.side ≡ true) (new : TurnSide D) (over : TurnsOver told size count fate {T = Unit {0}} (Err store.Disk) t new) where
     abbrev doubt : Doubt
     doubt = turnover (told_of g t)
 
     abbrev ReplacesFrom : Story → Story → Type 0
-    ReplacesFrom h x = Replaces {T = Unit {0}} (mount_of h.now.seen) (mounts.Whole head (Some base) []) (Err seals.Disk) h x
+    ReplacesFrom h x = Replaces {T = Unit {0}} (mounts.Whole head (Some base) []) (Err seals.Disk) h x
 
     which-new : new.which ≡ t.side.which
     which-new = over.unturned.which
@@ -154,15 +154,16 @@ module _ {D : Type 0} (told : D → Option Story) (size : D → ℕ) (g : Game) 
         let before : Story = start.0 in
         let replaces : ReplacesFrom before o = follows_at ReplacesFrom before o (told t.side.other) (told new.other) over.log.story start.1 to in
         let passes : PassesOver (owner_of g v) t.side.log.header (front_of before.now.seen) = subst (λ (x : Owner). PassesOver x t.side.log.header (front_of before.now.seen)) owner (side.other l tl_old before start.1) in
-        let older : IsOlder (owner_of g v) t.side.log.header (mount_of before.now.seen) = older-passed told t.side.other (owner_of g v) t.side.log.header before start.1 none_or_whole passes.passed in
         let possible : IsPossible n.patching (take g.size image) = possible-now told size g v n t p s whole i ti image in_image in
-        let as_it_was : IsOlder (owner_of g v) t.side.log.header (mount_of other) → FoundLog g v given n doubt (log_on new.which log other) image (log_on new.which other log) = λ passed.
+        let as_it_was : IsPassed (owner_of g v) t.side.log.header (front_of other) → FoundLog g v given n doubt (log_on new.which log other) image (log_on new.which other log) = λ passed.
         found-over told size g v n t p s w h.turning n.patching given doubt (log_on new.which log other) image (log_on new.which other log) covers-now (may, refl) tt
         (finds-current (owner_of g v) (log-of told size g v n t p s w h.turning) passes.owned new.which log other mounted passed) possible in
         ⊎_elim
-        (λ same. as_it_was (subst (IsOlder (owner_of g v) t.side.log.header) (sym same) older))
+        (λ was.
+        let same : other ≡ before.now.seen = image_at_rest before.now (side.rests before start.1) other was in
+        as_it_was (subst (λ (x : List ℕ). IsPassed (owner_of g v) t.side.log.header (front_of x)) (sym same) passes.passed))
         (λ rest. ⊎_elim
-        (λ none. as_it_was (subst (IsOlder (owner_of g v) t.side.log.header) (sym none) tt))
+        (λ none. as_it_was (subst (IsPassed (owner_of g v) t.side.log.header) (sym (front_none other none)) tt))
         (λ it. record {
           landed = true;
           node = landed;
@@ -171,7 +172,7 @@ module _ {D : Type 0} (told : D → Option Story) (size : D → ℕ) (g : Game) 
           last = tt;
           sound = sound-then;
           tells = tells-then full;
-          finds = finds-other (owner_of g v) log-then passes.owned new.which log other it (subst (IsOlder (owner_of g v) head) (sym mounted) (omega arith, passes.owned));
+          finds = finds-other (owner_of g v) log-then passes.owned new.which log other it (subst (IsPassed (owner_of g v) head) (sym (front_whole log t.side.log.header t.side.log.base t.side.records.items mounted)) (omega arith, passes.owned));
           possible = possible;
         })
         rest)
@@ -182,14 +183,14 @@ module _ {D : Type 0} (told : D → Option Story) (size : D → ℕ) (g : Game) 
 
   -- the log is only turned over where it is full
   pub turnover-down : (count : D → ℕ) (fate : D → Option Fate) (given : List Packet) (full : Bool) (t2 : TurnWorker D) → is_full t.side ≡ full → t2 ≡ record t { side = t2.side } → RenewsBy told size count fate {T = Unit {0}} full (Err store.Disk) t t2.side
-      → IsNoneOrWhole told t.side.other → IsWithinLimits g → v < g.nodes → AreTold told (disks_apart t2.side p.side) → IsDown told g v given n (turnover (told_of g t)) (Created t2 p s)
-  turnover-down count fate given false t2 is rest renews none_or_whole limits known tell = absurd renews.0
-  turnover-down count fate given true t2 is rest over none_or_whole limits known tell =
+      → IsWithinLimits g → v < g.nodes → AreTold told (disks_apart t2.side p.side) → IsDown told g v given n (turnover (told_of g t)) (Created t2 p s)
+  turnover-down count fate given false t2 is rest renews limits known tell = absurd renews.0
+  turnover-down count fate given true t2 is rest over limits known tell =
       let alone : t2 ≡ record t { side = t2.side; turns = t2.turns } = rest ∙ ap (λ (x : TurnWorker D). record t { side = t2.side; turns = x.turns }) (sym rest) in
       is-down told g v given n (turnover (told_of g t)) t2 p s limits known (of-run-side told size g v t t2 alone s over.unturned.owner whole.workers.of_run) (joined-side told size g v t t2 alone p s whole.workers.joined)
-      (ap (λ (x : TurnWorker D). x.turns.items) rest ∙ whole.workers.turns.kept) tell (turnover-leaves count fate given is t2.side over none_or_whole)
+      (ap (λ (x : TurnWorker D). x.turns.items) rest ∙ whole.workers.turns.kept) tell (turnover-leaves count fate given is t2.side over)
 
 module _ {D O N : Type 0} (told : D → Option Story) (size count : D → ℕ) (fate : D → Option Fate) (clocks words : O → Option (List ℕ)) (given_between : N → N → List (List ℕ) → Type 0) (put_between : N → N → List Put → Type 0) where
   pub turnover_goes_down : TurnoverGoesDown told size count fate clocks words given_between put_between
-  turnover_goes_down g v given n mid t2 p s oracle oracle2 net net2 limits known doubts in_doubt none_or_whole tell =
-      turnover-down told size g v n mid p s doubts.whole doubts.may count fate given (is_full mid.side) t2 refl in_doubt.rest in_doubt.renews none_or_whole limits known tell
+  turnover_goes_down g v given n mid t2 p s oracle oracle2 net net2 limits known doubts in_doubt tell =
+      turnover-down told size g v n mid p s doubts.whole doubts.may count fate given (is_full mid.side) t2 refl in_doubt.rest in_doubt.renews limits known tell

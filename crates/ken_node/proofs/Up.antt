@@ -14,7 +14,6 @@ use Rattle.ken_store.specs.declared.turning.TurnSide.{TurnSide}
 use Rattle.ken_store.specs.Answers.{disks_from}
 use Rattle.ken_store.specs.Apart.{disks_apart}
 use Rattle.ken_store.specs.Creations.{HasFailed, IsUnfailed}
-use Rattle.ken_store.specs.Standing.{IsNoneOrWhole}
 use Rattle.ken_ship.specs.declared.worker.SendWorker.{SendWorker}
 use Rattle.ken_ship.specs.Parts.{Part, part_of}
 use Rattle.ken_ship.specs.Parts.{IsSameWorker as IsSameSender}
@@ -73,7 +72,6 @@ module _ {D : Type 0} (told : D → Option Story) (size : D → ℕ) where
     pub known : v < g.nodes
     pub whole : IsWhole told size g v n t p s
     pub empty : AreEmpty t p s
-    pub other : IsNoneOrWhole told t.side.other
     pub tell : AreTold told (disks_apart t.side p.side)
 
   abbrev AreUpIn : Game → ℕ → Node → Stage D → Type 0
@@ -83,7 +81,7 @@ module _ {D : Type 0} (told : D → Option Story) (size : D → ℕ) where
 
   pub are-up : (g : Game) (v : ℕ) (n : Node) (t : TurnWorker D) (p : PatchWorker D) (s : SendWorker) → IsUp told size g v n (Created t p s) → AreUp g v n t p s
   are-up g v n t p s up =
-      subst (AreUpIn g v n) (sym up.stage_is) (record { limits = up.limits; known = up.known; whole = up.whole; empty = up.empty; other = up.other; tell = up.tell })
+      subst (AreUpIn g v n) (sym up.stage_is) (record { limits = up.limits; known = up.known; whole = up.whole; empty = up.empty; tell = up.tell })
 
   -- the handler of a stage
   abbrev handler_or : TurnWorker D → Stage D → TurnWorker D
@@ -112,9 +110,9 @@ module _ {D : Type 0} (told : D → Option Story) (size : D → ℕ) where
     met-disks = ap (λ (x : TurnSide D). disks_apart x p2.side) met-side ∙ ap (λ (i : Image D). disks_from t.side.which t.side.log.disk i.disk t.side.other) met.patches.handed.image
 
     -- the node is up still
-    pub met-up : (g : Game) (v : ℕ) (n : Node) → IsWithinLimits g → v < g.nodes → IsWhole told size g v n t p s → IsNoneOrWhole told t.side.other → AreTold told (disks_apart t.side p.side)
+    pub met-up : (g : Game) (v : ℕ) (n : Node) → IsWithinLimits g → v < g.nodes → IsWhole told size g v n t p s → AreTold told (disks_apart t.side p.side)
         → IsSameSender s s2 → AreJoined t2 p2 s2 → AreEmpty t2 p2 s2 → IsUp told size g v n (Created t2 p2 s2)
-    met-up g v n limits known whole other tell same joined empty = record {
+    met-up g v n limits known whole tell same joined empty = record {
       limits = limits;
       known = known;
       handler = t2;
@@ -123,7 +121,6 @@ module _ {D : Type 0} (told : D → Option Story) (size : D → ℕ) where
       stage_is = refl;
       whole = meeting_keeps_whole told size g v n t t2 p p2 s s2 whole same joined met;
       empty = empty;
-      other = subst (λ (x : TurnSide D). IsNoneOrWhole told x.other) (sym met-side) other;
       tell = subst (AreTold told) (sym met-disks) tell;
     }
 

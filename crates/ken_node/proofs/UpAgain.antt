@@ -46,7 +46,7 @@ use Rattle.ken_store.specs.Kept.{base_pages}
 use Rattle.ken_store.specs.Logs.{is_owned, log_on, other_log}
 use Rattle.ken_store.specs.Patching.{HoldsImage}
 use Rattle.ken_store.specs.Recovered.{Whole, numbers_of, recovered, state_of}
-use Rattle.ken_store.specs.Standing.{IsNoneOrWhole, IsReadyStore, Standing}
+use Rattle.ken_store.specs.Standing.{IsReadyStore, Standing}
 use Rattle.ken_store.specs.Turning.{IsPassed, live_layers, turn_pages}
 use Rattle.ken_store.proofs.Mounted.{front_whole}
 use Rattle.ken_store.proofs.Recovering.{seen_on}
@@ -57,7 +57,7 @@ use Rattle.ken_node.specs.declared.items.Told.{Told}
 use Rattle.ken_node.specs.declared.patcher.PatchWorker.{PatchWorker}
 use Rattle.ken_node.specs.declared.worker.TurnWorker.{TurnWorker}
 use Rattle.ken_node.specs.Created.{owner_of}
-use Rattle.ken_node.specs.Down.{IsOlder, Left, MountedLog}
+use Rattle.ken_node.specs.Down.{Left, MountedLog}
 use Rattle.ken_node.specs.Meeting.{IsEmptied}
 use Rattle.ken_node.specs.Paced.{IsPaced}
 use Rattle.ken_node.specs.Restarts.{AreOfRestart, GoOnFrom, kept_turns}
@@ -108,12 +108,6 @@ one-or-other First Second = inr (refl, refl)
 one-or-other Second First = inr (refl, refl)
 one-or-other Second Second = inl refl
 
--- no log and an older one are none or whole
-older-none-or-whole : (o : Owner) (head : Header) (m : Mounted) → IsOlder o head m → (m ≡ mounts.Unformatted) ⊎ ((h : Header) × ((base : Option Base) × ((records : List Record) × (m ≡ mounts.Whole h base records))))
-older-none-or-whole o head mounts.Unformatted older = inl refl
-older-none-or-whole o head (mounts.Damaged place) older = absurd older
-older-none-or-whole o head (mounts.Whole h base records) older = inr (h, (base, (records, refl)))
-
 -- ---- rings in which nothing is on its way
 
 ring-empty : {A : Type 0} (push : PushEnd A) (pop : PopEnd A) → IsEmptied push pop → pushed push ≡ popped pop ++ []
@@ -155,7 +149,8 @@ module _ {D : Type 0} (told : D → Option Story) (size : D → ℕ) (g : Game) 
         subst (IsPassed t.side.owner t.side.log.header) (front_whole (log_on (other_log t.side.which) l s).now.seen k.head k.base k.records whole) passes.passed in
         let there : mount_of (log_on (other_log left.finds.which) l.now.seen s.now.seen) ≡ mounts.Whole t.side.log.header t.side.log.base records =
         ap (λ (w : Which). mount_of (log_on w l.now.seen s.now.seen)) (sym back) ∙ mounted in
-        let older : IsOlder (owner_of g v) k.head (mounts.Whole t.side.log.header t.side.log.base records) = subst (IsOlder (owner_of g v) k.head) there left.finds.other in
+        let older : (t.side.log.header.generation < k.head.generation) × (is_owned (owner_of g v) t.side.log.header ≡ true) =
+        subst (IsPassed (owner_of g v) k.head) (front_whole (log_on (other_log left.finds.which) l.now.seen s.now.seen) t.side.log.header t.side.log.base records there) left.finds.other in
         let one = passed.0 in
         let two = older.0 in
         omega (arith, one, two)
@@ -272,13 +267,6 @@ module _ {D : Type 0} (told : D → Option Story) (size : D → ℕ) (g : Game) 
     has-sent : HasSent g v after
     has-sent = let is = left.tells.sent in record { acked = is.acked; emitted = is.emitted }
 
-    other-stands : IsNoneOrWhole told t.side.other
-    other-stands h is =
-        let there : log_on (other_log t.side.which) l s ≡ h = some_is (log_on (other_log t.side.which) l s) h (sym logs-now.1 ∙ is) in
-        let bytes : mount_of (log_on (other_log left.finds.which) l.now.seen s.now.seen) ≡ mount_of h.now.seen =
-        ap (λ (w : Which). mount_of (log_on (other_log w) l.now.seen s.now.seen)) (sym which-is) ∙ ap mount_of (sym (seen_on (other_log t.side.which) l s)) ∙ ap (λ (x : Story). mount_of x.now.seen) there in
-        older-none-or-whole (owner_of g v) k.head (mount_of h.now.seen) (subst (IsOlder (owner_of g v) k.head) bytes left.finds.other)
-
     module _ (go : GoOnFrom g v n.turning.turns store state records t p sender) where
       counted : AreNumbersOf v m.turning.turns t.side.numbers
       counted = subst (AreNumbersOf v m.turning.turns) (sym numbers-are) left.tells.counted
@@ -354,8 +342,8 @@ module _ {D : Type 0} (told : D → Option Story) (size : D → ℕ) (g : Game) 
         };
       }
 
-      pub comes-up : (x : Node) × (Call g v given (AreOfRestart g v n doubt) n nothing x × (length t.turns.items ≡ length x.turning.turns) × IsWhole told size g v x t p sender × IsNoneOrWhole told t.side.other)
-      comes-up = (after, (restart-call g v given torn n doubt left.landed m left.comes is-left.torn, ap length kept, stands-again, other-stands))
+      pub comes-up : (x : Node) × (Call g v given (AreOfRestart g v n doubt) n nothing x × (length t.turns.items ≡ length x.turning.turns) × IsWhole told size g v x t p sender)
+      comes-up = (after, (restart-call g v given torn n doubt left.landed m left.comes is-left.torn, ap length kept, stands-again))
 
 module _ {D : Type 0} (told : D → Option Story) (size : D → ℕ) (g : Game) (v : ℕ) (given : List Packet) (n : Node) (doubt : Doubt) (limits : IsWithinLimits g) where
   -- workers that go on over what was recovered stand for the node that its events lead to
@@ -364,7 +352,7 @@ module _ {D : Type 0} (told : D → Option Story) (size : D → ℕ) (g : Game) 
       → mount_of (log_on store.turns.which l.now.seen s.now.seen) ≡ mounts.Whole store.turns.log.header store.turns.log.base records → IsReadyStore told size (owner_of g v) store state
       → (told (disks_in store).log ≡ told disks.log) × (told (disks_in store).image ≡ told disks.image) × (told (disks_in store).second ≡ told disks.second)
       → (t : TurnWorker D) (p : PatchWorker D) (sender : SendWorker) → GoOnFrom g v n.turning.turns store state records t p sender
-      → (after : Node) × (Call g v given (AreOfRestart g v n doubt) n nothing after × (length t.turns.items ≡ length after.turning.turns) × IsWhole told size g v after t p sender × IsNoneOrWhole told t.side.other)
+      → (after : Node) × (Call g v given (AreOfRestart g v n doubt) n nothing after × (length t.turns.items ≡ length after.turning.turns) × IsWhole told size g v after t p sender)
   up-again disks l i s log_told image_told second_told rests is_left store state records answers mounted ready same t p sender go =
       let log = whole-has-log g v limits given n doubt l.now.seen i.now.seen s.now.seen state store.turns.objects.value is_left answers in
       let here : store ≡ record { turns = t.side; patches = p.side } = ap (λ (x : TurnSide D). record store { turns = x }) (sym go.side) ∙ ap (λ (x : PatchSide D). record { turns = t.side; patches = x }) (sym go.patches) in

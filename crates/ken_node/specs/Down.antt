@@ -30,9 +30,9 @@ use Rattle.ken_store.specs.declared.numbers.Numbers.{Numbers}
 use Rattle.ken_store.specs.declared.owner.Owner.{Owner}
 use Rattle.ken_store.specs.Answers.{TellsAll}
 use Rattle.ken_store.specs.Kept.{base_pages}
-use Rattle.ken_store.specs.Logs.{is_owned, log_on, other_log}
+use Rattle.ken_store.specs.Logs.{is_owned, log_on, other_log, front_of}
 use Rattle.ken_store.specs.Recovered.{numbers_of, state_of}
-use Rattle.ken_store.specs.Turning.{live_layers}
+use Rattle.ken_store.specs.Turning.{live_layers, IsPassed}
 use Rattle.ken_ship.specs.Laws.{HasSent, IsStateOf}
 use Rattle.ken_node.specs.declared.parts.Parts.{Parts}
 use Rattle.ken_node.specs.declared.stage.Stage.{Stage}
@@ -54,18 +54,12 @@ pub record MountedLog : Type 0 where
   pub base : Option Base
   pub records : List Record
 
--- beside it the other log isn't there, or is an older one of the same node
-abbrev pub IsOlder : Owner → Header → Mounted → Type 0
-IsOlder o head mounts.Unformatted = Unit {0}
-IsOlder o head (mounts.Damaged place) = ⊥
-IsOlder o head (mounts.Whole h base records) = (h.generation < head.generation) × (is_owned o h ≡ true)
-
--- of the bytes of a node's two logs this one is current
+-- of the bytes of a node's two logs this one is current: a recovery passes over what the other begins with, whatever lies behind it
 pub record Finds (o : Owner) (log second : List ℕ) (k : MountedLog) : Type 0 where
   pub which : Which
   pub mounts : mount_of (log_on which log second) ≡ mounts.Whole k.head k.base k.records
   pub owned : is_owned o k.head ≡ true
-  pub other : IsOlder o k.head (mount_of (log_on (other_log which) log second))
+  pub other : IsPassed o k.head (front_of (log_on (other_log which) log second))
 
 -- the log tells node v: how far it has come, its live records, and all that it sent and output but for what is retired. It holds few
 -- records, and as many turns were made as the logs before it take

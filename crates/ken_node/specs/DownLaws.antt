@@ -11,7 +11,6 @@ use Rattle.ken_core.specs.Packets.{Packet}
 use Rattle.ken_store.specs.declared.disks.Disks.{Disks}
 use Rattle.ken_store.specs.Answers.{AreAtRest, AreUnformatted}
 use Rattle.ken_store.specs.Apart.{disks_apart}
-use Rattle.ken_store.specs.Standing.{IsNoneOrWhole}
 use Rattle.ken_ship.specs.declared.faults.NodeFault.{NodeFault}
 use Rattle.ken_ship.specs.declared.faults.NodeFault.TheVariants.{Disk, Damaged, Outlet, Memory}
 use Rattle.ken_ship.specs.declared.worker.SendWorker.{SendWorker}
@@ -38,19 +37,19 @@ module _ {D : Type 0} (told : D → Option Story) (size : D → ℕ) where
   abbrev pub WholeGoesDown : Type 0
   WholeGoesDown =
       (g : Game) (v : ℕ) (given : List Packet) (n : Node) (t : TurnWorker D) (p : PatchWorker D) (s : SendWorker) → IsWithinLimits g → v < g.nodes → IsWhole told size g v n t p s
-      → IsNoneOrWhole told t.side.other → AreTold told (disks_apart t.side p.side) → IsDown told g v given n no_doubt (Created t p s)
+      → AreTold told (disks_apart t.side p.side) → IsDown told g v given n no_doubt (Created t p s)
 
   -- a write of the image failed: the node counts it as written
   abbrev pub PatchGoesDown : Type 0
   PatchGoesDown =
       (g : Game) (v : ℕ) (given : List Packet) (n : Node) (t : TurnWorker D) (p p2 : PatchWorker D) (s : SendWorker) → IsWithinLimits g → v < g.nodes → IsWhole told size g v n t p s
-      → IsSamePatcher p p2 → (fails : FailsToPatch told size g v n t p2) → IsNoneOrWhole told t.side.other → AreTold told (disks_apart t.side p2.side) → IsDown told g v given fails.after no_doubt (Created t p2 s)
+      → IsSamePatcher p p2 → (fails : FailsToPatch told size g v n t p2) → AreTold told (disks_apart t.side p2.side) → IsDown told g v given fails.after no_doubt (Created t p2 s)
 
   -- a sync of the image failed: the node is as it was
   abbrev pub SyncGoesDown : Type 0
   SyncGoesDown =
       (g : Game) (v : ℕ) (given : List Packet) (n : Node) (t : TurnWorker D) (p p2 : PatchWorker D) (s : SendWorker) → IsWithinLimits g → v < g.nodes → IsWhole told size g v n t p s
-      → IsSamePatcher p p2 → FailsToSync told size g n p2 → IsNoneOrWhole told t.side.other → AreTold told (disks_apart t.side p2.side) → IsDown told g v given n no_doubt (Created t p2 s)
+      → IsSamePatcher p p2 → FailsToSync told size g n p2 → AreTold told (disks_apart t.side p2.side) → IsDown told g v given n no_doubt (Created t p2 s)
 
   -- a node that may be restarted meets its rings
   abbrev pub MeetingStaysDown : Type 0
@@ -69,15 +68,15 @@ module _ {D : Type 0} (told : D → Option Story) (size : D → ℕ) where
 abbrev pub SealGoesDown : {D O N : Type 0} → (D → Option Story) → (D → ℕ) → (D → ℕ) → (D → Option Fate) → (O → Option (List ℕ)) → (O → Option (List ℕ)) → (N → N → List (List ℕ) → Type 0) → (N → N → List Put → Type 0) → Type 0
 SealGoesDown {D} {O} {N} told size count fate clocks words given_between put_between =
     (g : Game) (v : ℕ) (n : Node) (t t2 : TurnWorker D) (p : PatchWorker D) (s : SendWorker) (oracle oracle2 : O) (net net2 : N) → IsWithinLimits g → v < g.nodes
-    → (doubts : DoubtsSeal told size count fate (Drew clocks words g.handler oracle oracle2) g v n (given_between net net2) (put_between net net2) t t2 p s) → IsNoneOrWhole told t2.side.other → AreTold told (disks_apart t2.side p.side)
+    → (doubts : DoubtsSeal told size count fate (Drew clocks words g.handler oracle oracle2) g v n (given_between net net2) (put_between net net2) t t2 p s) → AreTold told (disks_apart t2.side p.side)
     → IsDown told g v (packets_from g.nodes doubts.before.given) doubts.before.after (seal doubts.message.from doubts.doubt.effects.draws (coming_pages doubts.doubt.begun)) (Created t2 p s)
 
--- a turnover is in doubt, where the other disk had no log or a whole one: the new log landed, or it didn't
+-- a turnover is in doubt: the new log landed, or it didn't
 abbrev pub TurnoverGoesDown : {D O N : Type 0} → (D → Option Story) → (D → ℕ) → (D → ℕ) → (D → Option Fate) → (O → Option (List ℕ)) → (O → Option (List ℕ)) → (N → N → List (List ℕ) → Type 0) → (N → N → List Put → Type 0) → Type 0
 TurnoverGoesDown {D} {O} {N} told size count fate clocks words given_between put_between =
     (g : Game) (v : ℕ) (given : List Packet) (n : Node) (mid t2 : TurnWorker D) (p : PatchWorker D) (s : SendWorker) (oracle oracle2 : O) (net net2 : N) → IsWithinLimits g → v < g.nodes
     → DoubtsTurnover told size g v n (given_between net net2) (put_between net net2) mid p s → IsTurnoverInDoubt told size count fate g.handler (Drew clocks words g.handler oracle oracle2) mid t2 (given_between net net2) (put_between net net2)
-    → IsNoneOrWhole told mid.side.other → AreTold told (disks_apart t2.side p.side) → IsDown told g v given n (turnover (told_of g mid)) (Created t2 p s)
+    → AreTold told (disks_apart t2.side p.side) → IsDown told g v given n (turnover (told_of g mid)) (Created t2 p s)
 
 -- so a call of the handler whose disk failed leaves a node that may be restarted: a turnover is in doubt, or a seal
 pub record TurnoverIsDown {D : Type 0} (told : D → Option Story) (size : D → ℕ) (g : Game) (v : ℕ) (n : Node) (gave : List (List ℕ) → Type 0) (put : List Put → Type 0) (mid t2 : TurnWorker D) (p : PatchWorker D) (s : SendWorker) : Type 0 where
@@ -92,28 +91,6 @@ abbrev pub TurnGoesDown : {D O N : Type 0} → (D → Option Story) → (D → �
 TurnGoesDown {D} {O} {N} told size count fate clocks words given_between put_between =
     (g : Game) (v : ℕ) (n : Node) (t mid t2 : TurnWorker D) (p : PatchWorker D) (s : SendWorker) (oracle oracle2 : O) (net net2 : N) (nones nones2 : ℕ) → IsWithinLimits g → v < g.nodes → IsWhole told size g v n t p s
     → IsSameWorker t t2 → HearsNews t mid → TakesTurn told size count fate g.handler (Drew clocks words g.handler oracle oracle2) (Err Disk) mid t2 (given_between net net2) (put_between net net2) nones nones2 → AreFronts t2 p s
-    → IsNoneOrWhole told t.side.other → AreTold told (disks_apart t2.side p.side)
+    → AreTold told (disks_apart t2.side p.side)
     → TurnoverIsDown told size g v n (given_between net net2) (put_between net net2) mid t2 p s
     ⊎ SealIsDown told size count fate (Drew clocks words g.handler oracle oracle2) g v n (given_between net net2) (put_between net net2) t t2 p s
-
--- ---- the disk of the other log has no log or a whole one
-
--- it has after a call, but where its disk failed
-abbrev pub UnlessDisk : Result Took NodeFault → Type 0 → Type 0
-UnlessDisk (Ok x) P = P
-UnlessDisk (Err Memory) P = P
-UnlessDisk (Err Disk) P = Unit {0}
-UnlessDisk (Err Outlet) P = Unit {0}
-UnlessDisk (Err (Damaged disk place)) P = Unit {0}
-
-abbrev pub OtherStays : {D O N : Type 0} → (D → Option Story) → (D → ℕ) → (D → ℕ) → (D → Option Fate) → (O → Option (List ℕ)) → (O → Option (List ℕ)) → (N → N → List (List ℕ) → Type 0) → (N → N → List Put → Type 0) → Type 0
-OtherStays {D} {O} {N} told size count fate clocks words given_between put_between =
-    (g : Game) (t mid t2 : TurnWorker D) (oracle oracle2 : O) (net net2 : N) (result : Result Took NodeFault) (nones nones2 : ℕ) → Working told size g.handler t → HearsNews t mid
-    → TakesTurn told size count fate g.handler (Drew clocks words g.handler oracle oracle2) result mid t2 (given_between net net2) (put_between net net2) nones nones2 → IsNoneOrWhole told t.side.other → UnlessDisk result (IsNoneOrWhole told t2.side.other)
-
-module _ {D : Type 0} (told : D → Option Story) (size count : D → ℕ) (fate : D → Option Fate) where
-  -- a new node has no log there
-  abbrev pub NewOtherIsNone : Type 0
-  NewOtherIsNone =
-      (g : Game) (v : ℕ) (old : Disks D) (t : TurnWorker D) (p : PatchWorker D) (s : SendWorker) → IsCreation {T = Unit {0}} told size count fate g v (Ok tt) old (Created t p s)
-      → AreUnformatted told old → AreTold told old → IsNoneOrWhole told t.side.other

@@ -17,7 +17,6 @@ use Rattle.ken_store.specs.declared.disks.Disks.{Disks}
 use Rattle.ken_store.specs.declared.store.Store.{Store}
 use Rattle.ken_store.specs.Apart.{disks_apart}
 use Rattle.ken_store.specs.Creations.{HasFailed, IsUnfailed}
-use Rattle.ken_store.specs.Standing.{IsNoneOrWhole}
 use Rattle.ken_ship.specs.declared.faults.NodeFault.{NodeFault}
 use Rattle.ken_ship.specs.declared.faults.NodeFault.TheVariants.{Disk, Damaged, Outlet, Memory}
 use Rattle.ken_ship.specs.declared.worker.SendWorker.{SendWorker}
@@ -71,7 +70,6 @@ pub record IsUpAgain {D : Type 0} (told : D → Option Story) (size : D → ℕ)
   pub stage_is : stage ≡ Created handler patcher sender
   pub whole : IsWhole told size g v after handler patcher sender
   pub empty : AreEmpty handler patcher sender
-  pub other : IsNoneOrWhole told handler.side.other
   pub tell : AreTold told (disks_apart handler.side patcher.side)
 
 module _ {D : Type 0} (told : D → Option Story) (count : D → ℕ) (fate : D → Option Fate) where

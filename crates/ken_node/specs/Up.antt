@@ -6,7 +6,6 @@ use Rattle.ken_model.specs.Handler.{Handler}
 use Rattle.ken_model.specs.Limits.{IsWithinLimits}
 use Rattle.ken_core.specs.Nodes.{Node}
 use Rattle.ken_store.specs.Apart.{disks_apart}
-use Rattle.ken_store.specs.Standing.{IsNoneOrWhole}
 use Rattle.ken_ship.specs.declared.worker.SendWorker.{SendWorker}
 use Rattle.ken_node.specs.declared.patcher.PatchWorker.{PatchWorker}
 use Rattle.ken_node.specs.declared.stage.Stage.{Stage}
@@ -28,7 +27,6 @@ module _ {D : Type 0} (told : D → Option Story) (size : D → ℕ) where
     pub stage_is : stage ≡ Created handler patcher sender
     pub whole : IsWhole told size g v n handler patcher sender
     pub empty : AreEmpty handler patcher sender
-    pub other : IsNoneOrWhole told handler.side.other
     pub tell : AreTold told (disks_apart handler.side patcher.side)
 
   -- some node of a run is up, and takes calls

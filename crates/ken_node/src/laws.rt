@@ -1,5 +1,5 @@
 // What the calls of a node's workers are as events of the node. Each law is the contract of a function that does nothing.
-ghost use Rattle.ken_node.specs.DownLaws.{CreationGoesDown, MeetingStaysDown, NewOtherIsNone, OtherStays, PatchGoesDown, SealGoesDown, SyncGoesDown, TurnGoesDown, TurnoverGoesDown, WholeGoesDown};
+ghost use Rattle.ken_node.specs.DownLaws.{CreationGoesDown, MeetingStaysDown, PatchGoesDown, SealGoesDown, SyncGoesDown, TurnGoesDown, TurnoverGoesDown, WholeGoesDown};
 ghost use Rattle.ken_node.specs.KindLaws.{KindsKeepShort};
 ghost use Rattle.ken_node.specs.NewLaws.{NewAreWhole};
 ghost use Rattle.ken_node.specs.Synced.{UpHasSynced};
@@ -82,7 +82,7 @@ pub fn a_seal_in_doubt_goes_down<D: Disk, O: Oracle, N: Net>()
     ensures { SealGoesDown D.told D.size D.faults D.fate O.telling.clocks O.telling.words N.given_between N.put_between }
 {}
 
-/// So may one whose turnover is in doubt, where the other disk had no log or a whole one.
+/// So may one whose turnover is in doubt, whether the new log landed or not.
 pub fn a_turnover_in_doubt_goes_down<D: Disk, O: Oracle, N: Net>()
     ensures { TurnoverGoesDown D.told D.size D.faults D.fate O.telling.clocks O.telling.words N.given_between N.put_between }
 {}
@@ -90,12 +90,6 @@ pub fn a_turnover_in_doubt_goes_down<D: Disk, O: Oracle, N: Net>()
 /// So a call of the handler whose disk failed leaves a node that may be restarted, with a turnover or a seal in doubt.
 pub fn a_failed_turn_goes_down<D: Disk, O: Oracle, N: Net>()
     ensures { TurnGoesDown D.told D.size D.faults D.fate O.telling.clocks O.telling.words N.given_between N.put_between }
-{}
-
-/// The disk of the other log goes on having no log or a whole one. A new node has none there.
-pub fn the_other_disk_stays_whole<D: Disk, O: Oracle, N: Net>()
-    ensures stays { OtherStays D.told D.size D.faults D.fate O.telling.clocks O.telling.words N.given_between N.put_between }
-    ensures new { NewOtherIsNone D.told D.size D.faults D.fate }
 {}
 
 /// A node that may be restarted may be after a meeting too.

@@ -105,6 +105,6 @@ module _ {D : Type 0} (told : D → Option Story) (size : D → ℕ) where
       before_recovers told size handler apart.turns (hand_all waiting i) apart.covers v reads new same.which same.other patcher.image.disk patcher.image.disk refl (possible_then told size handler patcher waiting i apart) still
 
   pub turnover_recovers_apart : TurnoverRecoversApart told size
-  turnover_recovers_apart handler new patcher waiting i result settled acked emitted v apart idle may sound reads turned unturned own story =
-      turn_any_moment told size handler apart.turns (hand_all waiting i) apart.covers idle settled acked emitted may v reads sound (Unit {0}) (log_answer result) (replaced_disk result new) patcher.image.disk patcher.image.disk _
+  turnover_recovers_apart handler new patcher waiting i result settled acked emitted v apart idle may reads turned unturned own story =
+      turn_any_moment told size handler apart.turns (hand_all waiting i) apart.covers idle settled acked emitted may v reads (Unit {0}) (log_answer result) (replaced_disk result new) patcher.image.disk patcher.image.disk _
       (disks_turned result settled acked emitted handler new patcher.image.disk turned unturned own) refl (possible_then told size handler patcher waiting i apart) story

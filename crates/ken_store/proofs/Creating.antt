@@ -9,7 +9,7 @@ use Rattle.std.proofs.lemmas.List.Concat.{flat_map-cons}
 use Rattle.ken_disk.specs.declared.faults.DiskFault.TheVariants as disk
 use Rattle.ken_disk.specs.Story.{DiskState, Story, Follows, IsImage, IsAtRest, Leaves}
 use Rattle.ken_disk.proofs.Images.{image_at_rest}
-use Rattle.ken_disk.proofs.Since.{leaves_now, stays}
+use Rattle.ken_disk.proofs.Since.{leaves_now, stays, weaker}
 use Rattle.ken_disk.proofs.Told.{some_is, told_both}
 use Rattle.ken_model.specs.Layout.{first_bytes, first_heap}
 use Rattle.ken_model.specs.Network.{empty_heap}
@@ -17,7 +17,7 @@ use Rattle.ken_model.proofs.First.{first_is_empty}
 use Rattle.ken_log.specs.declared.faults.SealFault.{SealFault}
 use Rattle.ken_log.specs.declared.faults.SealFault.TheVariants.{Disk, Memory}
 use Rattle.ken_log.specs.Calls.{MadeAfterRead, log_writes}
-use Rattle.ken_log.specs.Formats.{MountsAsAny, Replaces}
+use Rattle.ken_log.specs.Formats.{IsOldOrNone, IsOldNoneOrNew, Replaces}
 use Rattle.ken_log.specs.Mounts.{mount_of}
 use Rattle.ken_log.specs.Mounts as mounts
 use Rattle.ken_log.specs.Seals.{HasLogCause, MountsAs, MountsAsEither, as_disk}
@@ -124,15 +124,15 @@ module _ (o : Owner) (log second : Story) (log_rests : IsAtRest log.now) (second
     ok = tt;
   }
 
-  module _ (some : 1 ≤ o.pages) (most : o.pages ≤ 4096) (image log2 image2 : Story) (holds : Leaves (HoldsFirst o.pages) image2.now) {T : Type 0} (q : Result T SealFault) (replaces : Replaces (mount_of log.now.seen) (mounts.Whole (first_header o) None []) q log log2) where
-    found_on : (l i s : List ℕ) → MountsAsAny (mount_of log.now.seen) (mounts.Whole (first_header o) None []) l → IsImage image2.now i → IsImage second.now s → FreshOrCreated o (recovered o l i s)
+  module _ (some : 1 ≤ o.pages) (most : o.pages ≤ 4096) (image log2 image2 : Story) (holds : Leaves (HoldsFirst o.pages) image2.now) {T : Type 0} (q : Result T SealFault) (replaces : Replaces (mounts.Whole (first_header o) None []) q log log2) where
+    found_on : (l i s : List ℕ) → IsOldNoneOrNew log.now (mounts.Whole (first_header o) None []) l → IsImage image2.now i → IsImage second.now s → FreshOrCreated o (recovered o l i s)
     found_on l i s any now other =
         let none = none_on second second_rests second_none s other in
-        ⊎_elim (λ was. inl (fresh o l i s (was ∙ log_none) none))
+        ⊎_elim (λ was. inl (before l i s was other))
         (λ rest. ⊎_elim (λ no_log. inl (fresh o l i s no_log none)) (λ whole. inr (made o l i s some most whole none (holds i now))) rest) any
 
-    logs_on : (l : List ℕ) → MountsAsAny (mount_of log.now.seen) (mounts.Whole (first_header o) None []) l → MountsAsEither mounts.Unformatted (mounts.Whole (first_header o) None []) l
-    logs_on l any = ⊎_elim (λ was. inl (was ∙ log_none)) (λ rest. rest) any
+    logs_on : (l : List ℕ) → IsOldNoneOrNew log.now (mounts.Whole (first_header o) None []) l → MountsAsEither mounts.Unformatted (mounts.Whole (first_header o) None []) l
+    logs_on l any = ⊎_elim (λ was. inl (none_on log log_rests log_none l was)) (λ rest. rest) any
 
     made_on : (l i s : List ℕ) → mount_of l ≡ mounts.Whole (first_header o) None [] → IsImage image2.now i → IsImage second.now s → recovered o l i s ≡ created o
     made_on l i s whole now other = made o l i s some most whole (none_on second second_rests second_none s other) (holds i now)
@@ -143,7 +143,7 @@ module _ (o : Owner) (log second : Story) (log_rests : IsAtRest log.now) (second
       order = inr holds;
       logs = record { on = replaces.any_moment.on; each = λ l may. logs_on l (replaces.any_moment.each l may) };
       any_moment = λ l i s may now other. found_on l i s (replaces.any_moment.each l may) now other;
-      memory = λ is l left. ⊎_elim (λ was. was ∙ log_none) (λ none. none) (leaves_now (MountsAsEither (mount_of log.now.seen) mounts.Unformatted) log log2 (replaces.memory (memory is)) l left);
+      memory = λ is l left. ⊎_elim (λ was. none_on log log_rests log_none l was) (λ none. none) (leaves_now (IsOldOrNone log.now) log log2 (replaces.memory (memory is)) l left);
       ok = tt;
     }
 
@@ -180,14 +180,21 @@ pub follows_both : (P Q R : Story → Story → Type 0) (old new : Option Story)
 follows_both P Q R None new one two both = one
 follows_both P Q R (Some h) new one two both = (one.0, one.1, both h one.0 refl one.2 (subst (Q h) (some_is two.0 one.0 (sym two.1 ∙ one.1)) two.2))
 
+-- what may have been left of a disk at rest mounts as what it showed
+as_mounted : (s : DiskState) → IsAtRest s → (image : List ℕ) → IsOldOrNone s image → MountsAsEither (mount_of s.seen) mounts.Unformatted image
+as_mounted s rests image is = ⊎_elim (λ was. inl (ap mount_of (image_at_rest s rests image was))) (λ none. inr none) is
+
 -- the log's answer is the store's
 module _ {A B : Type 0} (o : Owner) (h s : Story) where
   pub formats_ok : (x : A) (y : B) → MadeAfterRead {T = A} (Ok x) (log_writes (first_header o) None h.now.seen) h s → MayFormat {T = B} o (Ok y) h s
   formats_ok x y made = (record { calls = made; in_doubt = λ no. absurd (let none : ⊥ = cc no in none) })
 
-  pub formats_err : (f : SealFault) → MadeAfterRead (as_disk {T = A} (Err f)) (log_writes (first_header o) None h.now.seen) h s → Replaces {T = A} (mount_of h.now.seen) (mounts.Whole (first_header o) None []) (Err f) h s → MayFormat {T = B} o (Err (of_seal f)) h s
-  formats_err Disk made replaces = inr (record { calls = made; in_doubt = λ _. ⊎_elim inl (λ x. inr x.1) (replaces.in_doubt refl) })
-  formats_err Memory made replaces = inr (record { calls = made; in_doubt = λ no. absurd (let none : ⊥ = cc no in none) })
+  pub formats_err : IsAtRest h.now → (f : SealFault) → MadeAfterRead (as_disk {T = A} (Err f)) (log_writes (first_header o) None h.now.seen) h s → Replaces {T = A} (mounts.Whole (first_header o) None []) (Err f) h s → MayFormat {T = B} o (Err (of_seal f)) h s
+  formats_err rests Disk made replaces = inr (record {
+    calls = made;
+    in_doubt = λ _. ⊎_elim (λ early. inl (weaker (IsOldOrNone h.now) (MountsAsEither (mount_of h.now.seen) mounts.Unformatted) h s (as_mounted h.now rests) early)) (λ x. inr x.1) (replaces.in_doubt refl);
+  })
+  formats_err rests Memory made replaces = inr (record { calls = made; in_doubt = λ no. absurd (let none : ⊥ = cc no in none) })
 
 -- so is the cause of its fault
 pub cause_err : (A B : Type 0) (f : SealFault) (old new : ℕ) → HasLogCause {T = A} old new (Err f) → HasLogCause {T = B} old new (log_answer (Err (of_seal f)))
@@ -202,14 +209,14 @@ memory_err A Memory is = refl
 -- what a format of the log answers, as the store answers it
 module _ {D : Type 0} (told : D → Option Story) (faults : D → ℕ) (o : Owner) (old new : D) (A B : Type 0) where
   abbrev Replaced : Result A SealFault → Type 0
-  Replaced r = Follows (λ (h n : Story). IsAtRest h.now → Replaces (mount_of h.now.seen) (mounts.Whole (first_header o) None []) r h n) (told old) (told new)
+  Replaced r = Follows (λ (h n : Story). IsAtRest h.now → Replaces (mounts.Whole (first_header o) None []) r h n) (told old) (told new)
 
   abbrev Made : Result A SealFault → Type 0
   Made r = Follows (λ (h n : Story). MadeAfterRead (as_disk r) (log_writes (first_header o) None h.now.seen) h n) (told old) (told new)
 
   pub formats_log_ok : (y : A) (x : B) → Replaced (Ok y) → Made (Ok y) → HasLogCause {T = A} (faults old) (faults new) (Ok y) → FormatsLog told faults o (Ok x) old new
   formats_log_ok y x replaced calls cause = (
-    follows_both (λ (h n : Story). IsAtRest h.now → Replaces (mount_of h.now.seen) (mounts.Whole (first_header o) None []) (Ok y) h n)
+    follows_both (λ (h n : Story). IsAtRest h.now → Replaces (mounts.Whole (first_header o) None []) (Ok y) h n)
         (λ (h n : Story). MadeAfterRead (as_disk (Ok y)) (log_writes (first_header o) None h.now.seen) h n) (MayFormat {T = B} o (Ok x)) (told old) (told new) replaced calls
         (λ h n is _ so. formats_ok o h n y x so),
     cause,
@@ -217,9 +224,9 @@ module _ {D : Type 0} (told : D → Option Story) (faults : D → ℕ) (o : Owne
 
   pub formats_log_err : (f : SealFault) (fault : StoreFault) → fault ≡ of_seal f → ((h : Story) → told old ≡ Some h → IsAtRest h.now) → Replaced (Err f) → Made (Err f) → HasLogCause {T = A} (faults old) (faults new) (Err f) → FormatsLog {T = B} told faults o (Err fault) old new
   formats_log_err f fault is rests replaced calls cause = subst (λ (e : StoreFault). FormatsLog {T = B} told faults o (Err e) old new) (sym is) (
-    follows_both (λ (h n : Story). IsAtRest h.now → Replaces (mount_of h.now.seen) (mounts.Whole (first_header o) None []) (Err f) h n)
+    follows_both (λ (h n : Story). IsAtRest h.now → Replaces (mounts.Whole (first_header o) None []) (Err f) h n)
         (λ (h n : Story). MadeAfterRead (as_disk (Err f)) (log_writes (first_header o) None h.now.seen) h n) (MayFormat {T = B} o (Err (of_seal f))) (told old) (told new) replaced calls
-        (λ h n is so made_so. formats_err o h n f made_so (so (rests h is))),
+        (λ h n is so made_so. formats_err o h n (rests h is) f made_so (so (rests h is))),
     cause_err A B f (faults old) (faults new) cause,
   )
 

@@ -35,6 +35,5 @@ pub mod ApartLaws
 mod ApartRecovers
 mod TurnMeanwhile
 mod SealRecovers
-pub mod OtherLog
 mod Undone
 pub mod Worked

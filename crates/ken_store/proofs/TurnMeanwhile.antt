@@ -27,7 +27,7 @@ use Rattle.ken_store.specs.Answers.{disks_from}
 use Rattle.ken_store.specs.Apart.{Apart}
 use Rattle.ken_store.specs.Logs.{front_of, other_log}
 use Rattle.ken_store.specs.Recovered.{Recovery, Whole}
-use Rattle.ken_store.specs.Standing.{IsNoneOrWhole, RecoversMeanwhile, TakesCalls, Standing, is_either}
+use Rattle.ken_store.specs.Standing.{RecoversMeanwhile, TakesCalls, Standing, is_either}
 use Rattle.ken_store.specs.Turning.{Turning, IsPassed, sealed_bytes, turn_pages, state_in}
 use Rattle.ken_store.specs.Turnovers.{IsTurned, IsUnturned, base_of, kept_disk, replaced_disk, without_told}
 use Rattle.std.specs.Prelude.{OnOk, OnErr, IsErrOf}
@@ -48,17 +48,7 @@ swapped : (which : Which) (o : Owner) (log image other : List ℕ) → recovered
 swapped First o log image other = refl
 swapped Second o log image other = refl
 
--- a disk that mounts as before is passed over as before
-passed_as : (o : Owner) (head : Header) (seen image : List ℕ) → (mount_of seen ≡ mounts.Unformatted) ⊎ ((h : Header) × ((base : Option Base) × ((records : List Record) × (mount_of seen ≡ mounts.Whole h base records)))) → IsPassed o head (front_of seen) → mount_of image ≡ mount_of seen → IsPassed o head (front_of image)
-passed_as o head seen image which passed same = ⊎_elim
-    (λ none. subst (IsPassed o head) (sym (front_none image (same ∙ none))) tt)
-    (λ whole.
-    let before : front_of seen ≡ Begins whole.0 = front_whole seen whole.0 whole.1.0 whole.1.1.0 whole.1.1.1 in
-    let now : front_of image ≡ Begins whole.0 = front_whole image whole.0 whole.1.0 whole.1.1.0 (same ∙ whole.1.1.1) in
-    subst (IsPassed o head) (before ∙ sym now) passed)
-    which
-
-module _ {D : Type 0} (told : D → Option Story) (size : D → ℕ) (old : TurnSide D) (turning : Turning told size old) (i : ImagePages) (covers : Covers old.owner.pages true (turn_pages old) i) (idle : old.objects.begun ≡ None) (settled : ℕ) (acked : List ℕ) (emitted : ℕ) (may : MayLeaveOut settled (turn_pages old) i) (v : Value) (reads : read_value (turn_pages old).heap ≡ Some v) (sound : IsNoneOrWhole told old.other) where
+module _ {D : Type 0} (told : D → Option Story) (size : D → ℕ) (old : TurnSide D) (turning : Turning told size old) (i : ImagePages) (covers : Covers old.owner.pages true (turn_pages old) i) (idle : old.objects.begun ≡ None) (settled : ℕ) (acked : List ℕ) (emitted : ℕ) (may : MayLeaveOut settled (turn_pages old) i) (v : Value) (reads : read_value (turn_pages old).heap ≡ Some v) where
   abbrev base : Base
   base = base_of old settled acked emitted
 
@@ -94,18 +84,18 @@ module _ {D : Type 0} (told : D → Option Story) (size : D → ℕ) (old : Turn
   -- the image's disk tells what it told
   pub turn_any_moment : (T : Type 0) (result : Result T SealFault) (disk image image2 : D) (new : Disks D) → new ≡ disks_from old.which old.log.disk image2 disk → told image2 ≡ told image
       → ((h : Story) → told image ≡ Some h → (img : List ℕ) → IsImage h.now img → IsPossible i (take (256 * old.owner.pages) img))
-      → Follows (λ h s. Replaces {T = T} (mount_of h.now.seen) (mounts.Whole next (Some base) []) result h s) (told old.other) (told disk) → RecoversMeanwhile told old.owner (disks_from old.which old.log.disk image old.other) new kept
+      → Follows (λ h s. Replaces {T = T} (mounts.Whole next (Some base) []) result h s) (told old.other) (told disk) → RecoversMeanwhile told old.owner (disks_from old.which old.log.disk image old.other) new kept
   turn_any_moment T result disk image image2 new is same_image possible_now story =
       subst (λ (d : Disks D). RecoversMeanwhile told old.owner (disks_from old.which old.log.disk image old.other) d kept) (sym is)
       (by_which told old.owner kept old.log.disk image old.other old.log.disk image2 disk old.which
       (λ l h s l2 h2 s2 tl th ts tl2 th2 ts2 log img oth in_log in_image in_other.
-      let both = told_both (λ h s. Replaces {T = T} (mount_of h.now.seen) (mounts.Whole next (Some base) []) result h s) s _ _ ts story in
-      let through = subst (λ (x : Story). Replaces {T = T} (mount_of s.now.seen) (mounts.Whole next (Some base) []) result s x) (some_is both.0 s2 (sym both.1 ∙ ts2)) both.2 in
+      let both = told_both (λ h s. Replaces {T = T} (mounts.Whole next (Some base) []) result h s) s _ _ ts story in
+      let through = subst (λ (x : Story). Replaces {T = T} (mounts.Whole next (Some base) []) result s x) (some_is both.0 s2 (sym both.1 ∙ ts2)) both.2 in
       let log_now = left_now l l2 log (some_is l l2 (sym tl ∙ tl2)) in_log in
       let possible = possible_now h th img (left_now h h2 img (some_is h h2 (sym th ∙ sym same_image ∙ th2)) in_image) in
       let passed = (turning.other l tl s ts).passed in
       ⊎_elim
-      (λ before. inl (not_turned l s tl ts log img oth log_now (passed_as old.owner old.log.header s.now.seen oth (sound s ts) passed before) possible))
+      (λ before. inl (not_turned l s tl ts log img oth log_now (subst (λ (b : List ℕ). IsPassed old.owner old.log.header (front_of b)) (sym (image_at_rest s.now (turning.rests s ts) oth before)) passed) possible))
       (λ rest. ⊎_elim
       (λ none. inl (not_turned l s tl ts log img oth log_now (subst (IsPassed old.owner old.log.header) (sym (front_none oth none)) tt) possible))
       (λ whole. inr (turned l s tl ts log img oth log_now whole possible))

@@ -212,12 +212,12 @@ module _ {D : Type 0} (told : D → Option Story) (size : D → ℕ) (old new : 
 -- ---- the other disk
 
 -- after Ok it mounts as the new log
-pub mounts_turned : (T : Type 0) (x : T) (head : Header) (base : Base) (a b : Option Story) → Follows (λ (h s : Story). IsAtRest h.now → Replaces {T = T} (mount_of h.now.seen) (mounts.Whole head (Some base) []) (Ok x) h s) a b
+pub mounts_turned : (T : Type 0) (x : T) (head : Header) (base : Base) (a b : Option Story) → Follows (λ (h s : Story). IsAtRest h.now → Replaces {T = T} (mounts.Whole head (Some base) []) (Ok x) h s) a b
     → Tells a (λ h. IsAtRest h.now) → Tells b (λ h. IsAtRest h.now) → Tells b (λ h. mount_of h.now.seen ≡ mounts.Whole head (Some base) [])
 mounts_turned T x head base None b follow old new h at = absurd (let none : ⊥ = cc (follow, at) in none)
 mounts_turned T x head base (Some s) b follow old new h at =
     let same : follow.0 ≡ h = some_is follow.0 h (sym follow.1 ∙ at) in
-    let replaces : Replaces {T = T} (mount_of s.now.seen) (mounts.Whole head (Some base) []) (Ok x) s follow.0 = follow.2 (old s refl) in
+    let replaces : Replaces {T = T} (mounts.Whole head (Some base) []) (Ok x) s follow.0 = follow.2 (old s refl) in
     let leaves : Leaves (MountsAs (mounts.Whole head (Some base) [])) h.now = subst (λ (q : Story). Leaves (MountsAs (mounts.Whole head (Some base) [])) q.now) same replaces.ok in
     leaves h.now.seen (image-seen_at_rest h.now (new h at))
 
@@ -274,7 +274,7 @@ unreplaced T told size count ahead log base other settled fits short generation 
     let body : List ℕ = head_bytes next (Some base) ++ 0 ∷ [] in
     let is = next_is log base settled.header fits short generation turns in
     record {
-      story = at_rest_first (λ (h s : Story). Replaces {T = T} (mount_of h.now.seen) (mounts.Whole next (Some base) []) (Err seals.Memory) h s) (told other) (told other) rests (begun_replaces next (Some base) body is refl {T = T} (Err disk.Memory) (told other) (told other) (begun_none next (Some base) body is refl T (told other) (told other) refl));
+      story = at_rest_first (λ (h s : Story). Replaces {T = T} (mounts.Whole next (Some base) []) (Err seals.Memory) h s) (told other) (told other) rests (begun_replaces next (Some base) body is refl {T = T} (Err disk.Memory) (told other) (told other) (begun_none next (Some base) body is refl T (told other) (told other) refl));
       calls = begun_none next (Some base) body is refl T (told other) (told other) refl;
       cause = refl;
       fate = fate_kept T (ahead other) (ahead other) refl;

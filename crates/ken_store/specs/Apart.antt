@@ -29,7 +29,7 @@ use Rattle.ken_store.specs.Patching.{MayBePatched, Patched, Patching, settled_tu
 use Rattle.ken_store.specs.PatchLaws.{IsAheadOf, LastChangedBefore}
 use Rattle.ken_store.specs.Numbers.{follows, after_record}
 use Rattle.ken_store.specs.Recovered.{Recovery, Whole, state_of}
-use Rattle.ken_store.specs.Standing.{IsNoneOrWhole, RecoversTo, RecoversMeanwhile, Standing, is_one, is_either}
+use Rattle.ken_store.specs.Standing.{RecoversTo, RecoversMeanwhile, Standing, is_one, is_either}
 use Rattle.ken_store.specs.Turning.{AreChangedPages, IsSameNode, IsSealed, KeepsLog, Turning, begun_on, coming_record, log_answer, record_of, turn_pages, state_in, undone}
 use Rattle.ken_store.specs.Turnovers.{IsTurned, IsUnturned, base_of, kept_disk, replaced_disk, without_told}
 
@@ -218,26 +218,14 @@ module _ {D : Type 0} (told : D → Option Story) (size : D → ℕ) where
       → Follows (λ h s. Through (MountsAs (mount_of h.now.seen)) h s) (told handler.log.disk) (told new.log.disk)
       → RecoversMeanwhile told handler.owner (disks_apart handler patcher) (disks_apart new patcher) (is_one (Whole (state_in handler) v))
 
-  -- and of a turnover: to that, or to it without the messages and outputs that were told, where the other disk had no log or a whole one
+  -- and of a turnover: to that, or to it without the messages and outputs that were told
   abbrev pub TurnoverRecoversApart : Type 0
   TurnoverRecoversApart =
       (handler new : TurnSide D) (patcher : PatchSide D) (waiting : List (ℕ × List Page)) (i : ImagePages) (result : Result (Unit {0}) StoreFault) (settled : ℕ) (acked : List ℕ) (emitted : ℕ) (v : Value) → Apart told size handler patcher waiting i
-      → handler.objects.begun ≡ None → MayLeaveOut settled (turn_pages handler) (hand_all waiting i) → IsNoneOrWhole told handler.other → read_value (turn_pages handler).heap ≡ Some v
+      → handler.objects.begun ≡ None → MayLeaveOut settled (turn_pages handler) (hand_all waiting i) → read_value (turn_pages handler).heap ≡ Some v
       → OnOk result (IsTurned settled acked emitted handler new) → OnErr result (IsUnturned handler new) → kept_disk result new ≡ handler.log.disk
-      → Follows (λ h s. Replaces (mount_of h.now.seen) (mounts.Whole (next_header handler.log (base_of handler settled acked emitted)) (Some (base_of handler settled acked emitted)) []) (log_answer result) h s) (told handler.other) (told (replaced_disk result new))
+      → Follows (λ h s. Replaces (mounts.Whole (next_header handler.log (base_of handler settled acked emitted)) (Some (base_of handler settled acked emitted)) []) (log_answer result) h s) (told handler.other) (told (replaced_disk result new))
       → RecoversMeanwhile told handler.owner (disks_apart handler patcher) (disks_apart new patcher) (is_either (Whole (state_in handler) v) (Whole (without_told acked emitted (state_in handler)) v))
-
-  -- ---- the disk of the other log, which no call but a turnover touches
-
-  -- after a turnover it has the log that was, a whole one
-  abbrev pub TurnoverLeavesNoneOrWhole : Type 0
-  TurnoverLeavesNoneOrWhole = (handler new : TurnSide D) → Turning told size handler → new.other ≡ handler.log.disk → IsNoneOrWhole told new.other
-
-  -- where a turnover ran out of memory it has no log, or what it had
-  abbrev pub TurnoverKeepsNoneOrWhole : Type 0
-  TurnoverKeepsNoneOrWhole =
-      (handler new : TurnSide D) (head : Header) (base : Base) → Turning told size new → IsNoneOrWhole told handler.other
-      → Follows (λ h s. Replaces {T = Unit {0}} (mount_of h.now.seen) (mounts.Whole head (Some base) []) (Err seals.Memory) h s) (told handler.other) (told new.other) → IsNoneOrWhole told new.other
 
   -- ---- a turn that is begun may be taken back, whatever it did to the heap
 

@@ -83,10 +83,6 @@ is_one a r = r ≡ a
 abbrev pub is_either : Recovery → Recovery → Recovery → Type 0
 is_either a b r = (r ≡ a) ⊎ (r ≡ b)
 
--- a disk has no log, or a whole one: so a recovery that passes over it reads no header of what a crash leaves of it
-abbrev pub IsNoneOrWhole : {D : Type 0} → (D → Option Story) → D → Type 0
-IsNoneOrWhole told disk = Tells (told disk) (λ s. (mount_of s.now.seen ≡ mounts.Unformatted) ⊎ ((head : Header) × ((base : Option Base) × ((records : List Record) × (mount_of s.now.seen ≡ mounts.Whole head base records)))))
-
 -- the state with the turn that is begun, over a heap of this value
 abbrev pub sealed_recovery : {D : Type 0} → Effects → Store D → Value → Recovery
 sealed_recovery e store v =

@@ -15,7 +15,6 @@ use Rattle.ken_record.specs.declared.record.Record.{Record}
 use Rattle.ken_log.specs.declared.faults.SealFault.{SealFault}
 use Rattle.ken_log.specs.Calls.{log_writes, MadeAfterRead}
 use Rattle.ken_log.specs.Formats.{Replaces, next_header}
-use Rattle.ken_log.specs.Mounts.{mount_of}
 use Rattle.ken_log.specs.Mounts as mounts
 use Rattle.ken_log.specs.Seals.{HasLogCause, as_disk}
 use Rattle.ken_cover.specs.declared.layers.Change.{Change}
@@ -123,7 +122,7 @@ kept_disk (Err fault) side = side.log.disk
 
 -- what a turnover to this header and base does to the disk that it writes
 pub record ReplacesOn {D T : Type 0} (told : D → Option Story) (count : D → ℕ) (ahead : D → Option Fate) (result : Result T SealFault) (head : Header) (base : Base) (old new : D) : Type 0 where
-  pub story : Follows (λ h s. Replaces (mount_of h.now.seen) (mounts.Whole head (Some base) []) result h s) (told old) (told new)
+  pub story : Follows (λ h s. Replaces (mounts.Whole head (Some base) []) result h s) (told old) (told new)
   pub calls : Follows (λ h s. MadeAfterRead (as_disk result) (log_writes head (Some base) h.now.seen) h s) (told old) (told new)
   pub cause : HasLogCause (count old) (count new) result
   pub fate : Follows (Suffers (as_disk result)) (ahead old) (ahead new)

@@ -2,7 +2,7 @@
 // contracts of functions that do nothing.
 ghost use Rattle.std.specs.Prelude.{◌≡◌, []};
 ghost use Rattle.ken_cover.specs.Sides.{ImagePages};
-ghost use Rattle.ken_store.specs.Apart.{Apart, BeginKeepsApart, WorkKeepsApart, AbortKeepsApart, TurnKeepsApart, SealKeepsApart, TurnoverKeepsApart, WaitingMayBeHanded, HandKeepsApart, RoomKeepsApart, PatchKeepsApart, SyncKeepsApart, PatchesAreBehind, WaitingKeepsSettled, ToldIsSettled, ToldIsSealed, SealKeepsTold, PatchKeepsTold, SyncKeepsTold, ApartRecovers, PatchRecoversApart, SyncRecoversApart, SealRecoversApart, UnsealedRecoversApart, TurnoverRecoversApart, TurnoverLeavesNoneOrWhole, TurnoverKeepsNoneOrWhole, WorkMayBeUndone, WorkStandsUndone};
+ghost use Rattle.ken_store.specs.Apart.{Apart, BeginKeepsApart, WorkKeepsApart, AbortKeepsApart, TurnKeepsApart, SealKeepsApart, TurnoverKeepsApart, WaitingMayBeHanded, HandKeepsApart, RoomKeepsApart, PatchKeepsApart, SyncKeepsApart, PatchesAreBehind, WaitingKeepsSettled, ToldIsSettled, ToldIsSealed, SealKeepsTold, PatchKeepsTold, SyncKeepsTold, ApartRecovers, PatchRecoversApart, SyncRecoversApart, SealRecoversApart, UnsealedRecoversApart, TurnoverRecoversApart, WorkMayBeUndone, WorkStandsUndone};
 ghost use Rattle.ken_store.specs.Patching.{TakesPatches};
 ghost use Rattle.ken_store.specs.Standing.{Standing, TakesCalls};
 ghost use Rattle.ken_store.specs.Turning.{Turning};
@@ -149,20 +149,9 @@ pub fn unsealed_recovers_apart<D: Disk>()
     ensures { UnsealedRecoversApart D.told D.size }
 {}
 
-/// At any moment of a turnover they recover to that, or to it without the messages and outputs that were told, where the disk of the
-/// other log had no log or a whole one.
+/// At any moment of a turnover they recover to that, or to it without the messages and outputs that were told.
 pub fn turnover_recovers_apart<D: Disk>()
     ensures { TurnoverRecoversApart D.told D.size }
-{}
-
-/// After a turnover the disk of the other log has a whole one, the log that was.
-pub fn turnover_leaves_none_or_whole<D: Disk>()
-    ensures { TurnoverLeavesNoneOrWhole D.told D.size }
-{}
-
-/// Where a turnover ran out of memory, it has no log or a whole one if it had before. No other call touches it.
-pub fn turnover_keeps_none_or_whole<D: Disk>()
-    ensures { TurnoverKeepsNoneOrWhole D.told D.size }
 {}
 
 /// Where a turn is begun on a side that takes calls, the side takes calls once the turn is taken back, with the pages and the heap of

@@ -17,7 +17,7 @@ ghost use Rattle.ken_store.specs.Lending.{LendsStoreHeap};
 ghost use Rattle.ken_store.specs.Numbers.{follows};
 ghost use Rattle.ken_store.specs.Patching.{GoesOnBy, Holds, IsFaultOfCall, KeepsAhead, PatchesBy, PatchSuffers, SettlesBy, disk_answer, patch_calls, settled_turn};
 ghost use Rattle.ken_store.specs.Recovered.{Whole};
-ghost use Rattle.ken_store.specs.Standing.{IsNoneOrWhole, RecoversMeanwhile, Standing, StandsSealed, TakesCalls, is_either, is_one, sealed_recovery};
+ghost use Rattle.ken_store.specs.Standing.{RecoversMeanwhile, Standing, StandsSealed, TakesCalls, is_either, is_one, sealed_recovery};
 ghost use Rattle.ken_store.specs.Turnovers.{BeginsWith, IsTurned, IsUnturned, ReplacesOn, base_of, kept_disk, replaced_disk, without_told};
 ghost use Rattle.ken_record.specs.Spelling.{base_bytes};
 ghost use Rattle.ken_log.specs.Formats.{next_header};
@@ -118,7 +118,7 @@ impl<D: Disk> Store<D> {
         ensures goes_on { IsErrOf result StoreFault.Memory → TakesCalls D.told D.size self.new }
         ensures stands { (i : ImagePages) → Standing D.told D.size self.old i → MayLeaveOut settled (turn_pages self.old.turns) i → OnOk result (Standing D.told D.size self.new i) }
         ensures still { (i : ImagePages) → Standing D.told D.size self.old i → IsErrOf result StoreFault.Memory → Standing D.told D.size self.new i }
-        ensures any_moment { (i : ImagePages) (v : Value) → Standing D.told D.size self.old i → MayLeaveOut settled (turn_pages self.old.turns) i → read_value (turn_pages self.old.turns).heap ≡ Some v → IsNoneOrWhole D.told self.old.turns.other → RecoversMeanwhile D.told self.old.turns.owner (disks_in self.old) (disks_in self.new) (is_either (Whole (state_in self.old.turns) v) (Whole (without_told acked.now emitted (state_in self.old.turns)) v)) }
+        ensures any_moment { (i : ImagePages) (v : Value) → Standing D.told D.size self.old i → MayLeaveOut settled (turn_pages self.old.turns) i → read_value (turn_pages self.old.turns).heap ≡ Some v → RecoversMeanwhile D.told self.old.turns.owner (disks_in self.old) (disks_in self.new) (is_either (Whole (state_in self.old.turns) v) (Whole (without_told acked.now emitted (state_in self.old.turns)) v)) }
         ensures spent { IsErrOf result StoreFault.Disk → self.new.turns.log.spent ≡ true }
         ensures log { ReplacesOn D.told D.faults D.fate (log_answer result) (next_header self.old.turns.log (base_of self.old.turns settled acked.now emitted)) (base_of self.old.turns settled acked.now emitted) self.old.turns.other (replaced_disk result self.new.turns) }
         ensures own { kept_disk result self.new.turns ≡ self.old.turns.log.disk }

@@ -36,9 +36,8 @@ pub use apart::{
     patch_keeps_told, patch_recovers_apart, patches_are_behind, room_keeps_apart, seal_keeps_apart,
     seal_keeps_told, seal_recovers_apart, sync_keeps_apart, sync_keeps_told, sync_recovers_apart,
     told_is_sealed, told_is_settled, turn_keeps_apart, turnover_keeps_apart,
-    turnover_keeps_none_or_whole, turnover_leaves_none_or_whole, turnover_recovers_apart,
-    unsealed_recovers_apart, waiting_keeps_settled, waiting_may_be_handed, work_keeps_apart,
-    work_may_be_undone, work_stands_undone,
+    turnover_recovers_apart, unsealed_recovers_apart, waiting_keeps_settled, waiting_may_be_handed,
+    work_keeps_apart, work_may_be_undone, work_stands_undone,
 };
 pub use creation::create;
 pub use disks::Disks;

@@ -46,7 +46,7 @@ returns-in-Ok-format-2-clause-creates g c = λ l tl i ti s ts l2 tl2 i2 ti2.
     let made = c.in-Ok-format.ensures.holds i2 ti2 in
     let keeps = rw c.in-Ok-format.ensures.count at (c.in-Ok-format.ensures.whole.keeps i2 ti2) in
     let holds = holds_first c.args.pages _ i2.now c.requires.some c.in-Ok.ensures.page made.0 keeps made.1 in
-    let replaces = follows_at (λ (h n : Story). IsAtRest h.now → Replaces (mount_of h.now.seen) (mounts.Whole (first_header o) None []) (Ok c.in-Ok-format-2.log) h n) l l2 _ _ c.in-Ok-format-2.ensures.story tl tl2 (c.requires.rests.log l tl) in
+    let replaces = follows_at (λ (h n : Story). IsAtRest h.now → Replaces (mounts.Whole (first_header o) None []) (Ok c.in-Ok-format-2.log) h n) l l2 _ _ c.in-Ok-format-2.ensures.story tl tl2 (c.requires.rests.log l tl) in
     creates_ok o l s (c.requires.rests.log l tl) (c.requires.rests.second s ts) (c.requires.none l tl s ts).0 (c.requires.none l tl s ts).1 c.requires.some c.requires.most i l2 i2 holds (Ok c.in-Ok-format-2.log) replaces _ c.in-Ok-format-2.log refl
 
 pub returns-in-Err-format-2-clause-creates : goal.returns-in-Err-format-2-clause-creates
@@ -56,7 +56,7 @@ returns-in-Err-format-2-clause-creates g c = λ l tl i ti s ts l2 tl2 i2 ti2.
     let made = c.in-Ok-format.ensures.holds i2 told in
     let keeps = rw c.in-Ok-format.ensures.count at (c.in-Ok-format.ensures.whole.keeps i2 told) in
     let holds = holds_first c.args.pages _ i2.now c.requires.some c.in-Ok.ensures.page made.0 keeps made.1 in
-    let replaces = follows_at (λ (h n : Story). IsAtRest h.now → Replaces (mount_of h.now.seen) (mounts.Whole (first_header o) None []) (Err c.in-Err-format-2.fault) h n) l l2 _ _ c.in-Err-format-2.ensures.story tl tl2 (c.requires.rests.log l tl) in
+    let replaces = follows_at (λ (h n : Story). IsAtRest h.now → Replaces (mounts.Whole (first_header o) None []) (Err c.in-Err-format-2.fault) h n) l l2 _ _ c.in-Err-format-2.ensures.story tl tl2 (c.requires.rests.log l tl) in
     creates_err o l s (c.requires.rests.log l tl) (c.requires.rests.second s ts) (c.requires.none l tl s ts).0 (c.requires.none l tl s ts).1 c.requires.some c.requires.most i l2 i2 holds (Err c.in-Err-format-2.fault) replaces (Store g.row.D.Denot) c.from-in-Err-format-2.result (λ is. memory_err _ c.in-Err-format-2.fault (sym c.from-in-Err-format-2.ensures ∙ is))
 
 pub returns-in-Ok-format-2-clause-ready : goal.returns-in-Ok-format-2-clause-ready
@@ -81,7 +81,7 @@ returns-in-Ok-format-2-clause-ready g c =
     let no_numbers_yet : c.none.result ≡ no_numbers = c.none.ensures in
     let header : log.header ≡ first_header o = made.0 in
     let long : length c.in-Ok.heap.0.bytes ≡ 256 * c.args.pages = ap length c.in-Ok.ensures.bytes ∙ length-first_heap c.args.pages c.requires.some in
-    let changes : Story → Story → Type 0 = λ h n. IsAtRest h.now → Replaces (mount_of h.now.seen) (mounts.Whole (first_header o) None []) (Ok log) h n in
+    let changes : Story → Story → Type 0 = λ h n. IsAtRest h.now → Replaces (mounts.Whole (first_header o) None []) (Ok log) h n in
     let mounts_so : (h : Story) → g.D.Disk.told log.disk ≡ Some h → mount_of h.now.seen ≡ mounts.Whole (first_header o) None [] = λ h told.
     tells_after changes (λ y. IsImage y.now y.now.seen → mount_of y.now.seen ≡ mounts.Whole (first_header o) None []) _ _ c.in-Ok-format-2.ensures.story (λ x y is r. λ may. (r (c.requires.rests.log x is)).ok y.now.seen may) h told
     (image-seen_at_rest h.now (c.in-Ok-format-2.ensures.settled.rests h told)) in

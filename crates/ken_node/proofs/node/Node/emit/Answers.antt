@@ -23,7 +23,6 @@ returns-clause-steps g c = λ game v n up.
       stage_is = sym c.in-Created.is ∙ up.stage_is;
       whole = up.whole;
       empty = up.empty;
-      other = up.other;
       tell = up.tell;
     }))
 

@@ -4,8 +4,8 @@ use Rattle.ken_store.proofs.TurnMeanwhile.{disks_turned, turn_any_moment, turned
 use Rattle.ken_store.proofs.store.Store.turnover.Goals as goal
 
 pub returns-clause-any_moment : goal.returns-clause-any_moment
-returns-clause-any_moment g c = λ i v stands may reads sound.
-    turn_any_moment g.D.Disk.told g.D.Disk.size c.args.self.now.turns stands.takes.turns i stands.covers c.requires.idle c.args.settled c.args.acked.now c.args.emitted may v reads sound _ _ _ c.args.self.now.patches.image.disk c.args.self.now.patches.image.disk _
+returns-clause-any_moment g c = λ i v stands may reads.
+    turn_any_moment g.D.Disk.told g.D.Disk.size c.args.self.now.turns stands.takes.turns i stands.covers c.requires.idle c.args.settled c.args.acked.now c.args.emitted may v reads _ _ _ c.args.self.now.patches.image.disk c.args.self.now.patches.image.disk _
     (disks_turned c.turnover.result c.args.settled c.args.acked.now c.args.emitted c.args.self.now.turns c.turnover.new.self c.args.self.now.patches.image.disk c.turnover.ensures.turned c.turnover.ensures.unturned c.turnover.ensures.own)
     refl (possible_now g.D.Disk.told g.D.Disk.size c.args.self.now i stands v reads) c.turnover.ensures.log.story
 

@@ -6,13 +6,12 @@ use Rattle.ken_record.specs.Grammar.{IsBase}
 use Rattle.ken_record.specs.Versions.{One}
 use Rattle.ken_log.specs.declared.faults.SealFault.TheVariants as seals
 use Rattle.ken_log.specs.Formats.{Replaces, next_header}
-use Rattle.ken_log.specs.Mounts.{mount_of}
 use Rattle.ken_log.specs.Mounts as mounts
 use Rattle.ken_store.specs.declared.faults.StoreFault.TheVariants as faults
 use Rattle.ken_store.specs.declared.turning.TurnSide.{TurnSide}
 use Rattle.ken_store.specs.Reads.{of_seal}
-use Rattle.ken_store.specs.Turnovers.{base_of}
-use Rattle.ken_store.proofs.Turned.{side_stands, base_fits, live_turned, state_turned, turned_turning, unturned_turning, mounts_turned, other_rests, other_passed, at_rest_first, unreplaced, memory_of}
+use Rattle.ken_store.specs.Turnovers.{ReplacesOn, base_of}
+use Rattle.ken_store.proofs.Turned.{side_stands, base_fits, live_turned, state_turned, turned_turning, unturned_turning, mounts_turned, other_rests, other_passed, at_rest_first, replaced_as, unreplaced, memory_of}
 use Rattle.ken_store.proofs.Sealing.{told_before}
 use Rattle.ken_store.proofs.turning.TurnSide.turnover.Goals as goal
 
@@ -88,8 +87,25 @@ returns-clause-log g c =
     let b : Base = base_of s c.args.settled c.args.acked.now c.args.emitted in
     let story = rw c.in_ok-base.ensures.base at c.in_ok-turnover.ensures.story in
     record {
-      story = at_rest_first (λ (h q : Story). Replaces (mount_of h.now.seen) (mounts.Whole (next_header s.log b) (Some b) []) (Ok tt) h q) _ _ t.rests story;
+      story = at_rest_first (λ (h q : Story). Replaces (mounts.Whole (next_header s.log b) (Some b) []) (Ok tt) h q) _ _ t.rests story;
       calls = rw c.in_ok-base.ensures.base at c.in_ok-turnover.ensures.calls;
       cause = c.in_ok-turnover.ensures.cause;
       fate = c.in_ok-turnover.ensures.fate;
     }
+
+pub returns-in_err-turnover-clause-log : goal.returns-in_err-turnover-clause-log
+returns-in_err-turnover-clause-log g c =
+    let t = c.requires.turning in
+    let s = c.args.self.now in
+    let b : Base = base_of s c.args.settled c.args.acked.now c.args.emitted in
+    let fault = c.in_err-turnover.field-0.0 in
+    let p = err_from_is_err_and c.from_residual-in_err-turnover.result c.from_residual-in_err-turnover.ensures.1 in
+    let story = rw c.in_ok-base.ensures.base at c.in_err-turnover.ensures.story in
+    let calls = rw c.in_ok-base.ensures.base at c.in_err-turnover.ensures.calls in
+    let replaces : ReplacesOn {T = Unit {0}} g.D.Disk.told g.D.Disk.faults g.D.Disk.fate (Err fault) (next_header s.log b) b s.other c.turnover.new.other = record {
+      story = at_rest_first (λ (h q : Story). Replaces {T = Unit {0}} (mounts.Whole (next_header s.log b) (Some b) []) (Err fault) h q) _ _ t.rests story;
+      calls = calls;
+      cause = c.in_err-turnover.ensures.cause;
+      fate = c.in_err-turnover.ensures.fate;
+    } in
+    rw (p.1, p.2) (replaced_as (Unit {0}) g.D.Disk.told g.D.Disk.faults g.D.Disk.fate fault (next_header s.log b) b s.other c.turnover.new.other replaces)
