@@ -1,40 +1,32 @@
 -- What a crash leaves of a node's disks is found again.
-use Rattle.std.proofs.Common.{◌≡◌, ℕ, ◌*◌, ◌<◌, ◌≤◌, ◌⊎◌, inl, inr, List, [], ◌∷◌, ◌++◌, length, map, replicate, take, Bool, true, false, ◌==◌, refl, sym, ap, subst, ◌∙◌, arith, Option, Some, None, Ok}
-use Rattle.std.specs.Prelude.{nat_lt}
+use Rattle.std.proofs.Common.{◌≡◌, ℕ, ◌⊎◌, inl, inr, List, [], ◌∷◌, ◌++◌, length, map, replicate, take, Bool, true, refl, sym, ap, subst, ◌∙◌, Option, Some, None}
 use Rattle.std.specs.List.{flat_map, zip}
-use Rattle.std.proofs.lemmas.Bool.{ne_eqb, lt-ltb, le-ltb}
-use Rattle.std.proofs.lemmas.List.{length-take}
 use Rattle.std.proofs.lemmas.List.Concat.{flat_map-cons}
 use Rattle.ken_model.specs.declared.states.State.{State}
 use Rattle.ken_model.specs.declared.values.Value.{Value}
 use Rattle.ken_model.specs.Game.{Game}
 use Rattle.ken_model.specs.Limits.{IsWithinLimits}
-use Rattle.ken_model.specs.Reading.{read_value}
 use Rattle.ken_record.specs.declared.base.Base.{Base}
 use Rattle.ken_record.specs.declared.header.Header.{Header}
 use Rattle.ken_record.specs.declared.page.Page.{Page}
 use Rattle.ken_record.specs.declared.record.Record.{Record}
-use Rattle.ken_log.specs.Mounts.{Mounted, mount_of}
+use Rattle.ken_log.specs.Mounts.{mount_of}
 use Rattle.ken_log.specs.Mounts as mounts
 use Rattle.ken_cover.specs.Covers.{IsPossible}
-use Rattle.ken_cover.specs.Overlay.{overlay}
 use Rattle.ken_cover.specs.Sides.{pages_of}
 use Rattle.ken_cover.proofs.Bases.{page_in, pages_of-first, pages_of-recounted, pages-changes_at}
-use Rattle.ken_cover.proofs.Keeps.{images_recover}
 use Rattle.ken_core.specs.Calls.{Doubt, no_doubt}
-use Rattle.ken_core.specs.Nodes.{Node, first_node, heap_pages}
+use Rattle.ken_core.specs.Nodes.{Node, first_node}
 use Rattle.ken_core.specs.Packets.{Packet}
 use Rattle.ken_store.specs.declared.disks.Which.{Which}
 use Rattle.ken_store.specs.declared.disks.Which.TheVariants.{First, Second}
-use Rattle.ken_store.specs.declared.numbers.Numbers.{Numbers}
 use Rattle.ken_store.specs.declared.owner.Owner.{Owner}
 use Rattle.ken_store.specs.Kept.{base_pages, pages_in, record_pages}
-use Rattle.ken_store.specs.Logs.{logs_of, log_on, other_log, is_owned, may_own, front_of}
-use Rattle.ken_store.specs.Recovered.{Recovery, Fresh, Whole, IsRefusedAt, checked, heap_of, numbers_of, recovered, state_of, with_image, with_log, with_logs, with_state}
-use Rattle.ken_store.specs.Turning.{changed_in, live_layers, record_layer, IsPassed}
+use Rattle.ken_store.specs.Logs.{log_on, other_log}
+use Rattle.ken_store.specs.Recovered.{Recovery, Fresh, Whole, IsRefusedAt, recovered, state_of}
+use Rattle.ken_store.specs.Turning.{changed_in, live_layers, record_layer}
 use Rattle.ken_store.proofs.Creating.{fresh}
 use Rattle.ken_store.proofs.Standing.{found_over, recovered_by}
-use Rattle.ken_store.proofs.Mounted.{front_none, front_whole}
 use Rattle.ken_node.specs.Created.{owner_of}
 use Rattle.ken_node.specs.Down.{ComesOut, Finds, HasLanded, IsSound, Left, MountedLog, TellsNode, a_log, nothing}
 use Rattle.ken_node.proofs.Creation.{size_is}

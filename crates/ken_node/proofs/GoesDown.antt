@@ -1,5 +1,5 @@
 -- A node that is up, or whose write of the image failed, may be restarted.
-use Rattle.std.proofs.Common.{◌≡◌, ℕ, ◌*◌, ◌<◌, List, [], ◌∷◌, length, map, replicate, take, Bool, true, false, inr, refl, sym, ap, subst, ◌∙◌, ⊎_elim, arith, Option, Some, None}
+use Rattle.std.proofs.Common.{◌≡◌, ℕ, ◌*◌, ◌<◌, List, [], ◌∷◌, length, map, replicate, take, Bool, true, false, inr, refl, sym, ap, subst, ◌∙◌, arith, Option, Some, None}
 use Rattle.std.specs.List.{zip}
 use Rattle.ken_disk.specs.Story.{Story, IsImage, Tells}
 use Rattle.ken_disk.proofs.Images.{image_at_rest, image-synced}
@@ -36,7 +36,6 @@ use Rattle.ken_store.specs.Patching.{HoldsImage}
 use Rattle.ken_store.specs.Recovered.{numbers_of, state_of}
 use Rattle.ken_store.specs.Turning.{IsPassed, PassesOver, changed_in, live_layers, record_layer, state_in, turn_pages}
 use Rattle.ken_store.proofs.ApartPages.{hand_all-possible}
-use Rattle.ken_store.proofs.Mounted.{front_whole}
 use Rattle.ken_ship.specs.declared.worker.SendWorker.{SendWorker}
 use Rattle.ken_ship.specs.Laws.{IsStateOf}
 use Rattle.ken_node.specs.declared.patcher.PatchWorker.{PatchWorker}

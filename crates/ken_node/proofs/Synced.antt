@@ -12,7 +12,7 @@ use Rattle.ken_record.specs.declared.header.Header.{Header}
 use Rattle.ken_record.specs.declared.page.Page.{Page}
 use Rattle.ken_record.specs.declared.record.Record.{Record}
 use Rattle.ken_log.specs.declared.log.Log.{Log}
-use Rattle.ken_log.specs.Mounts.{Mounted, mount_of}
+use Rattle.ken_log.specs.Mounts.{mount_of}
 use Rattle.ken_log.specs.Mounts as mounts
 use Rattle.ken_core.specs.declared.events.Told.{Told}
 use Rattle.ken_core.specs.Calls.{Doubt, no_doubt, seal, turnover}

@@ -1,9 +1,8 @@
 -- A node whose handler's disk failed may be restarted.
-use Rattle.std.proofs.Common.{◌≡◌, ℕ, inl, inr, ⊎_elim, List, sym, ap, subst, Option, Some, Err}
+use Rattle.std.proofs.Common.{ℕ, inl, inr, ⊎_elim, List, ap, Option, Some, Err}
 use Rattle.ken_disk.specs.Fates.{Fate}
 use Rattle.ken_disk.specs.Story.{Story}
 use Rattle.ken_net.specs.Puts.{Put}
-use Rattle.ken_store.specs.declared.turning.TurnSide.{TurnSide}
 use Rattle.ken_ship.specs.declared.faults.NodeFault.TheVariants.{Disk}
 use Rattle.ken_node.specs.declared.worker.TurnWorker.{TurnWorker}
 use Rattle.ken_node.specs.Calls.{IsTurnInDoubt, IsTurnoverInDoubt}

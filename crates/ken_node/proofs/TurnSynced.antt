@@ -15,7 +15,6 @@ use Rattle.ken_store.specs.declared.numbers.Numbers.{Numbers}
 use Rattle.ken_store.specs.declared.turning.TurnSide.{TurnSide}
 use Rattle.ken_store.specs.Apart.{disks_apart}
 use Rattle.ken_store.specs.Recovered.{numbers_of}
-use Rattle.ken_store.specs.Turning.{Turning}
 use Rattle.ken_store.specs.Work.{MayHaveChanged}
 use Rattle.ken_ship.specs.declared.faults.NodeFault.{NodeFault}
 use Rattle.ken_ship.specs.declared.faults.NodeFault.TheVariants.{Disk, Damaged, Outlet, Memory}

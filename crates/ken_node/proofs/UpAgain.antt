@@ -3,7 +3,6 @@ use Rattle.std.proofs.Common.{◌≡◌, ℕ, ◌*◌, ◌<◌, inl, inr, ◌⊎
 use Rattle.std.proofs.lemmas.List.{append-nil}
 use Rattle.ken_disk.specs.Story.{Story}
 use Rattle.ken_disk.proofs.Images.{image_at_rest}
-use Rattle.ken_disk.proofs.Told.{some_is}
 use Rattle.ken_model.specs.declared.states.State.{State}
 use Rattle.ken_model.specs.declared.values.Value.{Value}
 use Rattle.ken_model.specs.Game.{Game}
@@ -13,7 +12,7 @@ use Rattle.ken_record.specs.declared.base.Base.{Base}
 use Rattle.ken_record.specs.declared.header.Header.{Header}
 use Rattle.ken_record.specs.declared.page.Page.{Page}
 use Rattle.ken_record.specs.declared.record.Record.{Record}
-use Rattle.ken_log.specs.Mounts.{Mounted, mount_of}
+use Rattle.ken_log.specs.Mounts.{mount_of}
 use Rattle.ken_log.specs.Mounts as mounts
 use Rattle.ken_cover.specs.declared.layers.Change.{Change}
 use Rattle.ken_cover.specs.declared.layers.Layer.{Layer}

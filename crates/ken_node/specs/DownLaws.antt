@@ -1,5 +1,5 @@
 -- A node of workers, whether it is up or its call failed, is one that may be restarted.
-use Rattle.std.specs.Prelude.{ℕ, ◌<◌, ◌⊎◌, List, Option, Result, Ok, Err}
+use Rattle.std.specs.Prelude.{ℕ, ◌<◌, ◌⊎◌, List, Option, Err}
 use Rattle.ken_disk.specs.Fates.{Fate}
 use Rattle.ken_disk.specs.Story.{Story}
 use Rattle.ken_model.specs.Game.{Game}
@@ -12,14 +12,13 @@ use Rattle.ken_store.specs.declared.disks.Disks.{Disks}
 use Rattle.ken_store.specs.Answers.{AreAtRest, AreUnformatted}
 use Rattle.ken_store.specs.Apart.{disks_apart}
 use Rattle.ken_ship.specs.declared.faults.NodeFault.{NodeFault}
-use Rattle.ken_ship.specs.declared.faults.NodeFault.TheVariants.{Disk, Damaged, Outlet, Memory}
+use Rattle.ken_ship.specs.declared.faults.NodeFault.TheVariants.{Disk}
 use Rattle.ken_ship.specs.declared.worker.SendWorker.{SendWorker}
 use Rattle.ken_ship.specs.Laws.{packets_from}
 use Rattle.ken_ship.specs.Parts.{IsSameWorker as IsSameSender}
 use Rattle.ken_node.specs.declared.patcher.PatchWorker.{PatchWorker}
 use Rattle.ken_node.specs.declared.stage.Stage.{Stage}
 use Rattle.ken_node.specs.declared.stage.Stage.TheVariants.{Created}
-use Rattle.ken_node.specs.declared.took.Took.{Took}
 use Rattle.ken_node.specs.declared.worker.TurnWorker.{TurnWorker}
 use Rattle.ken_node.specs.Calls.{IsTurnoverInDoubt, TakesTurn}
 use Rattle.ken_node.specs.Created.{IsCreation}
@@ -30,7 +29,7 @@ use Rattle.ken_node.specs.Sealing.{coming_pages}
 use Rattle.ken_node.specs.TurnLaws.{DoubtsSeal, DoubtsTurnover, Drew, told_of}
 use Rattle.ken_node.specs.Whole.{IsWhole}
 use Rattle.ken_node.specs.WholeLaws.{FailsToPatch, FailsToSync}
-use Rattle.ken_node.specs.Workers.{HearsNews, IsSameWorker, Working}
+use Rattle.ken_node.specs.Workers.{HearsNews, IsSameWorker}
 
 module _ {D : Type 0} (told : D → Option Story) (size : D → ℕ) where
   -- a node that is up, with nothing in doubt

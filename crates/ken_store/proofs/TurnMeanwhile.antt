@@ -8,7 +8,6 @@ use Rattle.ken_model.specs.declared.values.Value.{Value}
 use Rattle.ken_model.specs.Reading.{read_value}
 use Rattle.ken_record.specs.declared.base.Base.{Base}
 use Rattle.ken_record.specs.declared.header.Header.{Header}
-use Rattle.ken_record.specs.declared.record.Record.{Record}
 use Rattle.ken_log.specs.declared.faults.SealFault.{SealFault}
 use Rattle.ken_log.specs.Formats.{Replaces, next_header}
 use Rattle.ken_log.specs.Mounts.{mount_of}

@@ -1,17 +1,14 @@
 -- The two sides of a store while they are apart, with sealed records on their way from the handler to the patcher.
-use Rattle.std.specs.Prelude.{◌≡◌, ℕ, ◌+◌, ◌*◌, ◌<◌, ◌≤◌, List, [], ◌∷◌, ◌++◌, take, Option, Some, None, Result, Err, true, IsTrue, IsSome, OnOk, OnErr}
+use Rattle.std.specs.Prelude.{◌≡◌, ℕ, ◌+◌, ◌*◌, ◌<◌, ◌≤◌, List, [], ◌∷◌, ◌++◌, take, Option, Some, None, Result, true, IsTrue, IsSome, OnOk, OnErr}
 use Rattle.ken_disk.specs.Moments.{Through}
 use Rattle.ken_disk.specs.Story.{Story, Follows}
 use Rattle.ken_model.specs.declared.values.Value.{Value}
 use Rattle.ken_model.specs.Reading.{read_value}
 use Rattle.ken_alloc.specs.Objects.{Heap}
-use Rattle.ken_record.specs.declared.base.Base.{Base}
 use Rattle.ken_record.specs.declared.effects.Effects.{Effects}
-use Rattle.ken_record.specs.declared.header.Header.{Header}
 use Rattle.ken_record.specs.declared.page.Page.{Page}
 use Rattle.ken_record.specs.Grammar.{IsRecord, rise_from, page_rank}
 use Rattle.ken_record.specs.Versions.{One}
-use Rattle.ken_log.specs.declared.faults.SealFault.TheVariants as seals
 use Rattle.ken_log.specs.Formats.{Replaces, next_header}
 use Rattle.ken_log.specs.Mounts.{mount_of, with_record}
 use Rattle.ken_log.specs.Mounts as mounts

@@ -4,11 +4,6 @@ use Rattle.ken_disk.specs.Moments.{MayLeave}
 use Rattle.ken_disk.specs.Story.{Story, Tells, IsImage}
 use Rattle.ken_model.specs.declared.states.State.{State}
 use Rattle.ken_model.specs.declared.values.Value.{Value}
-use Rattle.ken_record.specs.declared.base.Base.{Base}
-use Rattle.ken_record.specs.declared.header.Header.{Header}
-use Rattle.ken_record.specs.declared.record.Record.{Record}
-use Rattle.ken_log.specs.Mounts.{mount_of}
-use Rattle.ken_log.specs.Mounts as mounts
 use Rattle.ken_record.specs.declared.effects.Effects.{Effects}
 use Rattle.ken_record.specs.declared.page.Page.{Page}
 use Rattle.ken_cover.specs.Sides.{ImagePages, handed_pages, recovered_image_pages}
