@@ -9,6 +9,10 @@ from pathlib import Path
 ROOT = Path(__file__).resolve().parent.parent
 TIME = Path("/usr/bin/time")
 
+# The crate with the programs that are only timed.
+BENCH = ROOT / "crates/ken_bench"
+PROGRAM = BENCH / "out/ken_bench"
+
 # A case runs until it has taken so many seconds, and at least so often.
 SECONDS = 2.0
 LEAST_RUNS = 6
@@ -29,6 +33,19 @@ class Case:
 
     def has_time_left(self):
         return self.runs < LEAST_RUNS or self.spent < SECONDS
+
+
+def build():
+    """rt builds a program only to run it."""
+    words = ["rt", "run", "--", "store", "copy", "1", "1"]
+    done = subprocess.run(words, cwd=BENCH, capture_output=True, text=True)
+    if done.returncode:
+        raise SystemExit(done.stdout + done.stderr)
+
+
+def case_of(*words):
+    """A run of ken_bench, without input."""
+    return Case([PROGRAM, *map(str, words)])
 
 
 def run(words, case, room):

@@ -1,3 +1,5 @@
-pub mod Plans
-pub mod Rounds
+pub mod Disks
 pub mod Logs
+pub mod Stores
+pub mod Ends
+pub mod Rings

@@ -1,22 +1,21 @@
-// What a log is measured by.
-ghost use Rattle.std.specs.Prelude.{◌≡◌, ◌+◌, ◌*◌, length, IfOk};
-ghost use Rattle.ken_record.specs.Grammar.{IsRecord};
-ghost use Rattle.ken_record.specs.Spelling.{record_bytes};
-ghost use Rattle.ken_record.specs.Versions.{One};
+// What the programs are measured by.
+ghost use Rattle.std.specs.Prelude.{◌≡◌, ◌*◌, length, IfOk};
 
-use ken_record::Record;
-use std::alloc::{AllocError, Global};
+use crate::fault::Fault;
+use std::alloc::Global;
 
-// Copies the bytes of so many records with their gates behind one another, and says how many they are.
-pub(crate) fn copy_all(alloc: Global, item: &Record, count: u64) -> Result<u64, AllocError>
-    requires { IsRecord One item.now }
-    ensures { IfOk result (λ bytes. bytes ≡ count * (1 + length (record_bytes One item.now))) }
+/// Copies a piece so many times behind one another, from the front again wherever `room` bytes stand there, and says how many
+/// bytes were copied.
+pub(crate) fn copy_all(alloc: Global, piece: &[u8], count: u64, room: usize) -> Result<u64, Fault>
+    ensures { IfOk result (λ copied. copied ≡ count * length piece.now) }
 {
-    let mut piece = vec![in alloc; 0xa5]?;
-    item.put(&mut piece)?;
-    let mut bytes = Vec::new(alloc);
+    let copied = count.checked_mul(piece.len() as u64).ok_or(Fault::Full)?;
+    let mut copies = Vec::new(alloc);
     for _ in 0..count {
-        bytes.extend_from_slice(&piece)?;
+        if copies.len() >= room {
+            copies.clear();
+        }
+        copies.extend_from_slice(piece)?;
     }
-    Ok(bytes.len() as u64)
+    Ok(copied)
 }

@@ -1,114 +1,125 @@
-// Logs over disks in memory.
-ghost use Rattle.std.specs.Prelude.{◌≡◌, ◌+◌, ◌≤◌, true, IfOk};
-ghost use Rattle.ken_disk.specs.Story.{IsAtRest};
+// Logs over disks in memory: made by seals, mounted, and gone over to one another.
+mod sample;
+mod seals;
+mod turns;
+
+ghost use Rattle.std.specs.Prelude.{◌≤◌, IfOk};
 ghost use Rattle.ken_record.specs.Grammar.{IsRecord};
 ghost use Rattle.ken_record.specs.Versions.{One};
 ghost use Rattle.ken_bench.specs.Logs.{TakesSeals};
 
+use crate::copies::copy_all;
 use crate::fault::Fault;
-use crate::sample;
-use ken_disk::{Disk, MAX_LEN, crashes};
-use ken_log::{Log, SealFault, counting, mounting};
+use crate::report::Report;
+use crate::words::number;
+use ken_log::{Log, counting};
 use ken_memdisk::{Cut, MemDisk};
-use ken_record::{Header, MAX_FIELDS, Record, lengths};
-use std::alloc::Global;
+use ken_record::Record;
+use seals::{Sealed, mount, seal_all};
+use std::alloc::{AllocError, Global};
+use turns::turn_all;
 
-const HEADER: Header = Header {
-    node: 0,
-    nodes: 3,
-    pages: 16,
-    generation: 1,
-    turns: 0,
-    base_len: 0,
-};
+/// The most records of a log.
+pub(crate) const MAX_RECORDS: u64 = 1_000_000;
 
-// A record, its length, its gate and the next gate end within the disk's limit from here on.
-pub(crate) const MAX_END: u64 = MAX_LEN - MAX_FIELDS as u64 - 6;
+// The most cuts of a disk.
+const MAX_CUTS: u64 = 256;
 
-/// A log, and how many of the seals that made it answered Ok.
-#[derive(Debug, Drop)]
-pub(crate) struct Sealed {
-    pub log: Log<MemDisk>,
-    pub acknowledged: u64,
-}
+// The calls of a format, and of a seal.
+const FORMAT_CALLS: u64 = 6;
 
-/// A log with no records on a disk with these cuts.
-pub(crate) fn format(alloc: Global, cuts: &[Cut]) -> Result<Log<MemDisk>, Fault>
-    ensures settled { IfOk result (λ log. TakesSeals log) }
-    ensures none { IfOk result (λ log. (log.records ≡ 0) × (log.header.turns ≡ 0)) }
-{
-    let disk = MemDisk::new(alloc, cuts)?;
-    match Log::format(alloc, disk, &HEADER) {
-        Ok(log) => Ok(log),
-        Err((SealFault::Memory, _)) => Err(Fault::Memory),
-        Err((SealFault::Disk, _)) => Err(Fault::Format),
+const SEAL_CALLS: u64 = 4;
+
+/// Does what the words say in each round, and tells of the last one.
+pub(crate) fn run(alloc: Global, words: &[String]) -> Result<Report, Fault> {
+    let [work, records, cuts, rounds] = words else {
+        return Err(Fault::Usage);
+    };
+    let records = number(records, MAX_RECORDS)?;
+    let cuts = number(cuts, MAX_CUTS)?;
+    let rounds = number(rounds, u64::MAX)?;
+    let mut report = round(alloc, work, records, cuts)?;
+    for _ in 1..rounds {
+        report = round(alloc, work, records, cuts)?;
     }
+    Ok(report)
 }
 
-/// The log that the disk holds.
-pub(crate) fn mount(alloc: Global, disk: MemDisk) -> Result<Log<MemDisk>, Fault>
-    requires { IsAtRest disk.held.story.now }
-    ensures settled { IfOk result (λ log. TakesSeals log) }
-    ensures story { IfOk result (λ log. log.disk.held.story ≡ disk.held.story) }
+fn round(alloc: Global, work: &str, records: u64, cuts: u64) -> Result<Report, Fault>
+    requires records { records ≤ 1000000 }
+    requires cuts { cuts ≤ 256 }
 {
-    match Log::mount(alloc, disk) {
-        Ok((log, _)) => Ok(log),
-        Err((fault, _)) => Err(Fault::Mount(fault)),
-    }
-}
-
-// Seals a record, and says whether that answered Ok. Where the disk fails it is restarted, and the log is mounted anew.
-fn seal_next(alloc: Global, log: Log<MemDisk>, item: &Record) -> Result<(Log<MemDisk>, bool), Fault>
-    requires room { log.end ≤ MAX_END }
-    requires settled { TakesSeals log }
-    requires item { IsRecord One item.now }
-    ensures settled { IfOk result (λ x. TakesSeals x.0) }
-    ensures kept { IfOk result (λ x. (log.records ≤ x.0.records) × (x.0.records ≤ log.records + 1)) }
-    ensures acknowledged { IfOk result (λ x. x.1 ≡ true → x.0.records ≡ log.records + 1) }
-{
-    let mut log = log;
-    // A record is at most a mebibyte long. What a restart leaves is the log before the seal or after it.
-    lengths();
-    crashes();
-    mounting();
-    counting::<MemDisk>();
-    match log.seal(alloc, item) {
-        Ok(()) => Ok((log, true)),
-        Err(SealFault::Memory) => Err(Fault::Memory),
-        Err(SealFault::Disk) => {
-            let mut disk = log.release();
-            let pick = disk.hint();
-            disk.restart(pick)?;
-            Ok((mount(alloc, disk)?, false))
+    let mut item = sample::record(alloc)?;
+    match work {
+        "copy" => copy(alloc, &item, records),
+        "seal" => {
+            let Sealed { log, acknowledged } = seal(alloc, &mut item, records, cuts)?;
+            Ok(Report::Sealed {
+                acknowledged,
+                records: log.records(),
+                end: log.end(),
+            })
         }
+        "mount" => {
+            let log = seal(alloc, &mut item, records, cuts)?.log;
+            remount(alloc, log)
+        }
+        "turn" => {
+            let log = turn_all(alloc, &mut item, records)?;
+            Ok(Report::TurnedOver {
+                turns: log.header().turns,
+                records: log.records(),
+                end: log.end(),
+            })
+        }
+        _ => Err(Fault::Usage),
     }
 }
 
-/// Seals a record so many times, whether or not the disk fails, each time as that of the next turn.
-pub(crate) fn seal_all(
-    alloc: Global,
-    log: Log<MemDisk>,
-    item: &mut Record,
-    count: u64,
-) -> Result<Sealed, Fault>
-    requires settled { TakesSeals log }
+// The records with their gates.
+fn copy(alloc: Global, item: &Record, records: u64) -> Result<Report, Fault>
+    requires { IsRecord One item.now }
+{
+    let mut piece = vec![in alloc; 0xa5]?;
+    item.put(&mut piece)?;
+    let bytes = copy_all(alloc, &piece, records, usize::MAX)?;
+    Ok(Report::Copied { bytes })
+}
+
+fn seal(alloc: Global, item: &mut Record, records: u64, cuts: u64) -> Result<Sealed, Fault>
     requires item { IsRecord One item.old }
+    requires records { records ≤ 1000000 }
+    requires cuts { cuts ≤ 256 }
     ensures settled { IfOk result (λ s. TakesSeals s.log) }
-    // At least one record more for each seal that answered Ok, and at most one for each that was tried.
-    ensures kept { IfOk result (λ s. (log.records + s.acknowledged ≤ s.log.records) × (s.log.records ≤ log.records + count)) }
 {
-    let mut log = log;
-    let mut acknowledged = 0;
-    for _ in 0..count {
-        if log.end() > MAX_END {
-            return Err(Fault::Full);
-        }
-        sample::number(item, log.records() + 1);
-        let (next, is_ok) = seal_next(alloc, log, item)?;
-        log = next;
-        if is_ok {
-            acknowledged += 1;
-        }
+    let cuts = cuts_over(alloc, records, cuts)?;
+    seal_all(alloc, &cuts, item, records)
+}
+
+// Cuts at calls that lie evenly among those of the seals.
+fn cuts_over(alloc: Global, records: u64, count: u64) -> Result<Vec<Cut>, AllocError>
+    requires records { records ≤ 1000000 }
+    requires count { count ≤ 256 }
+{
+    let step = records * SEAL_CALLS / (count + 1);
+    let mut cuts = Vec::new(alloc);
+    for place in 1..=count {
+        cuts.push(Cut {
+            call: FORMAT_CALLS + place * step + place % SEAL_CALLS,
+            pick: place,
+        })?;
     }
-    Ok(Sealed { log, acknowledged })
+    Ok(cuts)
+}
+
+// Mounts a log once more.
+fn remount(alloc: Global, log: Log<MemDisk>) -> Result<Report, Fault>
+    requires { TakesSeals log }
+{
+    counting::<MemDisk>();
+    let log = mount(alloc, log.release())?;
+    Ok(Report::Mounted {
+        records: log.records(),
+        end: log.end(),
+    })
 }

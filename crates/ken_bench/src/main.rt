@@ -1,27 +1,32 @@
-//! Makes logs over disks in memory, and mounts them, so that someone can take the time: `ken_bench WORK RECORDS CUTS ROUNDS`.
-//! Each round makes a log by RECORDS seals on a disk of its own with CUTS cuts. WORK is `seal`, or `mount`, which mounts that
-//! log too, or `turn`, where the log goes over to another disk every 32 records and no disk fails, or `copy`, which copies the
-//! bytes of as many records and makes no log.
+//! Programs that do one thing again and again, so that someone can take the time. The first word picks one: `ken_bench logs`
+//! makes logs over disks in memory, `core` plays random events of a group of nodes, `net` sends packets over networks, items
+//! through rings and packets through wires, and `store` takes turns on stores and recovers them. The other words are that one's.
 #![tactic(auto)]
 
 mod copies;
 mod fault;
+mod group;
 mod logs;
-mod plan;
-mod sample;
-mod turns;
-mod work;
+mod net;
+mod report;
+mod store;
+mod words;
 
 use fault::Fault;
-use plan::Plan;
+use report::Report;
 use std::alloc::Global;
 use std::env;
 use std::process::ExitCode;
-use work::{Done, work};
+use std::sync::Wait;
+use std::thread::Threads;
 
 fn main(rt: HostRuntime) -> ExitCode {
-    match command_line(&rt).and_then(|words| run(rt.alloc(), &words)) {
-        Ok(done) => match println!(rt; "{done}") {
+    let done = match command_line(&rt) {
+        Ok(words) => run(&rt, rt.alloc(), &words),
+        Err(fault) => Err(fault),
+    };
+    match done {
+        Ok(report) => match println!(rt; "{report}") {
             Ok(()) => ExitCode::SUCCESS,
             Err(_) => ExitCode::FAILURE,
         },
@@ -33,16 +38,24 @@ fn main(rt: HostRuntime) -> ExitCode {
 }
 
 fn command_line(rt: &HostRuntime) -> Result<Vec<String>, Fault> {
-    let args = env::args(rt).map_err(|_| Fault::Usage)?;
-    args.collect(rt.alloc()).map_err(|_| Fault::Memory)
+    let Ok(args) = env::args(rt) else {
+        return Err(Fault::Usage);
+    };
+    match args.collect(rt.alloc()) {
+        Ok(words) => Ok(words),
+        Err(_) => Err(Fault::Memory),
+    }
 }
 
-// The last round's figures.
-fn run(alloc: Global, words: &[String]) -> Result<Done, Fault> {
-    let plan = Plan::of(words).ok_or(Fault::Usage)?;
-    let mut done = work(alloc, &plan)?;
-    for _ in 1..plan.rounds {
-        done = work(alloc, &plan)?;
+fn run<R: Threads + Wait + Sync>(rt: &R, alloc: Global, words: &[String]) -> Result<Report, Fault> {
+    let [_, program, words @ ..] = words else {
+        return Err(Fault::Usage);
+    };
+    match program.as_str() {
+        "logs" => logs::run(alloc, words),
+        "core" => group::run(alloc, words),
+        "net" => net::run(rt, alloc, words),
+        "store" => store::run(alloc, words),
+        _ => Err(Fault::Usage),
     }
-    Ok(done)
 }

@@ -1,6 +1,0 @@
-use Rattle.ken_store.specs.Answers.{AreAtRest, disks_in}
-use Rattle.ken_bench_store.specs.Stores.{IsIdle, told}
-use Rattle.ken_bench_store.proofs.disks.recovered_again.Given as goal
-
-abbrev pub invariant-loop : goal.invariant-loop
-invariant-loop l = IsIdle l.store × AreAtRest told (disks_in l.store)
