@@ -4,7 +4,6 @@ mod Honest
 mod Aimed
 mod Wires
 mod ByNode
-mod Mails
 mod Whole
 mod Calls
 mod Came

@@ -6,8 +6,6 @@ mod rounds;
 mod rule;
 mod send_end;
 mod take_end;
-#[cfg(test)]
-mod tests;
 mod view;
 mod wire;
 mod wire_net;

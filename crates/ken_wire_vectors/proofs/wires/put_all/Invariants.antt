@@ -1,5 +1,5 @@
 use Rattle.std.proofs.Common.{◌≤◌}
-use Rattle.ken_wire.proofs.tests.put_all.Given as goal
+use Rattle.ken_wire_vectors.proofs.wires.put_all.Given as goal
 
 abbrev pub invariant-loop-before : goal.invariant-loop-before
 invariant-loop-before g l = l.put ≤ l.before

@@ -1,8 +1,8 @@
 use Rattle.std.proofs.Common.{◌≡◌, rules}
 use Rattle.ken_packet.specs.Packets.{IsMail}
 use Rattle.ken_wire.specs.Ends.{from_of, to_of}
-use Rattle.ken_wire.proofs.Mails.{mail_may}
-use Rattle.ken_wire.proofs.tests.put_mail.Goals as goal
+use Rattle.ken_wire_vectors.proofs.Mails.{mail_may}
+use Rattle.ken_wire_vectors.proofs.wires.put_mail.Goals as goal
 
 pub put_of-requires : goal.put_of-requires
 put_of-requires g c =

@@ -3,10 +3,10 @@ ghost use Rattle.ken_net.specs.Puts.{MayPut};
 ghost use Rattle.ken_wire.specs.Ends.{from_of, to_of};
 ghost use Rattle.ken_wire.specs.Nets.{AreFrom};
 
-use super::*;
 use ken_model::{Message, Octets};
 use ken_net::{Act, Handed, LinkAct, Links, Lossy, Net};
 use ken_packet::{Packet, decode, encode_mail, reading};
+use ken_wire::{SendEnd, TakeEnd, Wire, WireNet, close, hand_out, takers};
 use std::alloc::{AllocError, Global};
 use std::marker::Brand;
 use std::sync::Wait;

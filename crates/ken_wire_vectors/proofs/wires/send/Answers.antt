@@ -1,7 +1,7 @@
 use Rattle.std.proofs.Common.{◌≡◌, rules}
 use Rattle.ken_packet.specs.Packets.{IsMail}
-use Rattle.ken_wire.proofs.Mails.{mail_may}
-use Rattle.ken_wire.proofs.tests.send.Goals as goal
+use Rattle.ken_wire_vectors.proofs.Mails.{mail_may}
+use Rattle.ken_wire_vectors.proofs.wires.send.Goals as goal
 
 pub put_as-requires-clause-may : goal.put_as-requires-clause-may
 put_as-requires-clause-may g c =

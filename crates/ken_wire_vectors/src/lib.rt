@@ -1,0 +1,5 @@
+//! Tests of wires, with threads.
+#![tactic(auto)]
+
+#[cfg(test)]
+mod wires;
