@@ -18,15 +18,18 @@ grew_joins k (p ∷ ps) qs a n b m c l first then =
     elim first [
       | inl other ↦ inl (other.0, grew_joins k ps qs a n b m c l other.1 then)
       | inr own ↦
-          inr (own.0,
-          ⊎_elim (λ (put : Grew k ps next n b m). inl (grew_joins k ps qs next n b m c l put then))
-          (λ (back : Grew k ps a (risen n) b m). inr (grew_joins k ps qs a (risen n) b m c l back then)) own.1)
+          inr (
+            own.0,
+            ⊎_elim (λ (put : Grew k ps next n b m). inl (grew_joins k ps qs next n b m c l put then))
+                (λ (back : Grew k ps a (risen n) b m). inr (grew_joins k ps qs a (risen n) b m c l back then)) own.1,
+          )
     ]
 
 end_joins : (k : ℕ) (ps qs : List Put) (a b c : SendEnd) → EndGrew k ps a b → EndGrew k qs b c → EndGrew k (ps ++ qs) a c
-end_joins k ps qs a b c first then =
-    ((then.0.0 ∙ first.0.0, then.0.1 ∙ first.0.1, then.0.2 ∙ first.0.2),
-    grew_joins k ps qs (sent_of a) (refused_by a) (sent_of b) (refused_by b) (sent_of c) (refused_by c) first.1 then.1)
+end_joins k ps qs a b c first then = (
+  (then.0.0 ∙ first.0.0, then.0.1 ∙ first.0.1, then.0.2 ∙ first.0.2),
+  grew_joins k ps qs (sent_of a) (refused_by a) (sent_of b) (refused_by b) (sent_of c) (refused_by c) first.1 then.1,
+)
 
 pub ends_still : (ends : List SendEnd) → EndsGrew ends ends []
 ends_still ends = record { count = refl; each = λ k d low. ((refl, refl, refl), (refl, refl)) }
