@@ -1,5 +1,5 @@
 -- The forms of the parts of an item, and of the items.
-use Rattle.std.proofs.Common.{◌≡◌, ℕ, ◌≤◌, ◌<◌, ◌^◌, ◌⊎◌, Bool, true, false, ◌&&◌, ◌||◌, ◌==◌, nat_lt, List, [], ◌++◌, length, refl, ◌∙◌, arith}
+use Rattle.std.proofs.Common.{◌≡◌, ℕ, ◌≤◌, ◌<◌, ◌^◌, ◌⊎◌, Bool, true, false, ◌&&◌, ◌||◌, ◌==◌, nat_lt, List, ◌++◌, length, refl, arith}
 use Rattle.std.proofs.lemmas.Bool.{eqb-true}
 use Rattle.std.proofs.lemmas.Bool.Decides.{nat_tests}
 use Rattle.std.specs.List.{flat_map}
@@ -12,7 +12,7 @@ use Rattle.ken_record.specs.declared.base.Base.{Base}
 use Rattle.ken_record.specs.declared.record.Record.{Record}
 use Rattle.ken_record.specs.Versions.{Version, One}
 use Rattle.ken_record.specs.Spelling.{number, text, counted, sent, due, out, page, fields, header_bytes, base_bytes, record_bytes}
-use Rattle.ken_record.specs.Grammar.{IsWord, IsText, FitsText, IsSent, FitsDue, IsOut, FitsOut, IsPage, AtMost, Exactly, rise_from, page_rank, are_numbered, are_short, base_rises, IsRecord, IsBase, IsHeader}
+use Rattle.ken_record.specs.Grammar.{IsWord, IsText, FitsText, IsSent, FitsDue, FitsOut, IsPage, AtMost, Exactly, rise_from, page_rank, are_numbered, are_short, base_rises, IsRecord, IsBase, IsHeader}
 use Rattle.ken_record.specs.Reading.{number_at, part_at, sized, items_at, text_at, long_text_at, sent_at, due_at, out_at, page_at, origin_at, lists_at, is_sound, record_of, fields_at, record_at, counts_at, kept_at, base_of, base_at, is_sound_header, mark_at, place_at, past_at, header_of, header_at}
 use Rattle.ken_record.proofs.Forms.{IsForm, seq_form, made_form, fit_form, within_form, number_1, number_2, number_4, number_8, part_form, items_form, sized_form}
 use Rattle.ken_record.proofs.Shorts.{outs_fit, outs_short, short_outs}

@@ -12,7 +12,7 @@ use Rattle.ken_record.specs.declared.header.Header.{Header}
 use Rattle.ken_record.specs.declared.base.Base.{Base}
 use Rattle.ken_record.specs.declared.record.Record.{Record}
 use Rattle.ken_record.specs.Versions.{Version, One, most_fields}
-use Rattle.ken_record.specs.Spelling.{number, text, counted, sent, due, out, page, origin, lists, fields, counts, header_bytes, base_bytes}
+use Rattle.ken_record.specs.Spelling.{number, text, counted, sent, due, out, page, origin, fields, counts, header_bytes, base_bytes}
 use Rattle.ken_record.specs.Grammar.{IsWord, IsSent, IsOut, IsPage, AtMost, IsRecord, IsBase}
 
 pub number_long : (w n : ℕ) → length (number w n) ≡ w

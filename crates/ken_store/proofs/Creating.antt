@@ -21,7 +21,7 @@ use Rattle.ken_log.specs.Formats.{IsOldOrNone, IsOldNoneOrNew, Replaces}
 use Rattle.ken_log.specs.Mounts.{mount_of}
 use Rattle.ken_log.specs.Mounts as mounts
 use Rattle.ken_log.specs.Seals.{HasLogCause, MountsAs, MountsAsEither, as_disk}
-use Rattle.ken_image.specs.Calls.{Call, Called, Stop, Sync}
+use Rattle.ken_image.specs.Calls.{Call, Called, Sync}
 use Rattle.ken_image.specs.declared.faults.ImageFault.{ImageFault}
 use Rattle.ken_image.specs.declared.faults.ImageFault.TheVariants as image_faults
 use Rattle.ken_image.specs.Faults as images

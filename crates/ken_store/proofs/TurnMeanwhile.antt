@@ -1,5 +1,5 @@
 -- What a crash leaves while the log of a store is turned over.
-use Rattle.std.proofs.Common.{◌≡◌, ℕ, ◌*◌, List, [], take, true, refl, sym, ap, subst, ◌∙◌, ◌⊎◌, ⊎_elim, inl, inr, arith, Option, Some, None, Result, Ok, Err}
+use Rattle.std.proofs.Common.{◌≡◌, ℕ, ◌*◌, List, [], take, true, refl, sym, ap, subst, ◌∙◌, ⊎_elim, inl, inr, arith, Option, Some, None, Result, Ok, Err}
 use Rattle.ken_disk.specs.Story.{Story, Follows, IsImage}
 use Rattle.ken_disk.proofs.Images.{image_at_rest}
 use Rattle.ken_disk.proofs.Told.{some_is, told_both}

@@ -5,7 +5,7 @@ use Rattle.ken_record.specs.Versions.{One}
 use Rattle.ken_store.specs.declared.disks.Which.TheVariants.{First}
 use Rattle.ken_store.specs.declared.turning.TurnSide.{TurnSide}
 use Rattle.ken_store.specs.Numbers.{no_numbers}
-use Rattle.ken_disk.specs.Story.{Follows, IsImage}
+use Rattle.ken_disk.specs.Story.{IsImage}
 use Rattle.ken_disk.proofs.Images.{image-seen_at_rest}
 use Rattle.ken_disk.proofs.Told.{tells_after}
 use Rattle.ken_model.specs.Layout.{first_heap}

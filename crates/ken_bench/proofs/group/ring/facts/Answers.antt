@@ -1,4 +1,4 @@
-use Rattle.std.proofs.Common.{◌*◌, ◌<◌, ◌≤◌, List, length, refl, sym, ap, subst, arith}
+use Rattle.std.proofs.Common.{◌*◌, ◌<◌, ◌≤◌, List, length, sym, ap, subst, arith}
 use Rattle.std.specs.List.{AllByRecursion}
 use Rattle.ken_model.specs.declared.facts.Input.{Input}
 use Rattle.ken_bench.proofs.group.ring.facts.Goals as goal
