@@ -186,7 +186,7 @@ module _ (g : Game) (limits : IsWithinLimits g) (keeps : KeepsShort g.nodes g.si
       let is = turn_is g w s t legal.1 in
       let next = within_applied g limits keeps steps w s t is within in
       let count : steps + 1 + length ss ≡ steps + suc (length ss) = omega arith in
-      rw legal.1 (subst (λ k. IsWithin g k (played g (applied w s t) ss)) count (within_played (steps + 1) (applied w s t) t.stamp s.node ss legal.3 next))
+      rw legal.1 (subst (λ k. IsWithin g k (played g (applied w s t) ss)) count (within_played (steps + 1) (applied w s t) t.stamp s.node ss legal.4 next))
 
   -- it has few steps
   pub few_steps : (steps : ℕ) (w : Network) → IsWithin g steps w → steps ≤ 800000
@@ -209,4 +209,4 @@ module _ (g : Game) (limits : IsWithinLimits g) (keeps : KeepsShort g.nodes g.si
         number = omega (arith, number_at_most g limits keeps steps w s t is within, limits.few_inputs, limits.few_turns);
         draws = is.words;
       } in
-      rw legal.1 (here, printable_lines (steps + 1) (applied w s t) t.stamp s.node ss legal.3 next (omega arith))
+      rw legal.1 (here, printable_lines (steps + 1) (applied w s t) t.stamp s.node ss legal.4 next (omega arith))

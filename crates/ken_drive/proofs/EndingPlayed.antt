@@ -152,7 +152,7 @@ module _ (kind : Kind) (g : Game) (of_kind : g.handler ≡ handler_of kind) wher
 pub legal_words : (g : Game) (w : Network) (stamp node : ℕ) (ss : List Step) → IsLegalFrom g w stamp node ss → AllByRecursion (λ (s : Step). AllByRecursion IsWord s.draws) ss
 unfolding IsLegalFrom
 legal_words g w stamp node [] legal = tt
-legal_words g w stamp node (s ∷ ss) legal = ((turn_is g w s legal.0 legal.1).words, legal_words g (applied w s legal.0) legal.0.stamp s.node ss legal.3)
+legal_words g w stamp node (s ∷ ss) legal = ((turn_is g w s legal.0 legal.1).words, legal_words g (applied w s legal.0) legal.0.stamp s.node ss legal.4)
 
 -- ---- heaps
 

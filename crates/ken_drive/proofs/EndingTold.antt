@@ -61,7 +61,8 @@ module _ (g : Game) (c : Cluster) (lines : List TurnLine) (limits : IsWithinLimi
   agrees : InAccord g h
   agrees = record {
     turns = λ v. (accord.made.nodes v).own;
-    nobody = accord.made.nobody outside accord.made.few;
+    few = accord.made.few;
+    nobody = accord.made.nobody;
     order = λ u v. (accord.made.nodes v).order u;
   }
 

@@ -1,7 +1,8 @@
 -- Turns that agree with each other are a legal schedule, in the order of stamps and nodes.
-use Rattle.std.proofs.Common.{◌≡◌, ℕ, ◌≤◌, List, [], ◌∷◌, ◌++◌, map, length, ◌==◌, if◌then◌else◌, All, Some, slice_get, drop, refl, sym, ap, ◌∙◌, subst, arith, lt-ltb, eq-eqb, ne_eqb, le_refl, append_assoc, append-nil, length-append}
+use Rattle.std.proofs.Common.{◌≡◌, ℕ, ◌<◌, ◌≤◌, List, [], ◌∷◌, ◌++◌, map, length, ◌==◌, if◌then◌else◌, All, Some, slice_get, drop, refl, sym, ap, ◌∙◌, subst, ⊎_elim, arith, lt-ltb, eq-eqb, ne_eqb, le_refl, append_assoc, append-nil, length-append}
 use Rattle.std.proofs.lemmas.List.{length-map, nil_from_length}
 use Rattle.std.proofs.lemmas.List.Elements.{All-cons, All-filter, All-same}
+use Rattle.std.proofs.lemmas.Bool.{cases_lt}
 use Rattle.ken_model.specs.declared.messages.Message.{Message}
 use Rattle.ken_model.specs.declared.reports.TurnLine.{TurnLine}
 use Rattle.ken_model.specs.Game.{Game}
@@ -39,8 +40,12 @@ module _ (g : Game) (h made ahead : ℕ → List Turn) (w : Network) (stamp node
   -- the outside makes no turn
   is_node : v ≡ outside → ⊥
   is_node e =
-      let nothing : [] ≡ made v ++ t ∷ ts = sym accord.nobody ∙ ap h (sym e) ∙ history in
+      let nothing : [] ≡ made v ++ t ∷ ts = sym (accord.nobody v (omega (arith, e, accord.few))) ∙ history in
       omega (arith, ap length nothing, length-append (made v) (t ∷ ts))
+
+  -- it is a node of the game
+  known : v < g.nodes
+  known = ⊎_elim (λ (low : v < g.nodes). low) (λ past. absurd (omega (arith, ap length (sym (accord.nobody v past) ∙ history), length-append (made v) (t ∷ ts)))) (cases_lt v g.nodes)
 
   -- they are the node's turns after its place
   turns_ahead : AreTurns g v (w.place v) (t ∷ ts)
@@ -97,7 +102,7 @@ module _ (g : Game) (h made ahead : ℕ → List Turn) (w : Network) (stamp node
   goes_on rest =
       let later = rest moved in
       record {
-        legal = (t, makes, mid.rises.0, later.legal);
+        legal = (t, makes, known, mid.rises.0, later.legal);
         lines_are = rw makes (ap (λ l. line_at v t ∷ l) later.lines_are);
         shows = rw (makes, played) later.shows;
       }

@@ -46,7 +46,7 @@ its_spelling = refl
 its_legality : IsLegal three schedule
 unfolding three schedule num after turn_at IsLegalFrom digits
 its_legality =
-    (_, refl, inl (omega arith), (_, refl, inl (omega arith), (_, refl, inl (omega arith), tt)))
+    (_, refl, omega arith, inl (omega arith), (_, refl, omega arith, inl (omega arith), (_, refl, omega arith, inl (omega arith), tt)))
 
 -- one node that has one turn, and the input `5`: what is left of the count waits
 one : Game

@@ -1,5 +1,5 @@
 -- The turns of each node by itself. Nothing here says in which order turns of different nodes were made.
-use Rattle.std.specs.Prelude.{◌≡◌, ℕ, ◌+◌, ◌<◌, List, [], ◌∷◌, ◌++◌, map, length, ◌==◌, if◌then◌else◌, Some, filter}
+use Rattle.std.specs.Prelude.{◌≡◌, ℕ, ◌+◌, ◌<◌, ◌≤◌, List, [], ◌∷◌, ◌++◌, map, length, ◌==◌, if◌then◌else◌, Some, filter}
 use Rattle.ken_model.specs.declared.messages.Message.{Message}
 use Rattle.ken_model.specs.declared.messages.Step.{Step}
 use Rattle.ken_model.specs.declared.reports.TurnLine.{TurnLine}
@@ -37,10 +37,12 @@ messages g h u v = if u == outside then inputs_for g v else sent_by u v 0 (h u)
 abbrev pub IsPrefixOf : {A : Type 0} → List A → List A → Type 0
 IsPrefixOf {A} xs whole = (rest : List A) × (whole ≡ xs ++ rest)
 
--- the nodes' turns agree: each node's are its own, and from each sender it took the front of what was sent, in order
+-- the nodes' turns agree: each node's are its own, from each sender it took the front of what was sent, in order, and only nodes
+-- of the game have any; the outside is none of them
 pub record InAccord (g : Game) (h : ℕ → List Turn) : Type 0 where
   pub turns : (v : ℕ) → AreTurns g v (first_place g) (h v)
-  pub nobody : h outside ≡ []
+  pub few : g.nodes ≤ outside
+  pub nobody : (v : ℕ) → g.nodes ≤ v → h v ≡ []
   pub order : (u v : ℕ) → IsPrefixOf (consumed u (h v)) (messages g h u v)
 
 -- a turn of node v, as a step of a schedule

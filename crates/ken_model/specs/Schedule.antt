@@ -10,10 +10,10 @@ use Rattle.ken_model.specs.Network.{Network, Turn, start, turn_of, applied, step
 abbrev pub ComesBefore : ℕ → ℕ → ℕ → ℕ → Type 0
 ComesBefore stamp node later_stamp later_node = (stamp < later_stamp) ⊎ ((stamp ≡ later_stamp) × (node < later_node))
 
--- each step is defined in its place, and the pairs (stamp, node) rise strictly, from one that comes before all
+-- each step is of a node of the game and defined in its place, and the pairs (stamp, node) rise strictly, from one that comes before all
 unfoldable pub IsLegalFrom : Game → Network → ℕ → ℕ → List Step → Type 0
 IsLegalFrom g w stamp node [] = Unit {0}
-IsLegalFrom g w stamp node (s ∷ ss) = (t : Turn) × (turn_of g w s ≡ Some t) × ComesBefore stamp node t.stamp s.node × IsLegalFrom g (applied w s t) t.stamp s.node ss
+IsLegalFrom g w stamp node (s ∷ ss) = (t : Turn) × (turn_of g w s ≡ Some t) × (s.node < g.nodes) × ComesBefore stamp node t.stamp s.node × IsLegalFrom g (applied w s t) t.stamp s.node ss
 
 -- a legal schedule; a turn's stamp is at least 1, so the pair (0, 0) comes before all
 abbrev pub IsLegal : Game → List Step → Type 0
