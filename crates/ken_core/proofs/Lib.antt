@@ -3,6 +3,7 @@ pub mod Sent
 pub mod Made
 pub mod Keeps
 pub mod Together
+pub mod Apart
 pub mod Calls
 pub mod History
 pub mod Doubt

@@ -23,12 +23,12 @@ module _ (g : Game) (put : Packet → Type 0) (v : ℕ) (n : Node) (out : Outgoi
   puts_nothing [] e r = r.0
   puts_nothing (x ∷ es) e r = absurd cc
 
-  no_turns : (es : List Event) (r : NodeRun g put v n es out n2) → es ≡ [] → run_turns g put v n es out n2 r ≡ []
+  pub no_turns : (es : List Event) (r : NodeRun g put v n es out n2) → es ≡ [] → run_turns g put v n es out n2 r ≡ []
   no_turns [] r e = refl
   no_turns (x ∷ es) r e = absurd cc
 
 -- a run keeps what each event keeps
-run_keeps : (g : Game) (put : Packet → Type 0) (h : ℕ → List Turn) (v : ℕ) → ((m : Message) → put (Mail m) → IsSent g h m) → ((a : Receipt) → put (Answer a) → a.through ≤ length (consumed a.to (h a.from)))
+pub run_keeps : (g : Game) (put : Packet → Type 0) (h : ℕ → List Turn) (v : ℕ) → ((m : Message) → put (Mail m) → IsSent g h m) → ((a : Receipt) → put (Answer a) → a.through ≤ length (consumed a.to (h a.from)))
     → (ts : List Turn) (os : List Out) (n : Node) (es : List Event) (out : Outgoing) (n2 : Node) (r : NodeRun g put v n es out n2) → IsNodeOf g h v ts os n → IsNodeOf g h v (ts ++ run_turns g put v n es out n2 r) (os ++ out.outs) n2
 run_keeps g put h v sent heard ts os n [] out n2 r is =
     subst (λ x. IsNodeOf g h v x (os ++ out.outs) n2) (sym (append-nil ts))

@@ -24,7 +24,7 @@ use Rattle.ken_core.specs.Enabled.{MaySeal, MayTurn}
 use Rattle.ken_core.specs.Steps.{cut_node, turnover_node, crashed_node, recovered_node}
 use Rattle.ken_core.specs.Clusters.{Cluster, start, WasPut, Changes, Step, Goes, IsHistoryOf}
 use Rattle.ken_core.specs.Accord.{Accord}
-use Rattle.ken_core.specs.Runs.{NodeRun, Ran}
+use Rattle.ken_core.specs.Runs.{NodeRun, Ran, RanApart}
 
 abbrev pub StartIsInAccord : Type 0
 StartIsInAccord = (g : Game) → IsWithinLimits g → Accord g (start g)
@@ -85,3 +85,7 @@ IsHandedIn p (Answer a) = a.through ≡ p.consumed
 
 abbrev pub PutsAreHandedIn : Type 0
 PutsAreHandedIn = (v : ℕ) (n : Node) (e : Event) → All (λ (p : Put). IsHandedIn p p.packet) (outgoing v n e).puts
+
+-- runs of all nodes with no order between them, told by what the nodes are in the end alone
+abbrev pub RunsApartKeepAccord : Type 0
+RunsApartKeepAccord = (g : Game) (w w2 : Cluster) → Accord g w → RanApart g w w2 → Accord g w2

@@ -1,5 +1,5 @@
 // What the definitions keep. Each law is the contract of a function that does nothing.
-ghost use Rattle.ken_core.specs.Laws.{StartIsInAccord, StepKeepsAccord, EventsKeepAccord, CallKeepsAccord, RunsKeepAccord, HistoryIsLegal, SealInDoubt, TurnoverInDoubt, RestartKeepsHeap, PutsAreHandedIn};
+ghost use Rattle.ken_core.specs.Laws.{StartIsInAccord, StepKeepsAccord, EventsKeepAccord, CallKeepsAccord, RunsKeepAccord, RunsApartKeepAccord, HistoryIsLegal, SealInDoubt, TurnoverInDoubt, RestartKeepsHeap, PutsAreHandedIn};
 
 /// The start is in accord.
 pub fn start_is_in_accord()
@@ -56,4 +56,9 @@ pub fn restart_keeps_heap()
 /// What an event puts is among what its node has sealed, or says what it has consumed.
 pub fn puts_are_handed_in()
     ensures { PutsAreHandedIn }
+{}
+
+/// Runs of all nodes keep it, whatever the order of their events was, where each took only what the nodes may put in the end.
+pub fn runs_apart_keep_accord()
+    ensures { RunsApartKeepAccord }
 {}

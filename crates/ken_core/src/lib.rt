@@ -28,7 +28,7 @@ pub use cluster::Cluster;
 pub use events::{Event, Outcome, Told};
 pub use laws::{
     call_keeps_accord, events_keep_accord, history_is_legal, puts_are_handed_in,
-    restart_keeps_heap, runs_keep_accord, seal_in_doubt, start_is_in_accord, step_keeps_accord,
-    turnover_in_doubt,
+    restart_keeps_heap, runs_apart_keep_accord, runs_keep_accord, seal_in_doubt,
+    start_is_in_accord, step_keeps_accord, turnover_in_doubt,
 };
 pub use timeline::Timeline;

@@ -1,6 +1,7 @@
 pub mod Lists
 pub mod Flows
 pub mod Groups
+pub mod Gathering
 pub mod Puts
 pub mod Links
 pub mod Filing

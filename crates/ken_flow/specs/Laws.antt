@@ -1,7 +1,8 @@
 -- What holds of the group of a run's nodes, and of what is on its way between them.
 use Rattle.std.specs.Prelude.{◌≡◌, ℕ, ◌<◌, ◌≤◌, List, [], ◌∷◌, ◌++◌, length, replicate}
-use Rattle.std.specs.List.{All, Contains}
+use Rattle.std.specs.List.{All, AllByRecursion, Contains}
 use Rattle.ken_model.specs.declared.reports.Emission.{Emission}
+use Rattle.ken_model.specs.Emissions.{emitted_by}
 use Rattle.ken_model.specs.Game.{Game}
 use Rattle.ken_model.specs.Limits.{IsWithinLimits}
 use Rattle.ken_packet.specs.Reading.{packet_of}
@@ -30,6 +31,14 @@ FirstIsInAccord = (g : Game) → IsWithinLimits g → Accord g (group_of g (λ v
 abbrev pub CallKeepsGroup : Type 0
 CallKeepsGroup = (g : Game) (nodes : ℕ → Node) (emissions : List Emission) (v : ℕ) (given : List Packet) (es : List Event) (out : Outgoing) (after : Node) → Accord g (group_of g nodes emissions) → v < g.nodes → All (WasPut (group_of g nodes emissions)) given → NodeRun g (Contains given) v (nodes v) es out after
     → Accord g (group_of g (with_node v after nodes) (emissions ++ emissions_by v out.outs))
+
+-- runs of all nodes at once, in whatever order their events were, over packets that were put in the end, keep accord
+abbrev pub RunsKeepGroup : Type 0
+RunsKeepGroup =
+    (g : Game) (nodes nodes2 : ℕ → Node) (emissions emissions2 : List Emission) (events : ℕ → List Event) (out : ℕ → Outgoing) → Accord g (group_of g nodes emissions)
+    → ((v : ℕ) → NodeRun g (WasPut (group_of g nodes2 emissions2)) v (nodes v) (events v) (out v) (nodes2 v)) → ((v : ℕ) → g.nodes ≤ v → events v ≡ [])
+    → ((v : ℕ) → emitted_by v emissions2 ≡ emitted_by v emissions ++ (out v).outs) → AllByRecursion (λ (e : Emission). e.node < g.nodes) emissions2
+    → Accord g (group_of g nodes2 emissions2)
 
 -- what was put stays put, whatever a node does and was given
 abbrev pub PutStaysPut : Type 0

@@ -1,6 +1,6 @@
 // What holds of the group of a run's nodes, and of what is on its way between them. Each law is the contract of a function
 // that does nothing.
-ghost use Rattle.ken_flow.specs.Laws.{FirstIsInAccord, CallKeepsGroup, PutStaysPut, PutsArePut, AcksGoNoFurther, KnownStays, GivenAreKnown, PassedAreKnown, FirstAreKnown, SpelledAreKnown};
+ghost use Rattle.ken_flow.specs.Laws.{FirstIsInAccord, CallKeepsGroup, RunsKeepGroup, PutStaysPut, PutsArePut, AcksGoNoFurther, KnownStays, GivenAreKnown, PassedAreKnown, FirstAreKnown, SpelledAreKnown};
 ghost use Rattle.ken_flow.specs.Modest.{TurnsAreModest};
 ghost use Rattle.ken_flow.specs.StandstillLaws.{NeverMoreOpen, StampsAreLow, StandstillEnds};
 
@@ -14,6 +14,12 @@ pub fn first_is_in_accord()
 /// A call of one node that is told as events, over packets that were put, keeps accord of the group.
 pub fn call_keeps_group()
     ensures { CallKeepsGroup }
+{}
+
+/// Runs of all nodes at once keep accord of the group, whatever the order of their events was, where each packet that one of
+/// them took was put in the end.
+pub fn runs_keep_group()
+    ensures { RunsKeepGroup }
 {}
 
 /// What was put stays put, whatever events a node ran.
