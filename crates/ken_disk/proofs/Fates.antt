@@ -15,7 +15,7 @@ taken : (event : Event) (old new : Fate) → Befalls event old new → fallen ev
 taken (Called (Ok x)) old new is = let same = ap (λ (f : Fate). f.falls) is.1 in omega (arith, same)
 taken (Called (Err Failed)) old new is = omega (arith, is.1)
 taken (Called (Err Memory)) old new is = let same = ap (λ (f : Fate). f.falls) is in omega (arith, same)
-taken Restarted old new is = let same = ap (λ (f : Fate). f.falls) is in omega (arith, same)
+taken (Restarted pick) old new is = let same = ap (λ (f : Fate). f.falls) is in omega (arith, same)
 
 pub all_taken : (start : Fate) (run : List (Event × Fate)) → IsRun start run → all_fallen start run ≤ start.falls
 all_taken start [] is = omega arith

@@ -22,8 +22,8 @@ pub trait Disk {
     /// How long it is, in bytes. Every disk tells this.
     ghost size: { Self → ℕ };
 
-    /// Whether it is down and how many falls it has left, where it tells this: it then fails only at its falls, and from
-    /// each of them on until a restart.
+    /// Whether it is down and how many falls it has left, whose disk it is, and the picks of its restarts, where it tells this:
+    /// it then fails only at its falls, and from each of them on until a restart.
     ghost fate: { Self → Option Fate };
 
     /// How many calls have failed. An implementation may let the count stand at 2^64 - 1.
@@ -31,6 +31,9 @@ pub trait Disk {
 
     /// It has the memory that its next sync needs.
     ghost ready: { Self → Type 0 };
+
+    /// The pick that it proposes for its next restart.
+    ghost hinted: { Self → ℕ };
 
     /// How long it is, in bytes.
     fn len(&self) -> u64
@@ -69,14 +72,15 @@ pub trait Disk {
     /// After an error it is as before.
     fn restart(&mut self, pick: u64) -> Result<(), AllocError>
         ensures story { OnOk result (Follows WentDown (told self.old) (told self.new)) }
-        ensures fate { OnOk result (Follows Raised (fate self.old) (fate self.new)) }
+        ensures fate { OnOk result (Follows (Raised pick) (fate self.old) (fate self.new)) }
         ensures memory { OnErr result (told self.new ≡ told self.old) }
         ensures no_fall { OnErr result (fate self.new ≡ fate self.old) }
         ensures size { OnErr result (size self.new ≡ size self.old) }
         ensures faults { faults self.new ≡ faults self.old };
 
-    /// The pick that a disk which fails proposes for its restart. Nothing is promised of it.
-    fn hint(&self) -> u64;
+    /// The pick that a disk which fails proposes for its restart. Nothing is promised of which number it is.
+    fn hint(&self) -> u64
+        ensures { result ≡ hinted self.now };
 
     /// The size is that of what a read gives.
     ghost sized: { (disk : Self) (h : Story) → told disk ≡ Some h → size disk ≡ length h.now.seen };

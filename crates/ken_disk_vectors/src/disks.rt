@@ -40,6 +40,8 @@ impl Disk for Quiet {
 
     ghost ready = { λ d. Unit {0} };
 
+    ghost hinted = { λ d. 0 };
+
     ghost sized = { λ d h told. absurd (subst (λ o. MatchOption o (Unit {0}) (λ _. ⊥)) told tt) };
 
     fn len(&self) -> u64 {

@@ -1,12 +1,12 @@
 -- Which calls of a disk in memory fail.
-use Rattle.std.specs.Prelude.{ℕ, ◌||◌, ◌==◌, List, [], ◌∷◌, length, Bool, true, false, Option, is_some}
+use Rattle.std.specs.Prelude.{ℕ, ◌||◌, ◌==◌, List, [], ◌∷◌, map, length, Bool, true, false, Option, is_some}
 use Rattle.std.specs.List.{find}
 use Rattle.std.specs.Option.{option_map, unwrap_or}
 use Rattle.std.specs.Map.{lookup, remove_entry}
 use Rattle.std.specs.BTreeMap.{is_at, insert_entry}
 use Rattle.std.specs.Ordering.{nat_cmp}
 use Rattle.ken_disk.specs.Causes.{risen}
-use Rattle.ken_disk.specs.Fates.{Fate}
+use Rattle.ken_disk.specs.Fates.{Fate, Origin}
 use Rattle.ken_memdisk.specs.declared.cut.Cut.{Cut}
 
 -- the cuts ahead, and the writes and syncs so far
@@ -21,6 +21,9 @@ pub record CallCounts : Type 0 where
   pub hint : ℕ
   -- how many reads, writes and syncs failed
   pub faults : ℕ
+  -- whose disk it is, and the picks of its restarts, newest first; nothing that runs keeps these
+  pub origin : Origin
+  pub picks : List ℕ
 
 -- the pick of the first cut on the list that is at this call; calls are numbered from 1
 abbrev pub first_pick : List Cut → ℕ → Option ℕ
@@ -31,9 +34,25 @@ abbrev pub by_call : List Cut → List (ℕ × ℕ)
 by_call [] = []
 by_call (cut ∷ cuts) = insert_entry nat_cmp (by_call cuts) cut.call cut.pick
 
--- before the first call
-abbrev pub no_calls : List Cut → CallCounts
-no_calls cuts = record { cuts = by_call cuts; made = 0; down = false; hint = 0; faults = 0 }
+-- a cut as its call and its pick
+abbrev pub pair_of : Cut → ℕ × ℕ
+pair_of cut = (cut.call, cut.pick)
+
+-- that disk of a node, with these cuts
+abbrev pub origin_of : ℕ → ℕ → List Cut → Origin
+origin_of node which cuts = record { node = node; which = which; cuts = map pair_of cuts }
+
+-- of that disk, before the first call
+abbrev pub no_calls : ℕ → ℕ → List Cut → CallCounts
+no_calls node which cuts = record {
+  cuts = by_call cuts;
+  made = 0;
+  down = false;
+  hint = 0;
+  faults = 0;
+  origin = origin_of node which cuts;
+  picks = [];
+}
 
 -- the pick of the cut at this call, and the other cuts
 abbrev pub pick_at : List (ℕ × ℕ) → ℕ → Option ℕ
@@ -64,10 +83,10 @@ after_cut c = record c {
 abbrev pub after_failed_read : CallCounts → CallCounts
 after_failed_read c = record c { faults = risen c.faults }
 
--- a restart
-abbrev pub after_restart : CallCounts → CallCounts
-after_restart c = record c { down = false }
+-- a restart with this pick
+abbrev pub after_restart : ℕ → CallCounts → CallCounts
+after_restart pick c = record c { down = false; picks = pick ∷ c.picks }
 
 -- its falls are the cuts ahead
 abbrev pub fate_of : CallCounts → Fate
-fate_of c = record { down = c.down; falls = length c.cuts }
+fate_of c = record { down = c.down; falls = length c.cuts; origin = c.origin; picks = c.picks }

@@ -6,6 +6,7 @@ ghost use Rattle.ken_memdisk.specs.Calls.{no_calls, first_pick, pick_at, fails_n
 
 use crate::cut::Cut;
 use crate::cuts::by_call;
+use crate::trace::{Mark, Trace};
 use ken_disk::DiskFault;
 use std::alloc::{AllocError, Global};
 use std::collections::BTreeMap;
@@ -19,6 +20,7 @@ pub(crate) struct Calls {
     down: bool,
     hint: u64,
     faults: u64,
+    trace: Trace,
 }
 
 impl Model for Calls {
@@ -26,12 +28,20 @@ impl Model for Calls {
 
     ghost Value = { CallCounts };
 
-    ghost view = { λ c. record { cuts = c.cuts.entries; made = c.made; down = c.down; hint = c.hint; faults = c.faults } };
+    ghost view = { λ c. record {
+        cuts = c.cuts.entries;
+        made = c.made;
+        down = c.down;
+        hint = c.hint;
+        faults = c.faults;
+        origin = c.trace.told.origin;
+        picks = c.trace.told.picks;
+    } };
 }
 
 impl Calls {
-    pub(crate) fn new(alloc: Global, cuts: &[Cut]) -> Result<Self, AllocError>
-        ensures none { IfOk result (λ c. c ≡ no_calls cuts.now) }
+    pub(crate) fn new(alloc: Global, node: u8, which: u8, cuts: &[Cut]) -> Result<Self, AllocError>
+        ensures none { IfOk result (λ c. c ≡ no_calls node which cuts.now) }
         ensures first { IfOk result (λ c. (call : ℕ) → pick_at c.cuts call ≡ first_pick cuts.now call) }
         ensures few { IfOk result (λ c. length c.cuts ≤ length cuts.now) }
     {
@@ -41,6 +51,7 @@ impl Calls {
             down: false,
             hint: 0,
             faults: 0,
+            trace: Trace::after(&Mark::Made(node, which, cuts)),
         })
     }
 
@@ -82,9 +93,10 @@ impl Calls {
         Ok(())
     }
 
-    pub(crate) fn restart(&mut self)
-        ensures { self.new ≡ after_restart self.old }
+    pub(crate) fn restart(&mut self, pick: u64)
+        ensures { self.new ≡ after_restart pick self.old }
     {
         self.down = false;
+        self.trace = Trace::after(&Mark::Restarted(&self.trace, pick));
     }
 }

@@ -10,6 +10,7 @@ mod mem_disk;
 mod picks;
 mod platter;
 mod story;
+mod trace;
 
 pub use cut::Cut;
 pub use mem_disk::MemDisk;

@@ -28,16 +28,26 @@ impl MemDisk {
     ghost use Rattle.ken_memdisk.specs.Calls.{no_calls, first_pick, pick_at, fate_of};
 
     /// A disk with no bytes, no faults and no calls, and a fall for each call at which a cut stands. Of two cuts at one call
-    /// the first counts. An error wants memory.
+    /// the first counts. It counts as disk 0 of node 0. An error wants memory.
     pub fn new(alloc: Global, cuts: &[Cut]) -> Result<Self, AllocError>
         ensures story { IfOk result (λ d. d.held.story ≡ blank) }
-        ensures calls { IfOk result (λ d. d.calls ≡ no_calls cuts.now) }
+        ensures calls { IfOk result (λ d. d.calls ≡ no_calls 0 0 cuts.now) }
+        ensures first { IfOk result (λ d. (call : ℕ) → pick_at d.calls.cuts call ≡ first_pick cuts.now call) }
+        ensures falls { IfOk result (λ d. (fate_of d.calls).falls ≤ length cuts.now) }
+    {
+        MemDisk::of_node(alloc, 0, 0, cuts)
+    }
+
+    /// As `new`, a disk of a node: `which` of its disks it is. Only contracts see whose it is.
+    pub fn of_node(alloc: Global, node: u8, which: u8, cuts: &[Cut]) -> Result<Self, AllocError>
+        ensures story { IfOk result (λ d. d.held.story ≡ blank) }
+        ensures calls { IfOk result (λ d. d.calls ≡ no_calls node which cuts.now) }
         ensures first { IfOk result (λ d. (call : ℕ) → pick_at d.calls.cuts call ≡ first_pick cuts.now call) }
         ensures falls { IfOk result (λ d. (fate_of d.calls).falls ≤ length cuts.now) }
     {
         Ok(MemDisk {
             platter: Platter::new(alloc),
-            calls: Calls::new(alloc, cuts)?,
+            calls: Calls::new(alloc, node, which, cuts)?,
         })
     }
 }
@@ -63,6 +73,8 @@ impl Disk for MemDisk {
     ghost faults = { λ d. d.calls.faults };
 
     ghost ready = { λ d. d.held.ready ≡ true };
+
+    ghost hinted = { λ d. d.calls.hint };
 
     ghost sized = { λ d h told. ap (λ o. length (unwrap_or o h).now.seen) told };
 
@@ -126,7 +138,7 @@ impl Disk for MemDisk {
 
     fn restart(&mut self, pick: u64) -> Result<(), AllocError>
         ensures story { OnOk result (Follows WentDown (Some self.old.held.story) (Some self.new.held.story)) }
-        ensures fate { OnOk result (Follows Raised (Some (fate_of self.old.calls)) (Some (fate_of self.new.calls))) }
+        ensures fate { OnOk result (Follows (Raised pick) (Some (fate_of self.old.calls)) (Some (fate_of self.new.calls))) }
         ensures memory { OnErr result (Some self.new.held.story ≡ Some self.old.held.story) }
         ensures no_fall { OnErr result (Some (fate_of self.new.calls) ≡ Some (fate_of self.old.calls)) }
         ensures size { OnErr result (length self.new.held.story.now.seen ≡ length self.old.held.story.now.seen) }
@@ -134,11 +146,11 @@ impl Disk for MemDisk {
 
         // It leaves the image of its pick, and the disk is up.
         ensures picked { OnOk result (self.new.held.story ≡ restart_at pick self.old.held.story) }
-        ensures up { OnOk result (self.new.calls ≡ after_restart self.old.calls) }
+        ensures up { OnOk result (self.new.calls ≡ after_restart pick self.old.calls) }
         ensures calls { OnErr result (self.new.calls ≡ self.old.calls) }
     {
         self.platter.restart(pick)?;
-        self.calls.restart();
+        self.calls.restart(pick);
         Ok(())
     }
 

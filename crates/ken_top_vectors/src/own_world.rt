@@ -38,6 +38,8 @@ impl Disk for OwnDisk {
 
     ghost ready = { λ d. d.inner.held.ready ≡ true };
 
+    ghost hinted = { λ d. d.inner.calls.hint };
+
     ghost sized = { λ d h told. ap (λ o. length (unwrap_or o h).now.seen) told };
 
     fn len(&self) -> u64 {
