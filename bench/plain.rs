@@ -1,47 +1,285 @@
-//! The long ring of `bench/run` in plain Rust, over devices of the same kind and without a proof. README.md says more.
-//!
-//! `plain NODES TURNS` gives node 0 a count that no run comes to the end of, and plays until each node has made so many
-//! turns. It prints the same report as `ken run`.
+//! Ken in plain Rust: the same protocol over disks, links and outlets of the same kind, without a proof and without checks of its
+//! script. It reads a script on standard input and prints the report of `ken run`. README.md says what it is held against.
 
-use std::collections::{BTreeMap, VecDeque};
+use std::collections::{BTreeMap, BTreeSet, HashMap, VecDeque};
 use std::fs::File;
-use std::io::{self, Write};
+use std::io::{self, Read, Write};
 use std::os::fd::AsFd;
+use std::process::ExitCode;
 
 const PAGE: usize = 256;
-const PAGES: usize = 16;
-const RECORDS: usize = 32;
-const MOST_DUE: usize = 16;
 const MOST_NODES: usize = 8;
 const OUTSIDE: u8 = 255;
 const OPEN: u8 = 0xa5;
 const CLOSED: u8 = 0;
-const ENDLESS: &[u8] = b"999999999";
+/// A log goes over to the other disk with so many records.
+const RECORDS: usize = 32;
+/// The oldest unacknowledged messages that are sent again.
+const MOST_DUE: usize = 16;
+const MOST_WAITING: usize = 1_024;
+const MOST_GIVEN: usize = 4_096;
+const MOST_REFUSALS: u64 = 64;
+const HEADER: usize = 32;
+const HEAD: usize = 16;
 
-type Page = [u8; PAGE];
+enum Fault {
+    Disk,
+    Outlet,
+}
 
-/// A disk that could be torn: it knows what was written since the last sync.
-#[derive(Default)]
+// ---- the script
+
+mod json {
+    pub enum Value {
+        Number(u64),
+        Text(Vec<u8>),
+        List(Vec<Value>),
+        Object(Vec<(Vec<u8>, Value)>),
+    }
+
+    impl Value {
+        pub fn number(&self) -> u64 {
+            match self {
+                Value::Number(number) => *number,
+                _ => panic!("a number"),
+            }
+        }
+
+        pub fn text(&self) -> &[u8] {
+            match self {
+                Value::Text(text) => text,
+                _ => panic!("a text"),
+            }
+        }
+
+        pub fn list(&self) -> &[Value] {
+            match self {
+                Value::List(items) => items,
+                _ => panic!("a list"),
+            }
+        }
+
+        pub fn get(&self, key: &str) -> Option<&Value> {
+            match self {
+                Value::Object(pairs) => pairs
+                    .iter()
+                    .rev()
+                    .find(|(name, _)| name == key.as_bytes())
+                    .map(|(_, value)| value),
+                _ => panic!("an object"),
+            }
+        }
+    }
+
+    pub struct Reader<'a> {
+        pub bytes: &'a [u8],
+        pub at: usize,
+    }
+
+    impl Reader<'_> {
+        fn next(&mut self) -> u8 {
+            while self.bytes[self.at].is_ascii_whitespace() {
+                self.at += 1;
+            }
+            self.at += 1;
+            self.bytes[self.at - 1]
+        }
+
+        fn items(&mut self, end: u8, mut item: impl FnMut(&mut Self)) {
+            if self.next() == end {
+                return;
+            }
+            self.at -= 1;
+            loop {
+                item(self);
+                if self.next() == end {
+                    return;
+                }
+            }
+        }
+
+        fn text(&mut self) -> Vec<u8> {
+            let mut text = Vec::new();
+            loop {
+                self.at += 1;
+                match self.bytes[self.at - 1] {
+                    b'"' => return text,
+                    b'\\' => {
+                        self.at += 1;
+                        match self.bytes[self.at - 1] {
+                            b'u' => {
+                                let digits = std::str::from_utf8(&self.bytes[self.at..self.at + 4])
+                                    .expect("digits");
+                                text.push(
+                                    u8::from_str_radix(digits, 16).expect("a printable letter"),
+                                );
+                                self.at += 4;
+                            }
+                            letter => text.push(letter),
+                        }
+                    }
+                    letter => text.push(letter),
+                }
+            }
+        }
+
+        pub fn value(&mut self) -> Value {
+            match self.next() {
+                b'"' => Value::Text(self.text()),
+                b'[' => {
+                    let mut items = Vec::new();
+                    self.items(b']', |reader| items.push(reader.value()));
+                    Value::List(items)
+                }
+                b'{' => {
+                    let mut pairs = Vec::new();
+                    self.items(b'}', |reader| {
+                        reader.next();
+                        let name = reader.text();
+                        reader.next();
+                        pairs.push((name, reader.value()));
+                    });
+                    Value::Object(pairs)
+                }
+                _ => {
+                    let start = self.at - 1;
+                    while self.bytes.get(self.at).is_some_and(u8::is_ascii_digit) {
+                        self.at += 1;
+                    }
+                    let digits = std::str::from_utf8(&self.bytes[start..self.at]).expect("digits");
+                    Value::Number(digits.parse().expect("a number"))
+                }
+            }
+        }
+    }
+}
+
+#[derive(Clone, Copy)]
+enum Kind {
+    Ring,
+    Tally,
+    Share,
+    Mix,
+    Kv,
+}
+
+#[derive(Clone, Copy)]
+enum Act {
+    Lose,
+    Repeat,
+    Hold(u64),
+}
+
+struct Script {
+    nodes: u8,
+    kind: Kind,
+    pages: usize,
+    seed: u64,
+    cap: usize,
+    restarts: u64,
+    value: json::Value,
+}
+
+impl Script {
+    fn read(bytes: &[u8]) -> Self {
+        let value = json::Reader { bytes, at: 0 }.value();
+        let number = |key, absent| value.get(key).map_or(absent, json::Value::number);
+        let kind = match value.get("kind").expect("a kind").text() {
+            b"ring" => Kind::Ring,
+            b"tally" => Kind::Tally,
+            b"share" => Kind::Share,
+            b"mix" => Kind::Mix,
+            b"kv" => Kind::Kv,
+            _ => panic!("a kind that there is"),
+        };
+        Script {
+            nodes: number("nodes", 0) as u8,
+            kind,
+            pages: number("pages", 16) as usize,
+            seed: number("seed", 0),
+            cap: number("turns", 1_000) as usize,
+            restarts: number("restarts", 64),
+            value,
+        }
+    }
+
+    /// The items of a list whose first number is this node's.
+    fn of_node(&self, key: &str, node: u8) -> impl Iterator<Item = &[json::Value]> {
+        let items = self.value.get(key).map_or(&[][..], json::Value::list);
+        items
+            .iter()
+            .map(json::Value::list)
+            .filter(move |item| item[0].number() == u64::from(node))
+    }
+
+    fn cuts(&self, node: u8, disk: u64) -> BTreeMap<u64, u64> {
+        let cuts = self
+            .of_node("cuts", node)
+            .filter(|cut| cut[1].number() == disk);
+        cuts.map(|cut| (cut[2].number(), cut[3].number())).collect()
+    }
+
+    fn acts(&self, key: &str, node: u8) -> HashMap<(u8, u64), Act> {
+        let act = |value: &json::Value| match value {
+            json::Value::Text(word) if word == b"lose" => Act::Lose,
+            json::Value::Text(_) => Act::Repeat,
+            puts => Act::Hold(puts.number()),
+        };
+        self.of_node(key, node)
+            .map(|it| ((it[1].number() as u8, it[2].number()), act(&it[3])))
+            .collect()
+    }
+}
+
+/// The generator that random words and torn writes are drawn from.
+struct Lcg(u64);
+
+impl Lcg {
+    fn next(&mut self) -> u64 {
+        self.0 = self
+            .0
+            .wrapping_mul(6_364_136_223_846_793_005)
+            .wrapping_add(1_442_695_040_888_963_407);
+        self.0 >> 33
+    }
+}
+
+// ---- devices
+
+/// A disk that can be torn: it knows what was written since the last sync.
 struct Disk {
     seen: Vec<u8>,
     synced: Vec<u8>,
     ranges: Vec<(usize, usize)>,
     calls: u64,
     cuts: BTreeMap<u64, u64>,
-}
-
-#[derive(Debug)]
-enum Fault {
-    Disk,
-    Packet,
+    hint: u64,
+    is_down: bool,
 }
 
 impl Disk {
+    fn new(cuts: BTreeMap<u64, u64>) -> Self {
+        Disk {
+            seen: Vec::new(),
+            synced: Vec::new(),
+            ranges: Vec::new(),
+            calls: 0,
+            cuts,
+            hint: 0,
+            is_down: false,
+        }
+    }
+
     fn call(&mut self) -> Result<(), Fault> {
         self.calls += 1;
-        match self.cuts.get(&self.calls) {
-            Some(_) => Err(Fault::Disk),
-            None => Ok(()),
+        if let Some(pick) = self.cuts.remove(&self.calls) {
+            self.hint = pick;
+            self.is_down = true;
+        }
+        if self.is_down {
+            Err(Fault::Disk)
+        } else {
+            Ok(())
         }
     }
 
@@ -57,165 +295,302 @@ impl Disk {
 
     fn sync(&mut self) -> Result<(), Fault> {
         self.call()?;
+        self.keep_written();
+        Ok(())
+    }
+
+    fn keep_written(&mut self) {
         self.synced.resize(self.seen.len(), 0);
         for (at, end) in self.ranges.drain(..) {
             self.synced[at..end].copy_from_slice(&self.seen[at..end]);
         }
-        Ok(())
     }
 
     fn write_through(&mut self, at: usize, bytes: &[u8]) -> Result<(), Fault> {
         self.write(at, bytes)?;
         self.sync()
     }
+
+    /// A crash: what it leaves of the writes since the last sync is as the pick says.
+    fn restart(&mut self, pick: u64) {
+        self.is_down = false;
+        match pick {
+            0 => self.keep_written(),
+            1 => {
+                let end = self.synced.len();
+                for (at, to) in self.ranges.drain(..) {
+                    let to = to.min(end);
+                    if at < to {
+                        self.seen[at..to].copy_from_slice(&self.synced[at..to]);
+                    }
+                }
+                self.seen.truncate(end);
+            }
+            _ => self.tear(Lcg(pick)),
+        }
+    }
+
+    fn tear(&mut self, mut answers: Lcg) {
+        let longer = (self.seen.len() - self.synced.len()) as u64;
+        let end = self.synced.len() + (answers.next() % (longer + 1)) as usize;
+        let places: BTreeSet<usize> = self.ranges.drain(..).flat_map(|(at, to)| at..to).collect();
+        self.synced.resize(self.seen.len(), 0);
+        for place in places.into_iter().take_while(|place| *place < end) {
+            match answers.next() % 3 {
+                0 => (),
+                1 => self.synced[place] = self.seen[place],
+                _ => self.synced[place] = (answers.next() % 256) as u8,
+            }
+        }
+        self.synced.truncate(end);
+        self.seen.clone_from(&self.synced);
+    }
 }
 
-#[derive(Clone)]
-struct Message {
-    to: u8,
+/// What leaves a node on its links of one kind.
+#[derive(Default)]
+struct Links {
+    acts: HashMap<(u8, u64), Act>,
+    puts: [u64; MOST_NODES],
+    /// Packets that are held, each with the put after which it is passed on.
+    held: Vec<(u8, u64, Vec<u8>)>,
+}
+
+impl Links {
+    fn put(&mut self, to: u8, packet: Vec<u8>, inbox: &mut VecDeque<Vec<u8>>) {
+        let mut pass = |packet| {
+            if inbox.len() < MOST_WAITING {
+                inbox.push_back(packet);
+            }
+        };
+        self.puts[usize::from(to)] += 1;
+        let number = self.puts[usize::from(to)];
+        if self.acts.is_empty() {
+            pass(packet);
+            return;
+        }
+        match self.acts.get(&(to, number)) {
+            None => pass(packet),
+            Some(Act::Lose) => (),
+            Some(Act::Repeat) => {
+                pass(packet.clone());
+                pass(packet);
+            }
+            Some(Act::Hold(puts)) => self.held.push((to, number + puts, packet)),
+        }
+        for (_, _, packet) in self.held.extract_if(.., |it| (it.0, it.1) == (to, number)) {
+            pass(packet);
+        }
+    }
+}
+
+// ---- the heap
+
+/// A heap of pages that keeps those that a turn writes as they were before.
+struct Heap {
+    bytes: Vec<u8>,
+    saved: Vec<(u32, [u8; PAGE])>,
+    is_saved: Vec<bool>,
+}
+
+impl Heap {
+    fn new(pages: usize) -> Self {
+        let mut bytes = vec![0; PAGE * pages];
+        bytes[8..12].copy_from_slice(b"KENH");
+        bytes[12..16].copy_from_slice(&(pages as u32).to_be_bytes());
+        bytes[16..20].copy_from_slice(&((PAGE * pages - HEAD) as u32).to_be_bytes());
+        Heap {
+            bytes,
+            saved: Vec::new(),
+            is_saved: vec![false; pages],
+        }
+    }
+
+    fn page(&self, page: u32) -> &[u8] {
+        &self.bytes[page as usize * PAGE..][..PAGE]
+    }
+
+    fn write(&mut self, at: usize, bytes: &[u8]) {
+        for page in at / PAGE..(at + bytes.len()).div_ceil(PAGE) {
+            if !self.is_saved[page] {
+                self.is_saved[page] = true;
+                self.saved.push((
+                    page as u32,
+                    self.bytes[page * PAGE..][..PAGE]
+                        .try_into()
+                        .expect("a page"),
+                ));
+            }
+        }
+        self.bytes[at..at + bytes.len()].copy_from_slice(bytes);
+    }
+
+    /// Hands over the pages that the turn changed, rising.
+    fn freeze(&mut self, changed: &mut Vec<u32>) {
+        self.saved.sort_unstable_by_key(|(page, _)| *page);
+        changed.clear();
+        for (page, old) in &self.saved {
+            self.is_saved[*page as usize] = false;
+            if self.bytes[*page as usize * PAGE..][..PAGE] != *old {
+                changed.push(*page);
+            }
+        }
+        self.saved.clear();
+    }
+
+    fn root(&self) -> u64 {
+        number_at(&self.bytes, 0)
+    }
+
+    fn set_root(&mut self, root: u64) {
+        self.write(0, &root.to_be_bytes());
+    }
+
+    /// The cells: head, span, and length of the block, which is 0 for a gap.
+    fn cells(&self) -> impl Iterator<Item = (usize, usize, usize)> {
+        let mut head = HEAD;
+        std::iter::from_fn(move || {
+            let bytes = self.bytes.get(head..head + 8)?;
+            let span = u32::from_be_bytes(bytes[..4].try_into().expect("a field")) as usize;
+            let length = u32::from_be_bytes(bytes[4..].try_into().expect("a field")) as usize;
+            head += span;
+            Some((head - span, span, length))
+        })
+    }
+
+    fn write_head(&mut self, head: usize, span: usize, length: usize) {
+        let mut bytes = [0; HEAD];
+        bytes[..4].copy_from_slice(&(span as u32).to_be_bytes());
+        bytes[4..8].copy_from_slice(&(length as u32).to_be_bytes());
+        self.write(head, &bytes);
+    }
+
+    /// The head of the pair of a key, and what stands behind the key and its space.
+    fn pair(&self, key: &[u8]) -> Option<(usize, &[u8])> {
+        self.cells().find_map(|(head, _, length)| {
+            let rest = self.bytes[head + HEAD..][..length].strip_prefix(key)?;
+            Some((head, rest.strip_prefix(b" ")?))
+        })
+    }
+
+    /// Puts a block into the lowest gap where it fits.
+    fn add(&mut self, block: [&[u8]; 3]) -> bool {
+        let length: usize = block.iter().map(|part| part.len()).sum();
+        let wanted = HEAD + length.next_multiple_of(HEAD);
+        let Some((head, span, _)) = self
+            .cells()
+            .find(|(_, span, length)| *length == 0 && wanted <= *span)
+        else {
+            return false;
+        };
+        if wanted < span {
+            self.write_head(head + wanted, span - wanted, 0);
+        }
+        self.write_head(head, wanted, length);
+        let mut at = head + HEAD;
+        for part in block {
+            self.write(at, part);
+            at += part.len();
+        }
+        true
+    }
+
+    /// Makes a block a gap, together with the gaps beside it.
+    fn free(&mut self, head: usize) {
+        let (mut start, mut end) = (head, head);
+        for (at, span, length) in self.cells() {
+            if at == head {
+                end = at + span;
+            } else if length == 0 && at + span == head {
+                start = at;
+            } else if length == 0 && at == end && head < at {
+                end = at + span;
+            } else if end < at {
+                break;
+            }
+        }
+        self.write_head(start, end - start, 0);
+    }
+}
+
+fn number_at(bytes: &[u8], at: usize) -> u64 {
+    u64::from_be_bytes(bytes[at..at + 8].try_into().expect("a field"))
+}
+
+/// A text of 1 to 9 digits without a leading zero.
+fn count_in(text: &[u8]) -> Option<u64> {
+    let is_count = (1..=9).contains(&text.len())
+        && text.iter().all(u8::is_ascii_digit)
+        && (text.len() == 1 || text[0] != b'0');
+    is_count.then(|| {
+        text.iter()
+            .fold(0, |count, digit| 10 * count + u64::from(digit - b'0'))
+    })
+}
+
+// ---- the node
+
+/// A text in a node's store of texts.
+#[derive(Clone, Copy)]
+struct Text {
+    at: usize,
+    length: u16,
+}
+
+#[derive(Clone, Copy)]
+struct Due {
     number: u64,
     stamp: u64,
-    text: Vec<u8>,
+    text: Text,
 }
 
-#[derive(Clone)]
+#[derive(Clone, Copy)]
 struct Out {
     number: u64,
-    text: Vec<u8>,
+    text: Text,
 }
 
-/// A sealed turn.
+struct Send {
+    to: u8,
+    number: u64,
+    text: Text,
+}
+
+/// A sealed turn, as the report tells it.
+#[derive(Clone, Copy)]
 struct Turn {
     stamp: u64,
     from: u8,
     number: u64,
-    draws: Vec<u64>,
-    sends: Vec<Message>,
+    draws: [u64; 2],
+    draw_count: u8,
+}
+
+/// What comes out of a turn.
+#[derive(Default)]
+struct Effects {
+    draws: [u64; 2],
+    draw_count: u8,
+    sends: Vec<Send>,
     outs: Vec<Out>,
 }
 
-/// A heap that keeps the pages as they were when the turn began.
-struct Heap {
-    pages: Vec<Page>,
-    saved: BTreeMap<u32, Page>,
+/// Up to where each sender's messages were taken, how many were sent, and how many outputs there were.
+#[derive(Clone, Default)]
+struct Numbers {
+    stamp: u64,
+    consumed: [u64; MOST_NODES],
+    inputs: u64,
+    sent: [u64; MOST_NODES],
+    outputs: u64,
 }
 
-impl Heap {
-    fn new() -> Self {
-        let mut pages = vec![[0; PAGE]; PAGES];
-        pages[0][8..12].copy_from_slice(b"KENH");
-        pages[0][12..16].copy_from_slice(&(PAGES as u32).to_be_bytes());
-        pages[0][16..20].copy_from_slice(&((PAGE * PAGES - 16) as u32).to_be_bytes());
-        Heap {
-            pages,
-            saved: BTreeMap::new(),
+impl Numbers {
+    fn consumed(&mut self, from: u8) -> &mut u64 {
+        match from {
+            OUTSIDE => &mut self.inputs,
+            _ => &mut self.consumed[usize::from(from)],
         }
-    }
-
-    fn root(&self) -> u64 {
-        u64::from_be_bytes(self.pages[0][..8].try_into().unwrap())
-    }
-
-    fn set_root(&mut self, root: u64) {
-        self.saved.entry(0).or_insert(self.pages[0]);
-        self.pages[0][..8].copy_from_slice(&root.to_be_bytes());
-    }
-
-    /// The pages that the turn changed.
-    fn freeze(&mut self) -> Vec<(u32, Page)> {
-        let saved = std::mem::take(&mut self.saved);
-        let now = saved.into_iter().map(|(page, old)| (page, old, self.pages[page as usize]));
-        now.filter(|(_, old, new)| old != new)
-            .map(|(page, _, new)| (page, new))
-            .collect()
-    }
-}
-
-fn put_text(bytes: &mut Vec<u8>, text: &[u8]) {
-    bytes.extend((text.len() as u16).to_be_bytes());
-    bytes.extend(text);
-}
-
-fn put_pages(bytes: &mut Vec<u8>, pages: &[(u32, Page)]) {
-    bytes.extend((pages.len() as u16).to_be_bytes());
-    for (page, content) in pages {
-        bytes.extend(page.to_be_bytes());
-        bytes.extend(content);
-    }
-}
-
-fn record(turn: u64, sealed: &Turn, pages: &[(u32, Page)]) -> Vec<u8> {
-    let mut bytes = vec![0; 4];
-    bytes.extend(turn.to_be_bytes());
-    bytes.extend(sealed.stamp.to_be_bytes());
-    bytes.push(sealed.from);
-    bytes.extend(sealed.number.to_be_bytes());
-    bytes.push(sealed.draws.len() as u8);
-    for draw in &sealed.draws {
-        bytes.extend(draw.to_be_bytes());
-    }
-    bytes.push(sealed.sends.len() as u8);
-    for send in &sealed.sends {
-        bytes.push(send.to);
-        bytes.extend(send.number.to_be_bytes());
-        put_text(&mut bytes, &send.text);
-    }
-    bytes.push(sealed.outs.len() as u8);
-    for out in &sealed.outs {
-        bytes.extend(out.number.to_be_bytes());
-        put_text(&mut bytes, &out.text);
-    }
-    put_pages(&mut bytes, pages);
-    let length = bytes.len() as u32 - 4;
-    bytes[..4].copy_from_slice(&length.to_be_bytes());
-    bytes.push(CLOSED);
-    bytes
-}
-
-enum Packet {
-    Mail { from: u8, message: Message },
-    Ack { from: u8, through: u64 },
-}
-
-fn mail(from: u8, message: &Message) -> Vec<u8> {
-    let mut bytes = vec![1, from, message.to];
-    bytes.extend(message.number.to_be_bytes());
-    bytes.extend(message.stamp.to_be_bytes());
-    put_text(&mut bytes, &message.text);
-    bytes
-}
-
-fn ack(from: u8, to: u8, through: u64) -> Vec<u8> {
-    let mut bytes = vec![2, from, to];
-    bytes.extend(through.to_be_bytes());
-    bytes
-}
-
-fn number_at(bytes: &[u8], at: usize) -> Option<u64> {
-    Some(u64::from_be_bytes(bytes.get(at..at + 8)?.try_into().ok()?))
-}
-
-fn decode(bytes: &[u8]) -> Option<Packet> {
-    match *bytes {
-        [1, from, to, ..] => {
-            let text = bytes.get(21..)?;
-            let length = u16::from_be_bytes([*bytes.get(19)?, *bytes.get(20)?]);
-            if text.len() != usize::from(length) {
-                return None;
-            }
-            let message = Message {
-                to,
-                number: number_at(bytes, 3)?,
-                stamp: number_at(bytes, 11)?,
-                text: text.to_vec(),
-            };
-            Some(Packet::Mail { from, message })
-        }
-        [2, from, _, ..] => Some(Packet::Ack {
-            from,
-            through: number_at(bytes, 3)?,
-        }),
-        _ => None,
     }
 }
 
@@ -225,161 +600,579 @@ struct Inbox {
     acks: VecDeque<Vec<u8>>,
 }
 
-/// The numbers up to which something has come.
-struct Numbers {
-    consumed: [u64; MOST_NODES],
-    inputs: u64,
-    sent: [u64; MOST_NODES],
-    outputs: u64,
-    stamp: u64,
-}
-
 struct Node {
     node: u8,
     nodes: u8,
+    kind: Kind,
     cap: usize,
-    inputs: VecDeque<Vec<u8>>,
+    inputs: Vec<Vec<u8>>,
+    // The devices: disks 0 and 2 hold logs, disk 1 the image.
+    disks: [Disk; 3],
+    words: Lcg,
+    clock: u64,
+    fails: BTreeSet<u64>,
+    outlet_calls: u64,
+    mail: Links,
+    acks: Links,
+    // The store.
     heap: Heap,
-    logs: [Disk; 2],
-    image: Disk,
-    current: usize,
+    log: usize,
     generation: u32,
     gate: usize,
     records: usize,
     numbers: Numbers,
-    turns: Vec<Turn>,
-    // For the patcher, and the turn through which pages are safe.
-    frozen: VecDeque<(u64, u32, Page)>,
-    patched: u64,
+    /// The turn that last changed each page of a record or a base.
+    changed_by: Vec<u64>,
+    /// Pages that are still to write to the image.
+    frozen: VecDeque<(u32, [u8; PAGE])>,
+    /// Through which turn pages are safe in the image.
     settled: u64,
-    page_turns: [u64; PAGES],
-    // For the externaliser.
-    due: [VecDeque<Message>; MOST_NODES],
+    // What is due.
+    texts: Vec<u8>,
+    due: [VecDeque<Due>; MOST_NODES],
     outs: VecDeque<Out>,
+    refusals: u64,
+    // What the report tells.
+    turns: Vec<Turn>,
     emitted: Vec<Out>,
-    puts: [u64; MOST_NODES],
-    acts: BTreeMap<(u8, u64), u64>,
+    most_emitted: u64,
+    restarts: u64,
+    restart_lines: Vec<usize>,
+    // Kept for their memory.
+    effects: Effects,
+    spelled: Vec<u8>,
+    changed: Vec<u32>,
 }
 
 impl Node {
-    fn new(node: u8, nodes: u8, cap: usize) -> Result<Self, Fault> {
-        let mut made = Node {
+    fn new(script: &Script, node: u8) -> Self {
+        Node {
             node,
-            nodes,
-            cap,
-            inputs: VecDeque::new(),
-            heap: Heap::new(),
-            logs: Default::default(),
-            image: Disk::default(),
-            current: 0,
+            nodes: script.nodes,
+            kind: script.kind,
+            cap: script.cap,
+            inputs: script
+                .of_node("inputs", node)
+                .map(|input| input[1].text().to_vec())
+                .collect(),
+            disks: [0, 1, 2].map(|disk| Disk::new(script.cuts(node, disk))),
+            words: Lcg(script.seed.wrapping_add(u64::from(node))),
+            clock: 0,
+            fails: script
+                .of_node("outlets", node)
+                .map(|fail| fail[1].number())
+                .collect(),
+            outlet_calls: 0,
+            mail: Links {
+                acts: script.acts("mail", node),
+                ..Links::default()
+            },
+            acks: Links {
+                acts: script.acts("acks", node),
+                ..Links::default()
+            },
+            heap: Heap::new(script.pages),
+            log: 0,
             generation: 1,
             gate: 0,
             records: 0,
-            numbers: Numbers {
-                consumed: [0; MOST_NODES],
-                inputs: 0,
-                sent: [0; MOST_NODES],
-                outputs: 0,
-                stamp: 0,
-            },
-            turns: Vec::new(),
+            numbers: Numbers::default(),
+            changed_by: vec![0; script.pages],
             frozen: VecDeque::new(),
-            patched: 0,
             settled: 0,
-            page_turns: [0; PAGES],
+            texts: Vec::new(),
             due: Default::default(),
             outs: VecDeque::new(),
+            refusals: 0,
+            turns: Vec::new(),
             emitted: Vec::new(),
-            puts: [0; MOST_NODES],
-            acts: BTreeMap::new(),
-        };
-        for (page, content) in made.heap.pages.iter().enumerate() {
-            made.image.write(page * PAGE, content)?;
+            most_emitted: 0,
+            restarts: 0,
+            restart_lines: Vec::new(),
+            effects: Effects::default(),
+            spelled: Vec::new(),
+            changed: Vec::new(),
         }
-        made.image.sync()?;
-        made.format(&[])?;
-        Ok(made)
+    }
+
+    fn text_since(&self, at: usize) -> Text {
+        Text {
+            at,
+            length: (self.texts.len() - at) as u16,
+        }
+    }
+
+    fn keep(&mut self, text: &[u8]) -> Text {
+        self.texts.extend_from_slice(text);
+        self.text_since(self.texts.len() - text.len())
+    }
+
+    fn keep_count(&mut self, count: u64) -> Text {
+        let at = self.texts.len();
+        write!(self.texts, "{count}").expect("memory");
+        self.text_since(at)
+    }
+
+    fn text(&self, text: Text) -> &[u8] {
+        &self.texts[text.at..][..usize::from(text.length)]
+    }
+
+    // ---- logs and image
+
+    fn create(&mut self) -> Result<(), Fault> {
+        self.heap = Heap::new(self.changed_by.len());
+        for page in 0..self.changed_by.len() {
+            let [_, image, _] = &mut self.disks;
+            image.write(page * PAGE, self.heap.page(page as u32))?;
+        }
+        self.disks[1].sync()?;
+        self.log = 0;
+        self.generation = 1;
+        self.format(&[])
     }
 
     fn format(&mut self, base: &[u8]) -> Result<(), Fault> {
         let mut bytes = b"KENL\x01".to_vec();
         bytes.extend([self.node, self.nodes]);
-        bytes.extend((PAGES as u32).to_be_bytes());
+        bytes.extend((self.changed_by.len() as u32).to_be_bytes());
         bytes.extend(self.generation.to_be_bytes());
-        bytes.extend((if base.is_empty() { 0 } else { self.turns.len() as u64 }).to_be_bytes());
+        bytes.extend(
+            (if base.is_empty() {
+                0
+            } else {
+                self.turns.len() as u64
+            })
+            .to_be_bytes(),
+        );
         bytes.extend((base.len() as u32).to_be_bytes());
         bytes.extend([0; 4]);
         bytes.extend(base);
-        self.gate = 1 + bytes.len();
-        self.records = 0;
         bytes.push(CLOSED);
-        let log = &mut self.logs[self.current];
-        log.write_through(0, &[CLOSED])?;
+        let log = &mut self.disks[self.log];
+        let closing: &[u8] = if log.seen.first().is_some_and(|gate| *gate != OPEN) {
+            &[]
+        } else {
+            &[CLOSED]
+        };
+        log.write_through(0, closing)?;
         log.write_through(1, &bytes)?;
-        log.write_through(0, &[OPEN])
+        log.write_through(0, &[OPEN])?;
+        self.gate = bytes.len();
+        self.records = 0;
+        Ok(())
     }
 
     /// Goes over to the other log, with all that isn't done yet.
     fn turnover(&mut self) -> Result<(), Fault> {
-        let mut base = self.numbers.stamp.to_be_bytes().to_vec();
-        for number in self
-            .numbers
-            .consumed
-            .iter()
-            .chain([&self.numbers.inputs])
-            .chain(&self.numbers.sent)
-        {
-            base.extend(number.to_be_bytes());
+        let mut base = std::mem::take(&mut self.spelled);
+        base.clear();
+        let numbers = &self.numbers;
+        let counts = [numbers.stamp]
+            .into_iter()
+            .chain(numbers.consumed)
+            .chain([numbers.inputs])
+            .chain(numbers.sent)
+            .chain([numbers.outputs]);
+        for count in counts {
+            base.extend(count.to_be_bytes());
         }
-        base.extend(self.numbers.outputs.to_be_bytes());
         base.extend((self.due.iter().map(VecDeque::len).sum::<usize>() as u32).to_be_bytes());
-        for message in self.due.iter().flatten() {
-            base.push(message.to);
-            base.extend(message.number.to_be_bytes());
-            base.extend(message.stamp.to_be_bytes());
-            put_text(&mut base, &message.text);
+        for (to, due) in self.due.iter().enumerate() {
+            for message in due {
+                base.push(to as u8);
+                base.extend(message.number.to_be_bytes());
+                base.extend(message.stamp.to_be_bytes());
+                put_text(&mut base, self.text(message.text));
+            }
         }
         base.extend((self.outs.len() as u32).to_be_bytes());
         for out in &self.outs {
             base.extend(out.number.to_be_bytes());
-            put_text(&mut base, &out.text);
+            put_text(&mut base, self.text(out.text));
         }
         let settled = self.settled;
-        let changed = (0..PAGES).filter(|&page| self.page_turns[page] > settled);
-        let pages: Vec<_> = changed.map(|page| (page as u32, self.heap.pages[page])).collect();
-        put_pages(&mut base, &pages);
-        self.current = 1 - self.current;
+        self.changed.clear();
+        self.changed.extend(
+            (0u32..)
+                .zip(&self.changed_by)
+                .filter(|(_, turn)| **turn > settled)
+                .map(|(page, _)| page),
+        );
+        put_pages(&mut base, &self.changed, &self.heap);
+        // (pages that the base leaves out are no longer of the log)
+        for turn in &mut self.changed_by {
+            if *turn <= settled {
+                *turn = 0;
+            }
+        }
+        self.log = 2 - self.log;
         self.generation += 1;
-        self.format(&base)
+        let done = self.format(&base);
+        self.spelled = base;
+        done
     }
 
-    fn next_mail(&mut self, inboxes: &mut [Inbox]) -> Result<Option<(u8, Message)>, Fault> {
-        while let Some(bytes) = inboxes[usize::from(self.node)].mail.pop_front() {
-            let Packet::Mail { from, message } = decode(&bytes).ok_or(Fault::Packet)? else {
-                continue;
-            };
+    fn seal(&mut self, from: u8, number: u64, stamp: u64) -> Result<(), Fault> {
+        let count = self.turns.len() as u64 + 1;
+        self.heap.freeze(&mut self.changed);
+        let mut bytes = std::mem::take(&mut self.spelled);
+        bytes.clear();
+        bytes.extend([0; 4]);
+        bytes.extend(count.to_be_bytes());
+        bytes.extend(stamp.to_be_bytes());
+        bytes.push(from);
+        bytes.extend(number.to_be_bytes());
+        bytes.push(self.effects.draw_count);
+        for draw in &self.effects.draws[..usize::from(self.effects.draw_count)] {
+            bytes.extend(draw.to_be_bytes());
+        }
+        bytes.push(self.effects.sends.len() as u8);
+        for send in &self.effects.sends {
+            bytes.push(send.to);
+            bytes.extend(send.number.to_be_bytes());
+            put_text(&mut bytes, self.text(send.text));
+        }
+        bytes.push(self.effects.outs.len() as u8);
+        for out in &self.effects.outs {
+            bytes.extend(out.number.to_be_bytes());
+            put_text(&mut bytes, self.text(out.text));
+        }
+        put_pages(&mut bytes, &self.changed, &self.heap);
+        let length = bytes.len() as u32 - 4;
+        bytes[..4].copy_from_slice(&length.to_be_bytes());
+        bytes.push(CLOSED);
+        let log = &mut self.disks[self.log];
+        let done = log
+            .write_through(self.gate + 1, &bytes)
+            .and_then(|()| log.write_through(self.gate, &[OPEN]));
+        self.gate += bytes.len();
+        self.spelled = bytes;
+        done?;
+        self.records += 1;
+        for page in &self.changed {
+            self.changed_by[*page as usize] = count;
+            self.frozen
+                .push_back((*page, self.heap.page(*page).try_into().expect("a page")));
+        }
+        *self.numbers.consumed(from) = number;
+        self.numbers.stamp = stamp;
+        for send in &self.effects.sends {
+            self.numbers.sent[usize::from(send.to)] = send.number;
+            self.due[usize::from(send.to)].push_back(Due {
+                number: send.number,
+                stamp,
+                text: send.text,
+            });
+        }
+        for out in &self.effects.outs {
+            self.numbers.outputs = out.number;
+            self.outs.push_back(*out);
+        }
+        self.turns.push(Turn {
+            stamp,
+            from,
+            number,
+            draws: self.effects.draws,
+            draw_count: self.effects.draw_count,
+        });
+        Ok(())
+    }
+
+    fn patch(&mut self) -> Result<(), Fault> {
+        while let Some((page, content)) = self.frozen.pop_front() {
+            self.disks[1].write(page as usize * PAGE, &content)?;
+        }
+        self.disks[1].sync()?;
+        self.settled = self.turns.len() as u64;
+        Ok(())
+    }
+
+    /// Restarts the disks, and goes on from what they hold.
+    fn restart(&mut self) -> Result<(), Fault> {
+        self.restarts += 1;
+        let pick = self
+            .disks
+            .iter()
+            .find(|disk| disk.is_down)
+            .map_or(0, |disk| disk.hint);
+        for disk in &mut self.disks {
+            disk.restart(pick);
+        }
+        self.refusals = 0;
+        let generation = |disk: &Disk| match disk.seen[..] {
+            [OPEN, ..] if HEADER <= disk.seen.len() => {
+                u32::from_be_bytes(disk.seen[12..16].try_into().expect("a field"))
+            }
+            _ => 0,
+        };
+        let (first, second) = (generation(&self.disks[0]), generation(&self.disks[2]));
+        if first.max(second) == 0 {
+            self.create()?;
+        } else {
+            self.log = if first < second { 2 } else { 0 };
+            self.generation = first.max(second);
+            self.recover();
+        }
+        self.restart_lines.push(self.turns.len());
+        Ok(())
+    }
+
+    fn recover(&mut self) {
+        let log = std::mem::take(&mut self.disks[self.log].seen);
+        let mut fields = Fields {
+            bytes: &log,
+            at: 16,
+        };
+        let before = fields.number();
+        let base = fields.length();
+        fields.at = HEADER;
+        self.heap
+            .bytes
+            .copy_from_slice(&self.disks[1].seen[..PAGE * self.changed_by.len()]);
+        self.heap.freeze(&mut Vec::new());
+        self.numbers = Numbers::default();
+        self.due.iter_mut().for_each(VecDeque::clear);
+        self.outs.clear();
+        self.frozen.clear();
+        self.changed_by.fill(0);
+        self.settled = 0;
+        self.records = 0;
+        if base > 0 {
+            self.take_base(&mut fields, before);
+        }
+        let mut count = before;
+        while fields.bytes[fields.at] == OPEN {
+            count += 1;
+            self.take_record(&mut fields, count);
+        }
+        self.gate = fields.at;
+        self.disks[self.log].seen = log;
+    }
+
+    fn take_base(&mut self, fields: &mut Fields<'_>, turn: u64) {
+        let numbers = &mut self.numbers;
+        numbers.stamp = fields.number();
+        numbers.consumed = std::array::from_fn(|_| fields.number());
+        numbers.inputs = fields.number();
+        numbers.sent = std::array::from_fn(|_| fields.number());
+        numbers.outputs = fields.number();
+        for _ in 0..fields.length() {
+            let to = fields.byte();
+            let (number, stamp) = (fields.number(), fields.number());
+            let text = self.keep(fields.text());
+            self.due[usize::from(to)].push_back(Due {
+                number,
+                stamp,
+                text,
+            });
+        }
+        for _ in 0..fields.length() {
+            let number = fields.number();
+            let text = self.keep(fields.text());
+            self.outs.push_back(Out { number, text });
+        }
+        self.take_pages(fields, turn);
+    }
+
+    fn take_record(&mut self, fields: &mut Fields<'_>, count: u64) {
+        fields.at += 13;
+        let stamp = fields.number();
+        let from = fields.byte();
+        let number = fields.number();
+        let draw_count = fields.byte();
+        let mut draws = [0; 2];
+        draws[..usize::from(draw_count)].fill_with(|| fields.number());
+        for _ in 0..fields.byte() {
+            let to = fields.byte();
+            let number = fields.number();
+            let text = self.keep(fields.text());
+            self.numbers.sent[usize::from(to)] = number;
+            self.due[usize::from(to)].push_back(Due {
+                number,
+                stamp,
+                text,
+            });
+        }
+        for _ in 0..fields.byte() {
+            let number = fields.number();
+            let text = self.keep(fields.text());
+            self.numbers.outputs = number;
+            self.outs.push_back(Out { number, text });
+        }
+        self.take_pages(fields, count);
+        self.numbers.stamp = stamp;
+        *self.numbers.consumed(from) = number;
+        self.records += 1;
+        // (a record in doubt that landed)
+        if self.turns.len() < count as usize {
+            self.turns.push(Turn {
+                stamp,
+                from,
+                number,
+                draws,
+                draw_count,
+            });
+        }
+    }
+
+    fn take_pages(&mut self, fields: &mut Fields<'_>, turn: u64) {
+        for _ in 0..fields.short() {
+            let page = fields.length() as u32;
+            let content: [u8; PAGE] = fields.take(PAGE).try_into().expect("a page");
+            self.heap.bytes[page as usize * PAGE..][..PAGE].copy_from_slice(&content);
+            self.changed_by[page as usize] = turn;
+            self.frozen.push_back((page, content));
+        }
+    }
+
+    // ---- turns
+
+    /// The next message, and acknowledgements of old ones.
+    fn next_mail(&mut self, inboxes: &mut [Inbox]) -> Option<Vec<u8>> {
+        for _ in 0..MOST_GIVEN {
+            let packet = inboxes[usize::from(self.node)].mail.pop_front()?;
+            let (from, number) = (packet[1], number_at(&packet, 3));
             let consumed = self.numbers.consumed[usize::from(from)];
-            if message.number == consumed + 1 {
-                return Ok(Some((from, message)));
+            if number == consumed + 1 {
+                return Some(packet);
             }
-            if message.number <= consumed {
-                inboxes[usize::from(from)].acks.push_back(ack(self.node, from, consumed));
+            if number <= consumed {
+                self.acknowledge(from, inboxes);
             }
         }
-        Ok(None)
+        None
     }
 
-    /// The ring's handler: what it sends and outputs.
-    fn handle(&mut self, text: &[u8]) -> (Option<Vec<u8>>, Vec<u8>) {
-        let digits = (1..=9).contains(&text.len()) && text.iter().all(u8::is_ascii_digit);
-        if !digits || text.len() > 1 && text[0] == b'0' {
-            return (None, b"bad".to_vec());
+    fn acknowledge(&mut self, from: u8, inboxes: &mut [Inbox]) {
+        let mut packet = Vec::with_capacity(11);
+        packet.extend([2, self.node, from]);
+        packet.extend(self.numbers.consumed[usize::from(from)].to_be_bytes());
+        self.acks
+            .put(from, packet, &mut inboxes[usize::from(from)].acks);
+    }
+
+    fn output_kept(&mut self, text: Text) {
+        let number = self.numbers.outputs + 1;
+        self.effects.outs.push(Out { number, text });
+    }
+
+    fn output(&mut self, text: &[u8]) {
+        let text = self.keep(text);
+        self.output_kept(text);
+    }
+
+    fn output_count(&mut self, count: u64) {
+        let text = self.keep_count(count);
+        self.output_kept(text);
+    }
+
+    fn send(&mut self, to: u8, text: Text) {
+        let number = self.numbers.sent[usize::from(to)] + 1;
+        self.effects.sends.push(Send { to, number, text });
+    }
+
+    fn send_count(&mut self, to: u8, count: u64) {
+        let text = self.keep_count(count);
+        self.send(to, text);
+    }
+
+    fn draw(&mut self, draw: u64) {
+        self.effects.draws[usize::from(self.effects.draw_count)] = draw;
+        self.effects.draw_count += 1;
+    }
+
+    fn handle(&mut self, from: u8, text: &[u8]) {
+        self.effects.draw_count = 0;
+        self.effects.sends.clear();
+        self.effects.outs.clear();
+        if let Kind::Kv = self.kind {
+            return self.command(text);
         }
-        let count: u64 = std::str::from_utf8(text).unwrap().parse().unwrap();
+        let Some(count) = count_in(text) else {
+            return self.output(b"bad");
+        };
+        let next = (self.node + 1) % self.nodes;
         let root = self.heap.root();
-        self.heap.set_root(root.wrapping_add(1));
-        let send = (count > 0).then(|| (count - 1).to_string().into_bytes());
-        (send, count.to_string().into_bytes())
+        match self.kind {
+            Kind::Ring => {
+                self.heap.set_root(root.wrapping_add(1));
+                if count > 0 {
+                    self.send_count(next, count - 1);
+                }
+                self.output_count(count);
+            }
+            Kind::Tally => {
+                self.heap.set_root(root.wrapping_add(count));
+                if from == OUTSIDE {
+                    let node = self.node;
+                    for to in (0..self.nodes).filter(|to| *to != node) {
+                        let text = self.keep(text);
+                        self.send(to, text);
+                    }
+                }
+                self.output_count(root.wrapping_add(count));
+            }
+            Kind::Share => {
+                self.heap.set_root(root.wrapping_add(count - count / 2));
+                if count / 2 > 0 {
+                    self.send_count(next, count / 2);
+                }
+                self.output_count(count);
+            }
+            Kind::Mix | Kind::Kv => {
+                self.clock += 1;
+                let word = self.words.next();
+                self.draw(self.clock);
+                self.draw(word);
+                self.heap.set_root(self.clock);
+                if count > 0 {
+                    self.send_count((word % u64::from(self.nodes)) as u8, count - 1);
+                }
+                self.output_count(word % 1000);
+            }
+        }
+    }
+
+    fn command(&mut self, text: &[u8]) {
+        let is_key = |key: &[u8]| !key.is_empty() && !key.contains(&b' ');
+        match text.split_at_checked(4) {
+            Some((b"put ", rest)) => {
+                let Some(space) = rest
+                    .iter()
+                    .position(|letter| *letter == b' ')
+                    .filter(|place| *place > 0)
+                else {
+                    return self.output(b"bad");
+                };
+                let (key, value) = (&rest[..space], &rest[space + 1..]);
+                let old = self.heap.pair(key).map(|(head, _)| head);
+                if !self.heap.add([key, b" ", value]) {
+                    return self.output(b"full");
+                }
+                if let Some(head) = old {
+                    self.heap.free(head);
+                }
+                self.output(b"ok");
+            }
+            Some((b"get ", key)) if is_key(key) => {
+                let at = self.texts.len();
+                match self.heap.pair(key) {
+                    Some((_, value)) => self.texts.extend_from_slice(value),
+                    None => self.texts.extend_from_slice(b"none"),
+                }
+                self.output_kept(self.text_since(at));
+            }
+            Some((b"del ", key)) if is_key(key) => {
+                match self.heap.pair(key).map(|(head, _)| head) {
+                    Some(head) => {
+                        self.heap.free(head);
+                        self.output(b"ok");
+                    }
+                    None => self.output(b"none"),
+                }
+            }
+            _ => self.output(b"bad"),
+        }
     }
 
     fn turn_once(&mut self, inboxes: &mut [Inbox]) -> Result<bool, Fault> {
@@ -389,185 +1182,282 @@ impl Node {
         if self.records == RECORDS {
             self.turnover()?;
         }
-        let (from, number, stamp, text) = match self.next_mail(inboxes)? {
-            Some((from, message)) => (from, message.number, message.stamp, message.text),
-            None => match self.inputs.pop_front() {
-                Some(text) => (OUTSIDE, self.numbers.inputs + 1, 0, text),
-                None => return Ok(false),
-            },
-        };
-        let (send, out) = self.handle(&text);
-        let stamp = self.numbers.stamp.max(stamp) + 1;
-        let to = (self.node + 1) % self.nodes;
-        let sends: Vec<_> = send
-            .map(|text| Message {
-                to,
-                number: self.numbers.sent[usize::from(to)] + 1,
-                stamp,
-                text,
-            })
-            .into_iter()
-            .collect();
-        let outs = vec![Out {
-            number: self.numbers.outputs + 1,
-            text: out,
-        }];
-        let turn = Turn {
-            stamp,
-            from,
-            number,
-            draws: Vec::new(),
-            sends,
-            outs,
-        };
-        self.seal(turn)?;
-        if from != OUTSIDE {
-            inboxes[usize::from(from)].acks.push_back(ack(self.node, from, number));
+        if let Some(packet) = self.next_mail(inboxes) {
+            let from = packet[1];
+            self.handle(from, &packet[21..]);
+            let stamp = self.numbers.stamp.max(number_at(&packet, 11)) + 1;
+            self.seal(from, number_at(&packet, 3), stamp)?;
+            self.acknowledge(from, inboxes);
+            return Ok(true);
         }
+        let place = self.numbers.inputs as usize;
+        if place == self.inputs.len() {
+            return Ok(false);
+        }
+        let input = std::mem::take(&mut self.inputs[place]);
+        self.handle(OUTSIDE, &input);
+        self.inputs[place] = input;
+        self.seal(OUTSIDE, place as u64 + 1, self.numbers.stamp + 1)?;
         Ok(true)
     }
 
-    fn seal(&mut self, turn: Turn) -> Result<(), Fault> {
-        let count = self.turns.len() as u64 + 1;
-        let pages = self.heap.freeze();
-        let bytes = record(count, &turn, &pages);
-        let log = &mut self.logs[self.current];
-        log.write_through(self.gate + 1, &bytes)?;
-        log.write_through(self.gate, &[OPEN])?;
-        self.gate += bytes.len();
-        self.records += 1;
-        for (page, content) in pages {
-            self.page_turns[page as usize] = count;
-            self.frozen.push_back((count, page, content));
-        }
-        match turn.from {
-            OUTSIDE => self.numbers.inputs = turn.number,
-            from => self.numbers.consumed[usize::from(from)] = turn.number,
-        }
-        self.numbers.stamp = turn.stamp;
-        for message in &turn.sends {
-            self.numbers.sent[usize::from(message.to)] = message.number;
-            self.due[usize::from(message.to)].push_back(message.clone());
-        }
-        for out in &turn.outs {
-            self.numbers.outputs = out.number;
-            self.outs.push_back(out.clone());
-        }
-        self.turns.push(turn);
-        Ok(())
-    }
+    // ---- the outside
 
-    fn patch(&mut self) -> Result<(), Fault> {
-        while let Some((turn, page, content)) = self.frozen.pop_front() {
-            self.image.write(page as usize * PAGE, &content)?;
-            self.patched = turn;
-        }
-        self.image.sync()?;
-        self.settled = self.patched;
-        Ok(())
-    }
-
-    fn send(&mut self, inboxes: &mut [Inbox]) {
+    fn send_due(&mut self, inboxes: &mut [Inbox]) {
         for to in 0..self.nodes {
-            for message in self.due[usize::from(to)].iter().take(MOST_DUE) {
-                self.puts[usize::from(to)] += 1;
-                if !self.acts.contains_key(&(to, self.puts[usize::from(to)])) {
-                    inboxes[usize::from(to)].mail.push_back(mail(self.node, message));
-                }
+            for place in 0..self.due[usize::from(to)].len().min(MOST_DUE) {
+                let message = self.due[usize::from(to)][place];
+                let mut packet = Vec::with_capacity(21 + usize::from(message.text.length));
+                packet.extend([1, self.node, to]);
+                packet.extend(message.number.to_be_bytes());
+                packet.extend(message.stamp.to_be_bytes());
+                put_text(&mut packet, self.text(message.text));
+                self.mail
+                    .put(to, packet, &mut inboxes[usize::from(to)].mail);
             }
         }
     }
 
-    fn hear(&mut self, inboxes: &mut [Inbox]) -> Result<(), Fault> {
-        while let Some(bytes) = inboxes[usize::from(self.node)].acks.pop_front() {
-            if let Packet::Ack { from, through } = decode(&bytes).ok_or(Fault::Packet)? {
-                let due = &mut self.due[usize::from(from)];
-                while due.front().is_some_and(|message| message.number <= through) {
-                    due.pop_front();
-                }
+    fn hear(&mut self, inboxes: &mut [Inbox]) {
+        for _ in 0..MOST_GIVEN {
+            let Some(packet) = inboxes[usize::from(self.node)].acks.pop_front() else {
+                return;
+            };
+            let (due, through) = (&mut self.due[usize::from(packet[1])], number_at(&packet, 3));
+            while due.front().is_some_and(|message| message.number <= through) {
+                due.pop_front();
             }
+        }
+    }
+
+    fn emit(&mut self) -> Result<(), Fault> {
+        while let Some(out) = self.outs.front() {
+            self.outlet_calls += 1;
+            if self.fails.contains(&self.outlet_calls) {
+                if self.refusals == MOST_REFUSALS {
+                    return Err(Fault::Outlet);
+                }
+                self.refusals += 1;
+                return Ok(());
+            }
+            self.refusals = 0;
+            self.most_emitted = self.most_emitted.max(out.number);
+            self.emitted.push(*out);
+            self.outs.pop_front();
         }
         Ok(())
     }
 
-    fn visit(&mut self, inboxes: &mut [Inbox]) -> Result<bool, Fault> {
-        let before = (self.turns.len(), self.emitted.len());
+    fn work(&mut self, inboxes: &mut [Inbox]) -> Result<(), Fault> {
         while self.turn_once(inboxes)? {}
         self.patch()?;
-        self.send(inboxes);
-        self.hear(inboxes)?;
-        self.emitted.extend(self.outs.drain(..));
-        Ok(before != (self.turns.len(), self.emitted.len()))
+        self.send_due(inboxes);
+        self.hear(inboxes);
+        self.emit()
+    }
+
+    /// Restarts until a restart answers, as often as it may be restarted.
+    fn raise(&mut self, most: u64) -> Result<(), Fault> {
+        while self.restarts < most {
+            if self.restart().is_ok() {
+                return Ok(());
+            }
+        }
+        Err(Fault::Disk)
     }
 }
 
-fn words(draws: &[u64]) -> String {
-    match draws {
-        [] => "-".to_string(),
-        _ => draws.iter().map(u64::to_string).collect::<Vec<_>>().join(","),
+/// Fields of a log, one after the other.
+struct Fields<'a> {
+    bytes: &'a [u8],
+    at: usize,
+}
+
+impl<'a> Fields<'a> {
+    fn take(&mut self, count: usize) -> &'a [u8] {
+        self.at += count;
+        &self.bytes[self.at - count..self.at]
+    }
+
+    fn byte(&mut self) -> u8 {
+        self.take(1)[0]
+    }
+
+    fn short(&mut self) -> usize {
+        usize::from(u16::from_be_bytes(
+            self.take(2).try_into().expect("a field"),
+        ))
+    }
+
+    fn length(&mut self) -> usize {
+        u32::from_be_bytes(self.take(4).try_into().expect("a field")) as usize
+    }
+
+    fn number(&mut self) -> u64 {
+        number_at(self.take(8), 0)
+    }
+
+    fn text(&mut self) -> &'a [u8] {
+        let length = self.short();
+        self.take(length)
     }
 }
 
-fn print(out: &mut impl Write, nodes: &[Node]) -> io::Result<()> {
-    let mut turns = BTreeMap::new();
+fn put_text(bytes: &mut Vec<u8>, text: &[u8]) {
+    bytes.extend((text.len() as u16).to_be_bytes());
+    bytes.extend(text);
+}
+
+fn put_pages(bytes: &mut Vec<u8>, pages: &[u32], heap: &Heap) {
+    bytes.extend((pages.len() as u16).to_be_bytes());
+    for page in pages {
+        bytes.extend(page.to_be_bytes());
+        bytes.extend(heap.page(*page));
+    }
+}
+
+// ---- the run
+
+enum Ending {
+    Settled,
+    Cut { waiting: u64 },
+    Down { node: u8 },
+}
+
+/// How much waits for a node.
+fn waiting_for(nodes: &[Node], to: &Node) -> u64 {
+    let place = usize::from(to.node);
+    let mail = nodes
+        .iter()
+        .map(|from| from.numbers.sent[place] - to.numbers.consumed[usize::from(from.node)]);
+    mail.sum::<u64>() + to.inputs.len() as u64 - to.numbers.inputs
+}
+
+/// The ending, where there is nothing more to do.
+fn ending_of(nodes: &[Node]) -> Option<Ending> {
+    let mut waiting = 0;
     for node in nodes {
-        turns.extend(node.turns.iter().map(|turn| ((turn.stamp, node.node), turn)));
+        let waits = waiting_for(nodes, node);
+        if node.most_emitted < node.numbers.outputs || waits > 0 && node.turns.len() < node.cap {
+            return None;
+        }
+        waiting += waits;
     }
-    for ((stamp, node), turn) in &turns {
-        let from = if turn.from == OUTSIDE {
-            "out".to_string()
-        } else {
-            turn.from.to_string()
-        };
-        let line = format!("turn {stamp} {node} {from} {} {}\n", turn.number, words(&turn.draws));
-        out.write_all(line.as_bytes())?;
+    Some(if waiting == 0 {
+        Ending::Settled
+    } else {
+        Ending::Cut { waiting }
+    })
+}
+
+fn play(script: &Script) -> (Vec<Node>, Ending) {
+    let mut nodes: Vec<_> = (0..script.nodes)
+        .map(|node| Node::new(script, node))
+        .collect();
+    let mut inboxes: Vec<_> = nodes.iter().map(|_| Inbox::default()).collect();
+    for place in 0..nodes.len() {
+        let node = &mut nodes[place];
+        if node.create().is_err() && node.raise(script.restarts).is_err() {
+            let node = place as u8;
+            return (nodes, Ending::Down { node });
+        }
+    }
+    loop {
+        for place in 0..nodes.len() {
+            let node = &mut nodes[place];
+            let is_up = match node.work(&mut inboxes) {
+                Ok(()) => true,
+                Err(Fault::Disk) => node.raise(script.restarts).is_ok(),
+                Err(Fault::Outlet) => false,
+            };
+            if !is_up {
+                let node = place as u8;
+                return (nodes, Ending::Down { node });
+            }
+        }
+        if let Some(ending) = ending_of(&nodes) {
+            return (nodes, ending);
+        }
+    }
+}
+
+/// Each line is a write of its own, as Ken's lines are.
+fn print(out: &mut impl Write, nodes: &[Node], waiting: u64) -> io::Result<()> {
+    let mut turns: Vec<_> = nodes
+        .iter()
+        .flat_map(|node| node.turns.iter().map(|turn| (turn.stamp, node.node, turn)))
+        .collect();
+    turns.sort_unstable_by_key(|(stamp, node, _)| (*stamp, *node));
+    let mut line = Vec::new();
+    let mut end = |line: &mut Vec<u8>| {
+        line.push(b'\n');
+        let written = out.write_all(line);
+        line.clear();
+        written
+    };
+    for (stamp, node, turn) in &turns {
+        write!(line, "turn {stamp} {node} ")?;
+        match turn.from {
+            OUTSIDE => write!(line, "out {}", turn.number)?,
+            from => write!(line, "{from} {}", turn.number)?,
+        }
+        match turn.draw_count {
+            0 => write!(line, " -")?,
+            _ => write!(line, " {},{}", turn.draws[0], turn.draws[1])?,
+        }
+        end(&mut line)?;
     }
     for node in nodes {
         for emitted in &node.emitted {
-            let mut line = format!("emit {} {} ", node.node, emitted.number).into_bytes();
-            line.extend(&emitted.text);
-            line.push(b'\n');
-            out.write_all(&line)?;
+            write!(line, "emit {} {} ", node.node, emitted.number)?;
+            line.extend(node.text(emitted.text));
+            end(&mut line)?;
         }
     }
     for node in nodes {
-        out.write_all(format!("heap {} {}\n", node.node, node.heap.root()).as_bytes())?;
-    }
-    let waiting: u64 = nodes
-        .iter()
-        .flat_map(|sender| (0..sender.nodes).map(move |to| (sender, usize::from(to))))
-        .map(|(sender, to)| sender.numbers.sent[to] - nodes[to].numbers.consumed[usize::from(sender.node)])
-        .sum();
-    let end = if waiting == 0 {
-        format!("end settled {}\n", turns.len())
-    } else {
-        format!("end cut {} {waiting}\n", turns.len())
-    };
-    out.write_all(end.as_bytes())
-}
-
-fn play(count: u8, cap: usize) -> Result<Vec<Node>, Fault> {
-    let mut nodes: Vec<_> = (0..count).map(|node| Node::new(node, count, cap)).collect::<Result<_, _>>()?;
-    let mut inboxes: Vec<_> = nodes.iter().map(|_| Inbox::default()).collect();
-    nodes[0].inputs.push_back(ENDLESS.to_vec());
-    loop {
-        let mut goes_on = false;
-        for node in &mut nodes {
-            goes_on |= node.visit(&mut inboxes)?;
-        }
-        if !goes_on {
-            return Ok(nodes);
+        for turns in &node.restart_lines {
+            write!(line, "restart {} at {turns}", node.node)?;
+            end(&mut line)?;
         }
     }
+    for node in nodes {
+        write!(line, "heap {} {}", node.node, node.heap.root())?;
+        for (head, _, length) in node.heap.cells().filter(|(_, _, length)| *length > 0) {
+            write!(line, " {}:{length}", head + HEAD)?;
+        }
+        end(&mut line)?;
+    }
+    match waiting {
+        0 => write!(line, "end settled {}", turns.len())?,
+        _ => write!(line, "end cut {} {waiting}", turns.len())?,
+    }
+    end(&mut line)
 }
 
-fn main() {
-    let words: Vec<usize> = std::env::args().skip(1).map(|word| word.parse().expect("a number")).collect();
-    let [count, cap] = words[..] else {
-        panic!("plain NODES TURNS")
-    };
-    let nodes = play(count as u8, cap).expect("no disk fails");
-    // Without the buffer of `Stdout`: each line is a write of its own, as Ken's lines are.
-    let out = io::stdout().as_fd().try_clone_to_owned().expect("standard output");
-    print(&mut File::from(out), &nodes).expect("a report that can be written");
+fn main() -> ExitCode {
+    let mut bytes = Vec::new();
+    io::stdin().read_to_end(&mut bytes).expect("a script");
+    let (nodes, ending) = play(&Script::read(&bytes));
+    // Without the buffer of `Stdout`.
+    let mut out = File::from(
+        io::stdout()
+            .as_fd()
+            .try_clone_to_owned()
+            .expect("standard output"),
+    );
+    match ending {
+        Ending::Settled => {
+            print(&mut out, &nodes, 0).expect("a report that can be written");
+            ExitCode::SUCCESS
+        }
+        Ending::Cut { waiting } => {
+            print(&mut out, &nodes, waiting).expect("a report that can be written");
+            eprintln!("ken: cut");
+            ExitCode::from(3)
+        }
+        Ending::Down { node } => {
+            eprintln!("ken: node {node} is down");
+            ExitCode::from(5)
+        }
+    }
 }
