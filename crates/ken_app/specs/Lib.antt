@@ -1,3 +1,4 @@
 pub mod Oracles
 pub mod Turning
 pub mod Lending
+pub mod Limits

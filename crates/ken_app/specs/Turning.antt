@@ -1,5 +1,5 @@
 -- A turn that is being made, and the turn that an application has made.
-use Rattle.std.specs.Prelude.{◌≡◌, ℕ, ◌<◌, ◌≤◌, List, [], length, Some, IsSome, IfSome}
+use Rattle.std.specs.Prelude.{◌≡◌, ℕ, ◌<◌, ◌≤◌, List, [], ◌∷◌, ◌++◌, length, nat_lt, if◌then◌else◌, Some, IsSome, IfSome}
 use Rattle.std.specs.List.{AllByRecursion}
 use Rattle.ken_alloc.specs.Objects.{Heap}
 use Rattle.ken_model.specs.declared.messages.Message.{Message}
@@ -55,6 +55,14 @@ pub record IsFresh (t : Turning) : Type 0 where
 -- a text that a message may carry and a turn may output
 abbrev pub IsShortText : List ℕ → Type 0
 IsShortText bytes = length bytes ≤ MAX_TEXT
+
+-- the turn with a text more that it sends, where that goes to a node of the run
+abbrev pub with_send : ℕ → List ℕ → Turning → Turning
+with_send to text t = record t { sends = t.sends ++ (if nat_lt to t.nodes then record { to = to; bytes = text } ∷ [] else []) }
+
+-- the turn with a text more that it outputs
+abbrev pub with_output : List ℕ → Turning → Turning
+with_output text t = record t { outs = t.outs ++ text ∷ [] }
 
 -- an effect within the limits of a turn: few sends and outputs, each short, the sends to nodes of the run
 pub record IsAllowed (nodes : ℕ) (e : Effect) : Type 0 where

@@ -1,5 +1,6 @@
 // What an application is, and how its turns are made.
-ghost use Rattle.std.specs.Prelude.{◌≡◌, Some, OnOk, IfOk, IsSome};
+ghost use Rattle.std.specs.Prelude.{◌≡◌, ◌<◌, ◌^◌, Some, OnOk, IfOk, IsSome};
+ghost use Rattle.std.specs.List.{AllByRecursion};
 ghost use Rattle.ken_model.specs.Handler.{Handler};
 ghost use Rattle.ken_app.specs.Oracles.{Answers, HasAnswered};
 ghost use Rattle.ken_app.specs.Turning.{turning, oracle_of, IsOneTurn, IsPlaced, IsFresh, Allows, IsHandled, first_turning};
@@ -47,6 +48,7 @@ pub fn take_turn<A: App, O: Oracle>(
     ensures handled { IfOk result (λ made. Allows (A.handler app.now) (first_turning node nodes message.now objects.old) made.draws.items
         → (A.handler app.now).after node nodes objects.old.value message.now made.draws.items
         ≡ Some (record { value = objects.new.value; sends = made.sends.items; outs = made.outs.items })) }
+    ensures drawn { IfOk result (λ made. AllByRecursion (λ d. d < 2 ^ 64) made.draws.items) }
     ensures begun { objects.new.begun ≡ objects.old.begun }
     ensures clocks { IfOk result (λ made. Answers (O.telling.clocks oracle.old) (O.telling.clocks oracle.new) ((A.handler app.now).clocks made.draws.items)) }
     ensures words { IfOk result (λ made. Answers (O.telling.words oracle.old) (O.telling.words oracle.new) ((A.handler app.now).words made.draws.items)) }
@@ -57,5 +59,13 @@ pub fn take_turn<A: App, O: Oracle>(
     let mut made = Made::new(alloc);
     let mut turn = Turn::new(node, nodes, message, objects, oracle, &mut made);
     app.on_message(&mut turn)?;
+    are_words(made.draws.as_slice());
     Ok(made)
+}
+
+// What was drawn is words.
+fn are_words(draws: &[u64])
+    ensures { AllByRecursion (λ d. d < 2 ^ 64) draws.now }
+{
+    let _draws = draws;
 }

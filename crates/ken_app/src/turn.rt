@@ -1,16 +1,17 @@
 // A turn that is being made.
-ghost use Rattle.std.specs.Prelude.{◌≡◌, ◌↔◌, ◌<◌, ◌≤◌, [], ◌∷◌, ◌++◌, length, OnOk, OnErr, IfOk, IsErr, IsErrOf};
+ghost use Rattle.std.specs.Prelude.{◌≡◌, ◌↔◌, ◌<◌, ◌≤◌, [], ◌∷◌, ◌++◌, length, decimal, OnOk, OnErr, IfOk, IsErr, IsErrOf};
 ghost use Rattle.ken_model.specs.declared.facts.TheConstants.{MAX_TEXT};
 ghost use Rattle.ken_app.specs.declared.turn.TheConstants.{MAX_DRAWS, MAX_SENDS, MAX_OUTPUTS};
 ghost use Rattle.ken_app.specs.Oracles.{Answers};
-ghost use Rattle.ken_app.specs.Turning.{turning, oracle_of, IsOneTurn};
+ghost use Rattle.ken_app.specs.Turning.{turning, oracle_of, IsOneTurn, IsShortText, with_send, with_output};
 
 use crate::faults::{NoDraw, OutputFault, SendFault};
 use crate::oracle::Oracle;
 use arrayvec::ArrayVec;
+use itoa::Buffer;
 use ken_alloc::Objects;
 use ken_model::{MAX_TEXT, Message, Octets, Send};
-use std::alloc::Global;
+use std::alloc::{AllocError, Global};
 
 /// The most draws of a turn.
 pub const MAX_DRAWS: usize = 16;
@@ -121,9 +122,67 @@ impl<'a, O: Oracle> Turn<'a, O> {
         self.objects
     }
 
+    /// Sends a text to a node. One of more than `MAX_TEXT` bytes, or to no node of the run, is beyond the limits of a turn
+    /// and is passed over. After an error the turn is as before.
+    pub fn send(&mut self, to: u8, text: &[u8]) -> Result<(), AllocError>
+        requires few { length (turning self.old).sends < MAX_SENDS }
+        ensures ok { OnOk result (IsShortText text.now → turning self.new ≡ with_send to text.now (turning self.old)) }
+        ensures too_long { MAX_TEXT < length text.now → turning self.new ≡ turning self.old }
+        ensures err { OnErr result (turning self.new ≡ turning self.old) }
+        ensures rest { turning self.new ≡ record (turning self.old) { sends = (turning self.new).sends } }
+        ensures oracle { oracle_of self.new ≡ oracle_of self.old }
+        ensures same { IsOneTurn self.old self.new }
+    {
+        match self.try_send(to, text) {
+            Err(SendFault::Memory) => Err(AllocError),
+            _ => Ok(()),
+        }
+    }
+
+    /// Sends a number in decimal, as `send` does a text.
+    pub fn send_number(&mut self, to: u8, n: u64) -> Result<(), AllocError>
+        requires few { length (turning self.old).sends < MAX_SENDS }
+        ensures ok { OnOk result (turning self.new ≡ with_send to (decimal n) (turning self.old)) }
+        ensures err { OnErr result (turning self.new ≡ turning self.old) }
+        ensures rest { turning self.new ≡ record (turning self.old) { sends = (turning self.new).sends } }
+        ensures oracle { oracle_of self.new ≡ oracle_of self.old }
+        ensures same { IsOneTurn self.old self.new }
+    {
+        self.send(to, Buffer::new().format(n).as_bytes())
+    }
+
+    /// Outputs a text. One of more than `MAX_TEXT` bytes is beyond the limits of a turn, and is passed over. After an error
+    /// the turn is as before.
+    pub fn output(&mut self, text: &[u8]) -> Result<(), AllocError>
+        requires few { length (turning self.old).outs < MAX_OUTPUTS }
+        ensures ok { OnOk result (IsShortText text.now → turning self.new ≡ with_output text.now (turning self.old)) }
+        ensures too_long { MAX_TEXT < length text.now → turning self.new ≡ turning self.old }
+        ensures err { OnErr result (turning self.new ≡ turning self.old) }
+        ensures rest { turning self.new ≡ record (turning self.old) { outs = (turning self.new).outs } }
+        ensures oracle { oracle_of self.new ≡ oracle_of self.old }
+        ensures same { IsOneTurn self.old self.new }
+    {
+        match self.try_output(text) {
+            Err(OutputFault::Memory) => Err(AllocError),
+            _ => Ok(()),
+        }
+    }
+
+    /// Outputs a number in decimal.
+    pub fn output_number(&mut self, n: u64) -> Result<(), AllocError>
+        requires few { length (turning self.old).outs < MAX_OUTPUTS }
+        ensures ok { OnOk result (turning self.new ≡ with_output (decimal n) (turning self.old)) }
+        ensures err { OnErr result (turning self.new ≡ turning self.old) }
+        ensures rest { turning self.new ≡ record (turning self.old) { outs = (turning self.new).outs } }
+        ensures oracle { oracle_of self.new ≡ oracle_of self.old }
+        ensures same { IsOneTurn self.old self.new }
+    {
+        self.output(Buffer::new().format(n).as_bytes())
+    }
+
     /// Sends a message of at most `MAX_TEXT` bytes to a node. The faults are tried in their order, and after each the
     /// turn is as before.
-    pub fn send(&mut self, to: u8, bytes: &[u8]) -> Result<(), SendFault>
+    pub fn try_send(&mut self, to: u8, bytes: &[u8]) -> Result<(), SendFault>
         ensures ok { OnOk result (turning self.new ≡ record (turning self.old) { sends = (turning self.old).sends ++ record { to = to; bytes = bytes.now } ∷ [] }) }
         ensures err { OnErr result (turning self.new ≡ turning self.old) }
         ensures no_node { IsErrOf result SendFault.NoNode ↔ ((turning self.old).nodes ≤ to) }
@@ -151,7 +210,7 @@ impl<'a, O: Oracle> Turn<'a, O> {
 
     /// Outputs a text of at most `MAX_TEXT` bytes. The faults are tried in their order, and after each the turn is as
     /// before.
-    pub fn output(&mut self, text: &[u8]) -> Result<(), OutputFault>
+    pub fn try_output(&mut self, text: &[u8]) -> Result<(), OutputFault>
         ensures ok { OnOk result (turning self.new ≡ record (turning self.old) { outs = (turning self.old).outs ++ text.now ∷ [] }) }
         ensures err { OnErr result (turning self.new ≡ turning self.old) }
         ensures too_long { IsErrOf result OutputFault.TooLong ↔ (MAX_TEXT < length text.now) }

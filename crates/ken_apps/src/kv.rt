@@ -6,7 +6,6 @@ ghost use Rattle.ken_model.specs.Kinds.{handler_of};
 ghost use Rattle.ken_model.specs.KeyValue.{Put, Get, Delete, kv};
 ghost use Rattle.ken_app.specs.Turning.{turning, oracle_of, IsOneTurn, IsFresh, IsAllowed, Allows, IsHandled};
 
-use crate::answers::{output, refuse};
 use crate::pairs;
 use ken_app::{Oracle, Turn};
 use ken_model::{Command, MAX_TEXT};
@@ -24,10 +23,10 @@ pub(crate) fn on_message<O: Oracle>(turn: &mut Turn<'_, O>) -> Result<(), AllocE
     ensures same { IsOneTurn turn.old turn.new }
 {
     if turn.message().bytes.len() > MAX_TEXT {
-        return refuse(turn);
+        return turn.output(b"bad");
     }
     match Command::of(turn.message().bytes.as_slice()) {
-        None => refuse(turn),
+        None => turn.output(b"bad"),
         Some(Command::Put { key, pair }) => put(turn, key, pair),
         Some(Command::Get { key }) => get(turn, key),
         Some(Command::Delete { key }) => delete(turn, key),
@@ -47,7 +46,7 @@ fn put<O: Oracle>(turn: &mut Turn<'_, O>, key: &[u8], pair: &[u8]) -> Result<(),
     ensures same { IsOneTurn turn.old turn.new }
 {
     let kept = pairs::put(turn.objects(), key, pair)?;
-    output(turn, if kept { b"ok" } else { b"full" })
+    turn.output(if kept { b"ok" } else { b"full" })
 }
 
 /// Outputs the text of a key, or as much of it as an output may have.
@@ -63,8 +62,8 @@ fn get<O: Oracle>(turn: &mut Turn<'_, O>, key: &[u8]) -> Result<(), AllocError>
 {
     let mut buf = [0; MAX_TEXT];
     match pairs::get(turn.objects(), key, &mut buf) {
-        Some(text) => output(turn, text),
-        None => output(turn, b"none"),
+        Some(text) => turn.output(text),
+        None => turn.output(b"none"),
     }
 }
 
@@ -80,5 +79,5 @@ fn delete<O: Oracle>(turn: &mut Turn<'_, O>, key: &[u8]) -> Result<(), AllocErro
     ensures same { IsOneTurn turn.old turn.new }
 {
     let gone = pairs::delete(turn.objects(), key)?;
-    output(turn, if gone { b"ok" } else { b"none" })
+    turn.output(if gone { b"ok" } else { b"none" })
 }

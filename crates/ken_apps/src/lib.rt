@@ -1,7 +1,6 @@
 //! The handlers of Ken's kinds.
 #![tactic(auto)]
 
-mod answers;
 mod kind_app;
 mod kv;
 mod mix;

@@ -5,7 +5,6 @@ ghost use Rattle.ken_model.specs.Kinds.{handler_of, clocks_in, words_in};
 ghost use Rattle.ken_app.specs.Oracles.{Answers, HasAnswered};
 ghost use Rattle.ken_app.specs.Turning.{turning, oracle_of, IsOneTurn, IsFresh, IsHandled};
 
-use crate::answers::{output_number, refuse, send_number};
 use ken_app::{Oracle, Turn};
 use ken_num::num;
 use std::alloc::AllocError;
@@ -25,16 +24,16 @@ pub(crate) fn on_message<O: Oracle>(turn: &mut Turn<'_, O>) -> Result<(), AllocE
     ensures same { IsOneTurn turn.old turn.new }
 {
     let Some(count) = num(turn.message().bytes.as_slice()) else {
-        return refuse(turn);
+        return turn.output(b"bad");
     };
     let (Ok(reading), Ok(word)) = (turn.clock(), turn.word()) else {
         unreachable!()
     };
     turn.objects().set_root(reading)?;
-    output_number(turn, word % 1000)?;
+    turn.output_number(word % 1000)?;
     if count > 0 {
         let to = (word % u64::from(turn.nodes())) as u8;
-        send_number(turn, to, count - 1)?;
+        turn.send_number(to, count - 1)?;
     }
     Ok(())
 }

@@ -4,7 +4,6 @@ ghost use Rattle.ken_model.specs.declared.kinds.Kind.TheVariants.{Ring};
 ghost use Rattle.ken_model.specs.Kinds.{handler_of};
 ghost use Rattle.ken_app.specs.Turning.{turning, oracle_of, IsOneTurn, IsFresh, IsHandled};
 
-use crate::answers::{output_number, refuse, send_number};
 use ken_app::{Oracle, Turn};
 use ken_num::num;
 use std::alloc::AllocError;
@@ -19,14 +18,14 @@ pub(crate) fn on_message<O: Oracle>(turn: &mut Turn<'_, O>) -> Result<(), AllocE
     ensures same { IsOneTurn turn.old turn.new }
 {
     let Some(count) = num(turn.message().bytes.as_slice()) else {
-        return refuse(turn);
+        return turn.output(b"bad");
     };
     let root = turn.objects().root();
     turn.objects().set_root(root.wrapping_add(1))?;
-    output_number(turn, count)?;
+    turn.output_number(count)?;
     if count > 0 {
         let next = (turn.node() + 1) % turn.nodes();
-        send_number(turn, next, count - 1)?;
+        turn.send_number(next, count - 1)?;
     }
     Ok(())
 }

@@ -4,7 +4,6 @@ ghost use Rattle.ken_model.specs.declared.kinds.Kind.TheVariants.{Share};
 ghost use Rattle.ken_model.specs.Kinds.{handler_of};
 ghost use Rattle.ken_app.specs.Turning.{turning, oracle_of, IsOneTurn, IsFresh, IsHandled};
 
-use crate::answers::{output_number, refuse, send_number};
 use ken_app::{Oracle, Turn};
 use ken_num::num;
 use std::alloc::AllocError;
@@ -19,15 +18,15 @@ pub(crate) fn on_message<O: Oracle>(turn: &mut Turn<'_, O>) -> Result<(), AllocE
     ensures same { IsOneTurn turn.old turn.new }
 {
     let Some(amount) = num(turn.message().bytes.as_slice()) else {
-        return refuse(turn);
+        return turn.output(b"bad");
     };
     let half = amount / 2;
     let root = turn.objects().root();
     turn.objects().set_root(root.wrapping_add(amount - half))?;
-    output_number(turn, amount)?;
+    turn.output_number(amount)?;
     if half > 0 {
         let next = (turn.node() + 1) % turn.nodes();
-        send_number(turn, next, half)?;
+        turn.send_number(next, half)?;
     }
     Ok(())
 }

@@ -6,7 +6,6 @@ ghost use Rattle.ken_model.specs.Kinds.{handler_of};
 ghost use Rattle.ken_model.specs.Kinds.{to_others};
 ghost use Rattle.ken_app.specs.Turning.{turning, oracle_of, IsOneTurn, IsFresh, IsHandled};
 
-use crate::answers::{output_number, refuse, send};
 use ken_app::{Oracle, Turn};
 use ken_model::OUTSIDE;
 use ken_num::num;
@@ -23,11 +22,11 @@ pub(crate) fn on_message<O: Oracle>(turn: &mut Turn<'_, O>) -> Result<(), AllocE
 {
     let message = turn.message();
     let Some(amount) = num(message.bytes.as_slice()) else {
-        return refuse(turn);
+        return turn.output(b"bad");
     };
     let sum = turn.objects().root().wrapping_add(amount);
     turn.objects().set_root(sum)?;
-    output_number(turn, sum)?;
+    turn.output_number(sum)?;
     if message.from == OUTSIDE {
         send_to_others(turn, message.bytes.as_slice())?;
     }
@@ -46,7 +45,7 @@ fn send_to_others<O: Oracle>(turn: &mut Turn<'_, O>, text: &[u8]) -> Result<(), 
 {
     for to in 0..turn.nodes() {
         if to != turn.node() {
-            send(turn, to, text)?;
+            turn.send(to, text)?;
         }
     }
     Ok(())

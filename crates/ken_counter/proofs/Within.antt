@@ -30,7 +30,7 @@ abbrev Keeps : Option Effect → Type 0
 Keeps o = IfSome o (λ (e : Effect). IsKept e.value)
 
 -- a reading leaves the limit
-reading_leaves : (bytes : List ℕ) (clock : ℕ) → length bytes ≡ 16 → (length (written bytes 8 (big_bytes 8 clock)) ≡ 16) × (take 8 (written bytes 8 (big_bytes 8 clock)) ≡ take 8 bytes)
+pub reading_leaves : (bytes : List ℕ) (clock : ℕ) → length bytes ≡ 16 → (length (written bytes 8 (big_bytes 8 clock)) ≡ 16) × (take 8 (written bytes 8 (big_bytes 8 clock)) ≡ take 8 bytes)
 reading_leaves bytes clock is =
     let wide : length (big_bytes 8 clock) ≡ 8 = length-bytes_high_first 8 clock in
     let front : length (take 8 bytes) ≡ 8 = length-take-le 8 bytes (omega (arith, is)) in (

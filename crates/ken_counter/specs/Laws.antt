@@ -10,6 +10,7 @@ use Rattle.ken_model.specs.History.{InAccord, IsHistory}
 use Rattle.ken_model.specs.Laws.{IsPlayed}
 use Rattle.ken_model.specs.Network.{Network, Turn}
 use Rattle.ken_model.specs.Schedule.{play}
+use Rattle.ken_app.specs.Limits.{KeepsLimits}
 use Rattle.ken_counter.specs.Counter.{counter}
 
 -- a run of the counter and its clients
@@ -31,3 +32,7 @@ CounterAgreementIsLegal = (nodes size turns : ℕ) (inputs : List Input) (h : �
 -- no count is ever past its limit
 abbrev pub LimitIsKept : Type 0
 LimitIsKept = (nodes size turns : ℕ) (inputs : List Input) (schedule : List Step) → AreWithin (play (game_with nodes size turns inputs) schedule)
+
+-- the counter keeps the limits of a turn at each node, so nodes can run it
+abbrev pub CounterKeepsLimits : Type 0
+CounterKeepsLimits = (nodes size : ℕ) → KeepsLimits nodes size counter

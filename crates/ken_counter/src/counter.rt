@@ -2,7 +2,6 @@
 ghost use Rattle.std.specs.Prelude.{◌≡◌};
 ghost use Rattle.ken_counter.specs.Counter.{counter};
 
-use crate::answers::{output, output_number, send, send_number};
 use crate::limit;
 use ken_app::{App, Oracle, Turn};
 use ken_model::OUTSIDE;
@@ -23,26 +22,26 @@ impl App for Counter {
         let text = message.bytes.as_slice();
         if turn.node() != 0 {
             return if message.from == OUTSIDE {
-                send(turn, 0, text)
+                turn.send(0, text)
             } else {
-                output(turn, text)
+                turn.output(text)
             };
         }
         let Some(n) = num(text) else {
-            return output(turn, b"bad");
+            return turn.output(b"bad");
         };
         if limit::is_unset(turn.objects()) {
             let is_set = limit::set(turn.objects(), n)?;
-            return output(turn, if is_set { b"limit" } else { b"full" });
+            return turn.output(if is_set { b"limit" } else { b"full" });
         }
         let Some(count) = limit::count_with(turn.objects(), n) else {
-            return output(turn, b"full");
+            return turn.output(b"full");
         };
         let (Ok(reading), Ok(word)) = (turn.clock(), turn.word()) else {
             unreachable!()
         };
         limit::keep(turn.objects(), count, reading)?;
-        output_number(turn, count)?;
-        send_number(turn, message.from, word)
+        turn.output_number(count)?;
+        turn.send_number(message.from, word)
     }
 }

@@ -1,4 +1,4 @@
-use Rattle.std.proofs.Common.{◌≡◌, ◌<◌, ◌+◌, List, ℕ, length, take, drop, Option, Some, None, IfSome, ap, ◌∙◌, arith}
+use Rattle.std.proofs.Common.{◌≡◌, ◌<◌, List, ℕ, length, take, drop, Option, Some, None, IfSome, ap, ◌∙◌, arith}
 use Rattle.std.proofs.lemmas.List.{length-take, length-replicate}
 use Rattle.ken_model.specs.KeyValue.{at_space, is_key}
 use Rattle.ken_apps.proofs.Keys.{key_of_front}

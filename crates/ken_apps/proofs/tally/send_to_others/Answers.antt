@@ -1,9 +1,9 @@
-use Rattle.std.proofs.Common.{◌≡◌, ℕ, List, [], ◌∷◌, ◌++◌, length, sym, ap, subst, ◌∙◌, arith}
+use Rattle.std.proofs.Common.{◌≡◌, ℕ, List, [], ◌∷◌, ◌++◌, length, true, nat_lt, lt-ltb, if◌then◌else◌, sym, ap, subst, ◌∙◌, arith}
 use Rattle.std.proofs.lemmas.List.{length_push}
 use Rattle.ken_model.specs.declared.messages.Send.{Send}
 use Rattle.ken_model.specs.Kinds.{to_others}
 use Rattle.ken_model.proofs.Others.{to_others-other, to_others-same}
-use Rattle.ken_app.specs.Turning.{Turning, turning, oracle_of, IsOneTurn}
+use Rattle.ken_app.specs.Turning.{Turning, turning, oracle_of, with_send, IsOneTurn}
 use Rattle.ken_apps.proofs.tally.send_to_others.Goals as goal
 use Rattle.ken_apps.proofs.tally.send_to_others.Goals.{then-to-node+in_ok-send, else-to-node}
 
@@ -18,11 +18,13 @@ loop-to-preserved g c =
     elim c.if-to-node.branch [
       | then-to-node+in_ok-send w ↦ (let one : List Send = record { to = to; bytes = text } ∷ [] in
           let sent = w.in_ok-send.ensures in
-          let now : turning w.send.new.turn ≡ with (to_others first.node to text ++ one) = sent.ok ∙ ap (λ (t : Turning). record t { sends = t.sends ++ one }) inv.so_far in
+          let in_run : nat_lt to first.nodes ≡ true = lt-ltb to first.nodes (omega (arith, c.loop-to-test.true, c.nodes-to-end.ensures)) in
+          let added : turning w.send.new.self ≡ with_send to text (turning c.loop-to.turn) = sent.ok c.requires.short in
+          let now : turning w.send.new.self ≡ with (to_others first.node to text ++ one) = added ∙ ap (with_send to text) inv.so_far ∙ ap (λ b. with (to_others first.node to text ++ (if b then one else []))) in_run in
           let turn_is = w.turn-is in
           record {
             so_far = ap turning turn_is ∙ now ∙ ap with (sym (to_others-other first.node to text (λ same. w.if-to-node.true (same ∙ sym node))));
-            few = omega (arith, inv.few, ap (λ (t : Turning). length t.sends) (ap turning turn_is ∙ sent.ok), length_push (turning c.loop-to.turn).sends (record { to = to; bytes = text }));
+            few = omega (arith, ap (λ (t : Turning). length t.sends) (ap turning turn_is ∙ now), ap (λ (t : Turning). length t.sends) inv.so_far, inv.few, length_push (to_others first.node to text) (record { to = to; bytes = text }));
             oracle = ap oracle_of turn_is ∙ sent.oracle ∙ inv.oracle;
             same = subst (IsOneTurn c.args.turn.now) (sym turn_is) (record { objects = sent.same.objects ∙ inv.same.objects; oracle = sent.same.oracle ∙ inv.same.oracle; made = sent.same.made ∙ inv.same.made });
           })
