@@ -84,17 +84,17 @@ module _ {D : Type 0} (told : D → Option Story) where
       }
 
   module _ (count : D → ℕ) (fate : D → Option Fate) where
-    pub restarted-rest : (old new : Disks D) → WereRestarted told count fate old new → AreAtRest told new
-    restarted-rest old new were = record {
+    pub restarted-rest : (pick : ℕ) (old new : Disks D) → WereRestarted told count fate pick old new → AreAtRest told new
+    restarted-rest pick old new were = record {
       log = down-rests (told old.log) (told new.log) were.log.story;
       image = down-rests (told old.image) (told new.image) were.image.story;
       second = down-rests (told old.second) (told new.second) were.second.story;
     }
 
     -- what becomes of the disks in a restart
-    pub restarts-by : {T : Type 0} (r : Result T NodeFault) (old mid new : Disks D) → WereRestarted told count fate old mid → RecoversBy told count fate r mid new → RestartsBy told count fate r old new
-    restarts-by (Ok x) old mid new were by = (mid, (were, by))
-    restarts-by (Err Disk) old mid new were by = (mid, (were, by))
-    restarts-by (Err (Damaged n place)) old mid new were by = (mid, (were, by))
-    restarts-by (Err Memory) old mid new were by = (by.log.count ∙ were.log.faults, by.image.count ∙ were.image.faults, by.second.count ∙ were.second.faults)
-    restarts-by (Err Outlet) old mid new were by = by
+    pub restarts-by : {T : Type 0} (pick : ℕ) (r : Result T NodeFault) (old mid new : Disks D) → WereRestarted told count fate pick old mid → RecoversBy told count fate r mid new → RestartsBy told count fate pick r old new
+    restarts-by pick (Ok x) old mid new were by = (mid, (were, by))
+    restarts-by pick (Err Disk) old mid new were by = (mid, (were, by))
+    restarts-by pick (Err (Damaged n place)) old mid new were by = (mid, (were, by))
+    restarts-by pick (Err Memory) old mid new were by = (by.log.count ∙ were.log.faults, by.image.count ∙ were.image.faults, by.second.count ∙ were.second.faults)
+    restarts-by pick (Err Outlet) old mid new were by = by

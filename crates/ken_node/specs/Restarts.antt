@@ -24,6 +24,7 @@ use Rattle.ken_ship.specs.Parts.{part_of}
 use Rattle.ken_node.specs.declared.patcher.PatchWorker.{PatchWorker}
 use Rattle.ken_node.specs.declared.stage.Stage.{Stage}
 use Rattle.ken_node.specs.declared.stage.Stage.TheVariants.{Created}
+use Rattle.ken_node.specs.declared.watched.Watched.{Watched}
 use Rattle.ken_node.specs.declared.worker.TurnWorker.{TurnWorker}
 use Rattle.ken_node.specs.Created.{nothing_told}
 use Rattle.ken_node.specs.Down.{AreTold}
@@ -72,18 +73,23 @@ pub record IsUpAgain {D : Type 0} (told : D → Option Story) (size : D → ℕ)
   pub empty : AreEmpty handler patcher sender
   pub tell : AreTold told (disks_apart handler.side patcher.side)
 
+-- the pick for a restart: the one that the lowest disk proposes which has failed since the last try of a restart, or 0
+abbrev pub pick_of : {D : Type 0} → (Watched D → ℕ) → Disks (Watched D) → ℕ
+pick_of hinted disks = if disks.log.failed then hinted disks.log
+    else (if disks.image.failed then hinted disks.image else (if disks.second.failed then hinted disks.second else 0))
+
 module _ {D : Type 0} (told : D → Option Story) (count : D → ℕ) (fate : D → Option Fate) where
-  -- a disk was restarted
-  pub record WasRestarted (old new : D) : Type 0 where
+  -- a disk was restarted with this pick
+  pub record WasRestarted (pick : ℕ) (old new : D) : Type 0 where
     pub story : Follows WentDown (told old) (told new)
-    pub falls : Follows Raised (fate old) (fate new)
+    pub falls : Follows (Raised pick) (fate old) (fate new)
     pub faults : count new ≡ count old
 
-  -- all disks of a node were
-  pub record WereRestarted (old new : Disks D) : Type 0 where
-    pub log : WasRestarted old.log new.log
-    pub image : WasRestarted old.image new.image
-    pub second : WasRestarted old.second new.second
+  -- all disks of a node were, with one pick
+  pub record WereRestarted (pick : ℕ) (old new : Disks D) : Type 0 where
+    pub log : WasRestarted pick old.log new.log
+    pub image : WasRestarted pick old.image new.image
+    pub second : WasRestarted pick old.second new.second
 
   -- no call of them failed since, or one of one disk did
   pub record AreUnfailed (old new : Disks D) : Type 0 where
@@ -97,10 +103,10 @@ module _ {D : Type 0} (told : D → Option Story) (count : D → ℕ) (fate : D 
       ⊎ ((IsUnfailed count fate old.log new.log × HasFailed count fate old.image new.image × IsUnfailed count fate old.second new.second)
       ⊎ (IsUnfailed count fate old.log new.log × IsUnfailed count fate old.image new.image × HasFailed count fate old.second new.second))
 
-  -- what became of them, by the answer: where memory ran out, only that no fault was counted
-  abbrev pub RestartsBy : {T : Type 0} → Result T NodeFault → Disks D → Disks D → Type 0
-  RestartsBy (Ok x) old new = (mid : Disks D) × (WereRestarted old mid × AreUnfailed mid new)
-  RestartsBy (Err Disk) old new = (mid : Disks D) × (WereRestarted old mid × OneHasFailed mid new)
-  RestartsBy (Err (Damaged n place)) old new = (mid : Disks D) × (WereRestarted old mid × AreUnfailed mid new)
-  RestartsBy (Err Memory) old new = (count new.log ≡ count old.log) × (count new.image ≡ count old.image) × (count new.second ≡ count old.second)
-  RestartsBy (Err Outlet) old new = ⊥
+  -- what became of them in a restart with this pick, by the answer: where memory ran out, only that no fault was counted
+  abbrev pub RestartsBy : {T : Type 0} → ℕ → Result T NodeFault → Disks D → Disks D → Type 0
+  RestartsBy pick (Ok x) old new = (mid : Disks D) × (WereRestarted pick old mid × AreUnfailed mid new)
+  RestartsBy pick (Err Disk) old new = (mid : Disks D) × (WereRestarted pick old mid × OneHasFailed mid new)
+  RestartsBy pick (Err (Damaged n place)) old new = (mid : Disks D) × (WereRestarted pick old mid × AreUnfailed mid new)
+  RestartsBy pick (Err Memory) old new = (count new.log ≡ count old.log) × (count new.image ≡ count old.image) × (count new.second ≡ count old.second)
+  RestartsBy pick (Err Outlet) old new = ⊥

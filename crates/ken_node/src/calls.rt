@@ -1,5 +1,5 @@
 // A call of a node's handler.
-ghost use Rattle.std.specs.Prelude.{◌≡◌, ◌*◌, ◌<◌, ℕ, List};
+ghost use Rattle.std.specs.Prelude.{◌≡◌, ◌*◌, ◌<◌, ◌⊎◌, ℕ, List, IfOk};
 ghost use Rattle.ken_app.specs.Oracles.{Answers, HasAnswered};
 ghost use Rattle.ken_links.specs.Rings.{free};
 ghost use Rattle.ken_node.specs.Calls.{TakesTurn};
@@ -41,6 +41,7 @@ impl<D: Disk> TurnWorker<D> {
         ensures clocks_go_on { HasAnswered (O.telling.clocks oracle.old) (O.telling.clocks oracle.new) }
         ensures words_go_on { HasAnswered (O.telling.words oracle.old) (O.telling.words oracle.new) }
         ensures origin { O.telling.origin oracle.new ≡ O.telling.origin oracle.old }
+        ensures undrawn { IfOk result (λ took. (took ≡ Took.Turn) ⊎ (oracle.new ≡ oracle.old)) }
     {
         self.hear_news();
         if self.is_capped() {
@@ -67,6 +68,7 @@ impl<D: Disk> TurnWorker<D> {
         ensures clocks_go_on { HasAnswered (O.telling.clocks oracle.old) (O.telling.clocks oracle.new) }
         ensures words_go_on { HasAnswered (O.telling.words oracle.old) (O.telling.words oracle.new) }
         ensures origin { O.telling.origin oracle.new ≡ O.telling.origin oracle.old }
+        ensures undrawn { IfOk result (λ took. (took ≡ Took.Turn) ⊎ (oracle.new ≡ oracle.old)) }
     {
         answered(self.renew())?;
         match self.find(net)? {

@@ -145,7 +145,7 @@ impl<D: Disk> Node<Watched<D>> {
     ghost use Rattle.ken_store.specs.declared.disks.Disks.{Disks as Has};
     ghost use Rattle.ken_node.specs.Down.{IsDown, MayRestart};
     ghost use Rattle.ken_node.specs.Faults.{IsFaultOfWorker};
-    ghost use Rattle.ken_node.specs.Restarts.{IsUpAgain, RestartsBy};
+    ghost use Rattle.ken_node.specs.Restarts.{IsUpAgain, RestartsBy, pick_of};
     ghost use Rattle.ken_node.specs.Stages.{HasDisks, emissions_in, refusals_in};
     ghost use Rattle.ken_node.specs.Synced.{IsSynced};
 
@@ -161,7 +161,7 @@ impl<D: Disk> Node<Watched<D>> {
         ensures sound { IsFaultOfWorker result }
         ensures emissions { emissions_in self.new.stage ≡ emissions_in self.old.stage }
         ensures refusals { refusals_in self.new.stage ≤ refusals_in self.old.stage }
-        ensures disks { (old new : Has (Watched D)) → HasDisks old self.old.stage → HasDisks new self.new.stage → RestartsBy ⟦<Watched<D> as Disk>⟧.told ⟦<Watched<D> as Disk>⟧.faults ⟦<Watched<D> as Disk>⟧.fate result old new }
+        ensures disks { (old new : Has (Watched D)) → HasDisks old self.old.stage → HasDisks new self.new.stage → RestartsBy ⟦<Watched<D> as Disk>⟧.told ⟦<Watched<D> as Disk>⟧.faults ⟦<Watched<D> as Disk>⟧.fate (pick_of ⟦<Watched<D> as Disk>⟧.hinted old) result old new }
     {
         let (stage, result) = mem::replace(&mut self.stage, Stage::Moved).restarted();
         match mem::replace(&mut self.stage, stage) {

@@ -16,7 +16,7 @@ ghost use Rattle.ken_node.specs.Faults.{IsFaultOfWorker};
 ghost use Rattle.ken_node.specs.Meeting.{AreJoined};
 ghost use Rattle.ken_node.specs.News.{AreInputs};
 ghost use Rattle.ken_node.specs.Restarting.{GoesOn, HaveCounts, IsCreatedAnew, IsPutBack, LeaveLess, RecoversBy, none_made, stage_of};
-ghost use Rattle.ken_node.specs.Restarts.{IsUpAgain, RestartsBy, WereRestarted};
+ghost use Rattle.ken_node.specs.Restarts.{IsUpAgain, RestartsBy, WereRestarted, pick_of};
 ghost use Rattle.ken_node.specs.Stages.{HasDisks, IsUncreated, MayBeCreated, emissions_in, refusals_in, turns_in};
 ghost use Rattle.ken_node.specs.Synced.{IsSynced, KeepSyncs, LeavesSynced};
 ghost use Rattle.ken_node.specs.Whole.{AreOfRun};
@@ -36,12 +36,18 @@ use ken_ship::{NodeFault, SendWorker};
 use ken_store::{Disks, Recovered, Store, recover};
 use std::alloc::AllocError;
 
-// The pick that the lowest disk proposes which has failed since it was last restarted, or 0.
-fn pick_of<D: Disk>(disks: &Disks<Watched<D>>) -> u64 {
-    let all = [&disks.log, &disks.image, &disks.second];
-    match all.iter().find(|disk| disk.has_failed()) {
-        Some(disk) => disk.hint(),
-        None => 0,
+// The pick that the lowest disk proposes which has failed since the last try of a restart, or 0.
+fn pick_of<D: Disk>(disks: &Disks<Watched<D>>) -> u64
+    ensures { result ≡ pick_of ⟦<Watched<D> as Disk>⟧.hinted disks.now }
+{
+    if disks.log.has_failed() {
+        disks.log.hint()
+    } else if disks.image.has_failed() {
+        disks.image.hint()
+    } else if disks.second.has_failed() {
+        disks.second.hint()
+    } else {
+        0
     }
 }
 
@@ -56,7 +62,7 @@ impl<D: Disk> Stage<Watched<D>> {
         ensures sound { IsFaultOfWorker result.1 }
         ensures emissions { emissions_in result.0 ≡ emissions_in self }
         ensures refusals { refusals_in result.0 ≤ refusals_in self }
-        ensures disks { (old new : Has (Watched D)) → HasDisks old self → HasDisks new result.0 → RestartsBy ⟦<Watched<D> as Disk>⟧.told ⟦<Watched<D> as Disk>⟧.faults ⟦<Watched<D> as Disk>⟧.fate result.1 old new }
+        ensures disks { (old new : Has (Watched D)) → HasDisks old self → HasDisks new result.0 → RestartsBy ⟦<Watched<D> as Disk>⟧.told ⟦<Watched<D> as Disk>⟧.faults ⟦<Watched<D> as Disk>⟧.fate (pick_of ⟦<Watched<D> as Disk>⟧.hinted old) result.1 old new }
     {
         match self.taken_apart() {
             Ok((disks, parts)) => {
@@ -107,7 +113,7 @@ fn parted<D: Disk>(
 
 // Restarts each disk of a node. After an error, which is want of memory, some of them were restarted.
 fn restart_all<D: Disk>(disks: &mut Disks<D>, pick: u64) -> Result<(), AllocError>
-    ensures ok { OnOk result (WereRestarted D.told D.faults D.fate disks.old disks.new) }
+    ensures ok { OnOk result (WereRestarted D.told D.faults D.fate pick disks.old disks.new) }
     ensures leave { LeaveLess D.told disks.old disks.new }
     ensures counts { HaveCounts D.faults disks.old disks.new }
     ensures syncs { KeepSyncs D.told disks.old disks.new }
@@ -131,7 +137,7 @@ fn up_again<D: Disk>(
     ensures sound { IsFaultOfWorker result.1 }
     ensures emissions { emissions_in result.0 ≡ (part_of parts.sends).emissions }
     ensures refusals { refusals_in result.0 ≤ (part_of parts.sends).refusals }
-    ensures disks { (new : Has D) → HasDisks new result.0 → RestartsBy D.told D.faults D.fate result.1 disks new }
+    ensures disks { (new : Has D) → HasDisks new result.0 → RestartsBy D.told D.faults D.fate pick result.1 disks new }
 {
     match restart_all(&mut disks, pick) {
         Ok(()) => recovered(disks, parts),

@@ -11,7 +11,7 @@ use ken_ship::{Emit, NodeFault, Outlet};
 use std::alloc::AllocError;
 
 impl<D: Disk> Node<D> {
-    ghost use Rattle.std.specs.Prelude.{◌≡◌, [], ℕ, List, OnOk};
+    ghost use Rattle.std.specs.Prelude.{◌≡◌, ◌⊎◌, [], ℕ, List, IfOk, OnOk};
     ghost use Rattle.ken_app.specs.Oracles.{Answers, HasAnswered};
     ghost use Rattle.ken_model.specs.declared.messages.Out.{Out};
     ghost use Rattle.ken_model.specs.Game.{Game};
@@ -47,6 +47,7 @@ impl<D: Disk> Node<D> {
         ensures clocks_go_on { HasAnswered (O.telling.clocks oracle.old) (O.telling.clocks oracle.new) }
         ensures words_go_on { HasAnswered (O.telling.words oracle.old) (O.telling.words oracle.new) }
         ensures origin { O.telling.origin oracle.new ≡ O.telling.origin oracle.old }
+        ensures undrawn { IfOk result (λ took. (took ≡ Took.Turn) ⊎ (oracle.new ≡ oracle.old)) }
     {
         match &mut self.stage {
             Stage::Created(turns, patches, sends) => {

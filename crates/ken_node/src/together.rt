@@ -1,5 +1,5 @@
 // Calls of a node's workers side by side: after each they meet.
-ghost use Rattle.std.specs.Prelude.{◌≡◌, [], ℕ, List, OnOk};
+ghost use Rattle.std.specs.Prelude.{◌≡◌, ◌⊎◌, [], ℕ, List, IfOk, OnOk};
 ghost use Rattle.ken_app.specs.Oracles.{Answers, HasAnswered};
 ghost use Rattle.ken_model.specs.declared.messages.Out.{Out};
 ghost use Rattle.ken_model.specs.Game.{Game};
@@ -140,6 +140,7 @@ pub(crate) fn turn<D: Disk, N: Net, A: App, O: Oracle>(
     ensures clocks_go_on { HasAnswered (O.telling.clocks oracle.old) (O.telling.clocks oracle.new) }
     ensures words_go_on { HasAnswered (O.telling.words oracle.old) (O.telling.words oracle.new) }
     ensures origin { O.telling.origin oracle.new ≡ O.telling.origin oracle.old }
+    ensures undrawn { IfOk result (λ took. (took ≡ Took.Turn) ⊎ (oracle.new ≡ oracle.old)) }
 {
     let answer = turns.turn_once(net, app, oracle);
     meet(turns, patches, sends)?;

@@ -71,6 +71,8 @@ impl<D: Disk> Disk for Watched<D> {
 
     ghost ready = { λ w. D.ready w.disk };
 
+    ghost hinted = { λ w. D.hinted w.disk };
+
     ghost sized = { λ w h told. D.sized w.disk h told };
 
     fn len(&self) -> u64 {
@@ -124,7 +126,7 @@ impl<D: Disk> Disk for Watched<D> {
 
     fn restart(&mut self, pick: u64) -> Result<(), AllocError>
         ensures story { OnOk result (Follows WentDown (D.told self.old.disk) (D.told self.new.disk)) }
-        ensures fate { OnOk result (Follows Raised (D.fate self.old.disk) (D.fate self.new.disk)) }
+        ensures fate { OnOk result (Follows (Raised pick) (D.fate self.old.disk) (D.fate self.new.disk)) }
         ensures memory { OnErr result (D.told self.new.disk ≡ D.told self.old.disk) }
         ensures no_fall { OnErr result (D.fate self.new.disk ≡ D.fate self.old.disk) }
         ensures size { OnErr result (D.size self.new.disk ≡ D.size self.old.disk) }

@@ -5,8 +5,10 @@ use Rattle.ken_ship.specs.declared.faults.OutFault.{OutFault}
 use Rattle.ken_ship.specs.declared.faults.OutFault.TheVariants.{Failed, Memory}
 use Rattle.ken_ship.specs.Causes.{risen}
 
--- how many calls were made, but for those that wanted memory, and the numbers of those that may fail, from 1
+-- whose outlet it is; how many calls were made, but for those that wanted memory, and the numbers of those that may fail, from 1. Calls
+-- change neither the node nor these numbers
 pub record Fate : Type 0 where
+  pub node : ℕ
   pub calls : ℕ
   pub fails : List ℕ
 

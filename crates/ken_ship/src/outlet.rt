@@ -12,7 +12,7 @@ pub trait Outlet {
     /// What it took with `Ok`, oldest first, where it tells.
     ghost took: { Self → Option (List Out) };
 
-    /// How many calls were made and which fail, where it tells this: it then fails only at the calls of a list.
+    /// Whose it is, how many calls were made and which fail, where it tells this: it then fails only at the calls of a list.
     ghost fate: { Self → Option Fate };
 
     /// How many calls have failed. An implementation may let the count stand at 2^64 - 1.

@@ -51,7 +51,7 @@ impl Outlet for ListedOutlet {
 
     ghost took = { λ o. Some o.took.items };
 
-    ghost fate = { λ o. Some (record { calls = o.calls; fails = o.fails }) };
+    ghost fate = { λ o. Some (record { node = 0; calls = o.calls; fails = o.fails }) };
 
     ghost faults = { λ o. o.faults };
 

@@ -1,5 +1,5 @@
-use Rattle.std.proofs.Common.{◌≡◌, ℕ, List, [], None, Ok, Err, sym, subst, ◌∙◌, append-nil}
-use Rattle.std.proofs.lemmas.Result.{err_from_is_err_and}
+use Rattle.std.proofs.Common.{◌≡◌, ℕ, List, [], inl, None, Ok, Err, sym, subst, ◌∙◌, append-nil}
+use Rattle.std.proofs.lemmas.Result.{IfOk-weaker, err_from_is_err_and}
 use Rattle.ken_app.specs.Oracles.{Answers}
 use Rattle.ken_model.specs.declared.messages.Message.{Message}
 use Rattle.ken_model.specs.Handler.{Handler}
@@ -81,3 +81,6 @@ returns-in-None-clause-takes g c =
       came = came g.D.Disk.told g.D.Disk.size g.D.Disk.faults g.D.Disk.fate h drew c.args.self.now mid c.requires.open_yet c.renew.ensures.rest renews working
           (g.N.Net.given_between net found) (g.N.Net.put_between net found) (g.N.Net.nones net) (g.N.Net.nones found) None took;
     }
+
+pub returns-in-Some-clause-undrawn : goal.returns-in-Some-clause-undrawn
+returns-in-Some-clause-undrawn g c = IfOk-weaker c.run.result _ _ (λ took is. inl is) c.run.ensures.took
