@@ -1,6 +1,6 @@
 // Eight nodes in one thread, each of which sends to the node after it.
 use crate::fault::Fault;
-use crate::net::node::{Node, Waiting};
+use crate::net::node::{Backlog, Node};
 use ken_model::MAX_NODES;
 use ken_net::{Act, LinkAct};
 use std::alloc::{AllocError, Global};
@@ -13,9 +13,9 @@ const LAST_TURNS: u64 = 64 * MAX_NODES as u64;
 pub(crate) fn send_all(alloc: Global, messages: u64, acts: u64) -> Result<u64, Fault> {
     let acts = acts_over(alloc, messages, acts)?;
     let mut nodes = nodes(alloc, acts.as_slice())?;
-    let waiting = Waiting::new(alloc)?;
-    let waiting = turns(alloc, &mut nodes, waiting, messages, true)?;
-    turns(alloc, &mut nodes, waiting, LAST_TURNS, false)?;
+    let backlog = Backlog::new(alloc)?;
+    let backlog = turns(alloc, &mut nodes, backlog, messages, true)?;
+    turns(alloc, &mut nodes, backlog, LAST_TURNS, false)?;
     Ok(consumed(&nodes))
 }
 
@@ -56,19 +56,19 @@ fn nodes(alloc: Global, acts: &[LinkAct]) -> Result<VecDeque<Node>, AllocError> 
 fn turns(
     alloc: Global,
     nodes: &mut VecDeque<Node>,
-    mut waiting: Waiting,
+    mut backlog: Backlog,
     count: u64,
     sends: bool,
-) -> Result<Waiting, Fault> {
+) -> Result<Backlog, Fault> {
     for _ in 0..count {
         let Some(node) = nodes.pop_front() else {
-            return Ok(waiting);
+            return Ok(backlog);
         };
-        let (node, left) = node.turn(alloc, waiting, sends)?;
-        waiting = left;
+        let (node, left) = node.turn(alloc, backlog, sends)?;
+        backlog = left;
         nodes.push_back(node)?;
     }
-    Ok(waiting)
+    Ok(backlog)
 }
 
 fn consumed(nodes: &VecDeque<Node>) -> u64 {

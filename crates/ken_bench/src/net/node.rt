@@ -8,18 +8,18 @@ use ken_model::MAX_NODES;
 use ken_net::{Inboxes, LinkAct, Links, Lossy, PlainNet};
 use std::alloc::{AllocError, Global};
 
-/// The inboxes of all nodes.
+/// What waits for the nodes: their inboxes.
 #[derive(Drop)]
-pub(crate) struct Waiting {
+pub(crate) struct Backlog {
     mails: Inboxes,
     acks: Inboxes,
     ghost each: { (length mails ≡ 8) × (length acks ≡ 8) },
 }
 
-impl Waiting {
+impl Backlog {
     /// Nothing waits.
     pub(crate) fn new(alloc: Global) -> Result<Self, AllocError> {
-        Ok(Waiting {
+        Ok(Backlog {
             mails: Inboxes::new(alloc, MAX_NODES)?,
             acks: Inboxes::new(alloc, MAX_NODES)?,
         })
@@ -63,9 +63,9 @@ impl Node {
     pub(crate) fn turn(
         self,
         alloc: Global,
-        waiting: Waiting,
+        backlog: Backlog,
         sends: bool,
-    ) -> Result<(Self, Waiting), Fault> {
+    ) -> Result<(Self, Backlog), Fault> {
         let Node {
             mut sender,
             mut receiver,
@@ -74,7 +74,7 @@ impl Node {
         } = self;
         let mut end = Lossy::over(
             mails,
-            PlainNet::new(sender.node, waiting.acks, waiting.mails),
+            PlainNet::new(sender.node, backlog.acks, backlog.mails),
         );
         sender.turn(alloc, &mut end, sends)?;
         let (mails, base) = end.into_parts();
@@ -89,10 +89,10 @@ impl Node {
             mails,
             acks,
         };
-        let waiting = Waiting {
+        let backlog = Backlog {
             mails: left,
             acks: put,
         };
-        Ok((node, waiting))
+        Ok((node, backlog))
     }
 }
