@@ -45,10 +45,10 @@ heard-old v c m to low old =
 
 -- ---- the mail that bytes are
 
-none-in : {A : Type 0} (x : A) → Contains [] x → ⊥
+pub none-in : {A : Type 0} (x : A) → Contains [] x → ⊥
 none-in x (k, low, is) = omega (arith, low)
 
-one-in : {A : Type 0} (x y : A) → Contains (x ∷ []) y → x ≡ y
+pub one-in : {A : Type 0} (x y : A) → Contains (x ∷ []) y → x ≡ y
 one-in x y (zero, low, is) = is
 one-in x y (suc k, low, is) = absurd (omega (arith, low))
 
@@ -80,17 +80,18 @@ mail-in nodes (Some (SpelledMail x)) m has = by (nat_lt x.from nodes) refl has
 
 -- ---- it is acknowledged
 
+module _ (g : Game) (v : ℕ) (n : Node) where
+  pub more-left : (puts rest : List Put) (from : ℕ) → IsAnsweredIn g v n puts from → IsAnsweredIn g v n (puts ++ rest) from
+  more-left puts rest from is = record { put = is.put; one = Contains-append_left puts rest is.put is.one; packet = is.packet; to = is.to }
+
+  more-right : (front puts : List Put) (from : ℕ) → IsAnsweredIn g v n puts from → IsAnsweredIn g v n (front ++ puts) from
+  more-right front puts from is = record { put = is.put; one = Contains-append_right front puts is.put is.one; packet = is.packet; to = is.to }
+
 module _ (g : Game) (v : ℕ) (n : Node) (c : Consumed) (few : g.nodes ≤ 8) (known : v < g.nodes) (same : c.nodes ≡ g.nodes) (counts : (u : ℕ) → u < g.nodes → consumed_from c u ≡ count_from u n.turning.turns) (short : length n.turning.turns < 2 ^ 64) where
   acked-again : (m : Message) → m.from < g.nodes → 0 < m.number → m.number ≤ count_from m.from n.turning.turns → IsAnsweredIn g v n (ack_put v c m.from ∷ []) m.from
   acked-again m low some old =
       let spelled = ack-spelled g.nodes v n c few known counts short m.from (low, omega (arith, some, old)) in
       record { put = ack_put v c m.from; one = (0, omega arith, refl); packet = spelled.packet; to = refl }
-
-  more-left : (puts rest : List Put) (from : ℕ) → IsAnsweredIn g v n puts from → IsAnsweredIn g v n (puts ++ rest) from
-  more-left puts rest from is = record { put = is.put; one = Contains-append_left puts rest is.put is.one; packet = is.packet; to = is.to }
-
-  more-right : (front puts : List Put) (from : ℕ) → IsAnsweredIn g v n puts from → IsAnsweredIn g v n (front ++ puts) from
-  more-right front puts from is = record { put = is.put; one = Contains-append_right front puts is.put is.one; packet = is.packet; to = is.to }
 
   pub again-answered : (packets : List (List ℕ)) (m : Message) → Contains (packets_from g.nodes packets) (Mail m) → m.to ≡ v → m.number ≤ count_from m.from n.turning.turns → IsAnsweredIn g v n (again_puts v c packets) m.from
   again-answered [] m has to old = absurd (none-in (Mail m) has)
@@ -101,7 +102,7 @@ module _ (g : Game) (v : ℕ) (n : Node) (c : Consumed) (few : g.nodes ≤ 8) (k
       let from = it.from in
       let counted : consumed_from c m.from ≡ count_from m.from n.turning.turns = counts m.from from in
       let is : heard v c (packet_of bytes) ≡ Again m.from = ap (heard v c) it.mail ∙ heard-old v c m to (omega (arith, from, same)) (omega (arith, old, counted)) in
-      more-left (again_put v c (heard v c (packet_of bytes))) (again_puts v c packets) m.from
+      more-left g v n (again_put v c (heard v c (packet_of bytes))) (again_puts v c packets) m.from
       (subst (λ (h : Heard). IsAnsweredIn g v n (again_put v c h) m.from) (sym is) (acked-again m from (mail-numbered bytes m it.mail) old)))
-      (λ (later : Contains (packets_from g.nodes packets) (Mail m)). more-right (again_put v c (heard v c (packet_of bytes))) (again_puts v c packets) m.from (again-answered packets m later to old))
+      (λ (later : Contains (packets_from g.nodes packets) (Mail m)). more-right g v n (again_put v c (heard v c (packet_of bytes))) (again_puts v c packets) m.from (again-answered packets m later to old))
       (Contains-append_cases (packet_from g.nodes (packet_of bytes)) (packets_from g.nodes packets) (Mail m) has)

@@ -51,6 +51,7 @@ pub mod Again
 pub mod UpNumbers
 pub mod Bounds
 pub mod Over
+pub mod ImageSyncs
 pub mod TurnSteps
 pub mod GoesDown
 pub mod CreationDown

@@ -1,4 +1,5 @@
--- What the events of a call leave as it was: the sealed turns of a node, or how far it has come with what it sent and output.
+-- What the events of a call leave as it was: the sealed turns of a node, how far it has come with what it sent and output, or the pages
+-- that wait for its image.
 use Rattle.std.proofs.Common.{◌≡◌, ℕ, ◌==◌, if◌then◌else◌, List, [], ◌∷◌, ◌++◌, map, Bool, true, false, sym, ap, subst, ◌∙◌}
 use Rattle.std.specs.List.{AllByRecursion, Contains, flat_map, range_with_len}
 use Rattle.ken_model.specs.Game.{Game}
@@ -31,6 +32,15 @@ abbrev pub KeepsAll : Event → Type 0
 KeepsAll (Send node to i) = Unit {0}
 KeepsAll (Ack node from) = Unit {0}
 KeepsAll _ = ⊥
+
+-- one after which the same pages wait for its image
+abbrev pub KeepsAhead : Event → Type 0
+KeepsAhead (SyncImage node) = Unit {0}
+KeepsAhead (Send node to i) = Unit {0}
+KeepsAhead (Ack node from) = Unit {0}
+KeepsAhead (TakeAck node from through) = Unit {0}
+KeepsAhead (Emit node) = Unit {0}
+KeepsAhead _ = ⊥
 
 module _ (g : Game) (put : Packet → Type 0) (v : ℕ) where
   step-turns : (n n2 : Node) (e : Event) → NodeStep g put v n e n2 → KeepsTurns e → n2.turning.turns ≡ n.turning.turns
@@ -77,6 +87,19 @@ module _ (g : Game) (put : Packet → Type 0) (v : ℕ) where
   step-all n n2 (Crash node pages) step keeps = absurd keeps
   step-all n n2 (Recover node) step keeps = absurd keeps
 
+  step-ahead : (n n2 : Node) (e : Event) → NodeStep g put v n e n2 → KeepsAhead e → n2.patching.ahead ≡ n.patching.ahead
+  step-ahead n n2 (Seal node from draws pages) step keeps = absurd keeps
+  step-ahead n n2 (SealCut node from draws pages landed) step keeps = absurd keeps
+  step-ahead n n2 (Patch node page) step keeps = absurd keeps
+  step-ahead n n2 (SyncImage node) step keeps = ap (λ (m : Node). m.patching.ahead) step.1
+  step-ahead n n2 (Turnover node outcome told) step keeps = absurd keeps
+  step-ahead n n2 (Send node to i) step keeps = ap (λ (m : Node). m.patching.ahead) step.1.3
+  step-ahead n n2 (Ack node from) step keeps = ap (λ (m : Node). m.patching.ahead) step.3
+  step-ahead n n2 (TakeAck node from through) step keeps = ap (λ (m : Node). m.patching.ahead) step.3
+  step-ahead n n2 (Emit node) step keeps = ap (λ (m : Node). m.patching.ahead) step.1.2
+  step-ahead n n2 (Crash node pages) step keeps = absurd keeps
+  step-ahead n n2 (Recover node) step keeps = absurd keeps
+
   -- a run of events that keep them does
   pub run_keeps_turns : (n n2 : Node) (es : List Event) (out : Outgoing) → NodeRun g put v n es out n2 → AllByRecursion KeepsTurns es → n2.turning.turns ≡ n.turning.turns
   run_keeps_turns n n2 [] out run keeps = ap (λ (m : Node). m.turning.turns) run.1
@@ -89,6 +112,10 @@ module _ (g : Game) (put : Packet → Type 0) (v : ℕ) where
   pub run_keeps_all : (n n2 : Node) (es : List Event) (out : Outgoing) → NodeRun g put v n es out n2 → AllByRecursion KeepsAll es → n2 ≡ n
   run_keeps_all n n2 [] out run keeps = run.1
   run_keeps_all n n2 (e ∷ es) out run keeps = run_keeps_all run.0 n2 es run.1.0 run.1.1.3 keeps.1 ∙ step-all n run.0 e run.1.1.1 keeps.0
+
+  pub run_keeps_ahead : (n n2 : Node) (es : List Event) (out : Outgoing) → NodeRun g put v n es out n2 → AllByRecursion KeepsAhead es → n2.patching.ahead ≡ n.patching.ahead
+  run_keeps_ahead n n2 [] out run keeps = ap (λ (m : Node). m.patching.ahead) run.1
+  run_keeps_ahead n n2 (e ∷ es) out run keeps = run_keeps_ahead run.0 n2 es run.1.0 run.1.1.3 keeps.1 ∙ step-ahead n run.0 e run.1.1.1 keeps.0
 
 -- ---- the events of each call
 
@@ -179,3 +206,13 @@ module _ (g : Game) (v : ℕ) (given : List Packet) (n n2 : Node) (out : Outgoin
 
   pub emit_keeps_turns : Call g v given (IsEmit v) n out n2 → n2.turning.turns ≡ n.turning.turns
   emit_keeps_turns call = run_keeps_turns g (Contains given) v n n2 call.events out call.run (subst (AllByRecursion KeepsTurns) (sym call.which) (tt, tt))
+
+  -- what waits for the image
+  pub sync_keeps_ahead : Call g v given (IsSync v) n out n2 → n2.patching.ahead ≡ n.patching.ahead
+  sync_keeps_ahead call = run_keeps_ahead g (Contains given) v n n2 call.events out call.run (subst (AllByRecursion KeepsAhead) (sym call.which) (tt, tt))
+
+  pub taken_keep_ahead : (packets : List Packet) → Call g v given (AreTaken v packets) n out n2 → n2.patching.ahead ≡ n.patching.ahead
+  taken_keep_ahead packets call = run_keeps_ahead g (Contains given) v n n2 call.events out call.run (subst (AllByRecursion KeepsAhead) (sym call.which) (taken-all KeepsAhead v (λ from through. tt) packets))
+
+  pub emit_keeps_ahead : Call g v given (IsEmit v) n out n2 → n2.patching.ahead ≡ n.patching.ahead
+  emit_keeps_ahead call = run_keeps_ahead g (Contains given) v n n2 call.events out call.run (subst (AllByRecursion KeepsAhead) (sym call.which) (tt, tt))

@@ -3,6 +3,8 @@ use Rattle.std.proofs.Common.{◌≡◌, ℕ, zero, suc, ◌+◌, ◌^◌, ◌<�
 use Rattle.std.specs.List.{AllByRecursion, Contains}
 use Rattle.std.proofs.lemmas.Bool.{cases_lt, eq-eqb, leb-true, lt-ltb, ltb-true, false≢true}
 use Rattle.std.proofs.lemmas.List.{length-append}
+use Rattle.std.proofs.lemmas.List.Elements.{Contains-append_cases}
+use Rattle.std.proofs.lemmas.Grind.{flat_map-append}
 use Rattle.ken_disk.specs.Fates.{Fate}
 use Rattle.ken_disk.specs.Story.{Story}
 use Rattle.ken_model.specs.declared.messages.Message.{Message}
@@ -21,6 +23,7 @@ use Rattle.ken_core.specs.Calls.{IsIdle, IsTurn, seal, turnover}
 use Rattle.ken_core.specs.Nodes.{Node}
 use Rattle.ken_core.specs.Packets.{Packet, Mail, Answer, one_after_other}
 use Rattle.ken_core.specs.Runs.{NodeRun}
+use Rattle.ken_core.proofs.Coming.{input_at_place}
 use Rattle.ken_core.specs.Turns.{consumed_from as count_from}
 use Rattle.ken_store.specs.declared.turning.TurnSide.{TurnSide}
 use Rattle.ken_store.specs.Apart.{disks_apart}
@@ -40,23 +43,24 @@ use Rattle.ken_node.specs.Capped.{IsCapped}
 use Rattle.ken_node.specs.Capped as caps
 use Rattle.ken_node.specs.Down.{AreTold}
 use Rattle.ken_node.specs.DownLaws.{SealIsDown, TurnoverIsDown}
-use Rattle.ken_node.specs.Hearing.{ArePassed, IsPassed, ack_put, again_puts, heard, heard_mail}
+use Rattle.ken_node.specs.Hearing.{ArePassed, EndsWith, IsPassed, ack_put, again_puts, chosen, heard, heard_mail}
 use Rattle.ken_node.specs.Meeting.{AreEmpty, AreFronts, AreJoined, HaveMet}
 use Rattle.ken_node.specs.NodeCalls.{DisksFailBy}
-use Rattle.ken_node.specs.NodeTurns.{CappedSteps, HandlerSteps, IdleSteps, IsAnsweredIn, IsNotNext, SealFails, TurnSteps, TurnStepsBy, TurnoverFails}
+use Rattle.ken_node.specs.NodeTurns.{CappedSteps, HandlerSteps, IdleSteps, IsAnsweredIn, IsMailOf, IsNotNext, NoneIsLeft, SealFails, TurnSteps, TurnStepsBy, TurnoverFails}
 use Rattle.ken_node.specs.Sealing.{coming_pages, is_full}
 use Rattle.ken_node.specs.TurnLaws.{Drew, HandlerLeadsTo, acks_out, told_of}
 use Rattle.ken_node.specs.Whole.{IsWhole}
 use Rattle.ken_node.specs.Workers.{HearsNews, IsSameWorker}
-use Rattle.ken_node.proofs.Again.{again-answered, again-few}
+use Rattle.ken_node.proofs.Again.{again-answered, again-few, more-left, none-in, one-in}
 use Rattle.ken_node.proofs.MeetingDown.{meeting_stays_down}
+use Rattle.ken_node.proofs.NextMails.{next-mail}
 use Rattle.ken_node.proofs.Over.{capped_over}
 use Rattle.ken_node.proofs.Quietly.{idle_keeps_sending, idle_keeps_turns}
 use Rattle.ken_node.proofs.Rings.{ring-popped, ring-pushed}
 use Rattle.ken_node.proofs.TurnDisks.{disk-failed, turn-disks, turn-told}
 use Rattle.ken_node.proofs.TurnDown.{turn_goes_down}
 use Rattle.ken_node.proofs.TurnSpelled.{handler-spelled}
-use Rattle.ken_node.proofs.TurnsWhole.{heard-whole, idle_listens, turn_keeps_whole}
+use Rattle.ken_node.proofs.TurnsWhole.{heard-whole, idle_listens, turn_keeps_whole, turn_listens}
 use Rattle.ken_node.proofs.Up.{AreUp, met-disks, met-fronts, met-up}
 
 -- the workers are joined still, so they may meet
@@ -188,9 +192,72 @@ module _ {D O N : Type 0} (told : D → Option Story) (size count : D → ℕ) (
   tell-after : (took : Took) → Takes (Ok took) → AreTold told (disks_apart t1.side p.side)
   tell-after took takes = turn-told told size count fate g.handler drew gave put nones nones2 p.side.image.disk took mid t1 takes heard-tell
 
-  turn-steps : Takes (Ok Turn) → TurnSteps told size g v n gave put drew t (Created t2 p2 s2)
+  -- what was consumed once the handler has heard what it was told
+  heard-order : mid.order ≡ t.order
+  heard-order = ap (λ (w : TurnWorker D). w.order) news.rest
+
+  heard-counts : (u : ℕ) → u < g.nodes → consumed_from mid.order u ≡ count_from u n.turning.turns
+  heard-counts u low = ap (λ (c : Consumed). consumed_from c u) heard-order ∙ order-counts told size g v n t p s up.whole u low
+
+  heard-nodes : mid.order.nodes ≡ g.nodes
+  heard-nodes = ap (λ (c : Consumed). c.nodes) (heard-order ∙ up.whole.workers.working.order) ∙ up.whole.workers.of_run.nodes
+
+  heard-inputs : mid.inputs.items ≡ inputs_for g v
+  heard-inputs = ap (λ (w : TurnWorker D). w.inputs.items) news.rest ∙ up.whole.workers.of_run.inputs
+
+  -- the mail that was found is the turn's, or it is an input
+  mail-first : (turn : Effects) (m : Message) → turn.from ≡ m.from → turn.number ≡ m.number → (passed last : List (List ℕ)) (found : Option Message) → EndsWith v mid.order (length passed) nones nones2 found last → chosen mid.inputs.items mid.order found ≡ Some m
+      → IsMailOf g.nodes v n turn last ⊎ ((turn.from ≡ outside) × (last ≡ []) × NoneIsLeft nones nones2 passed)
+  mail-first turn m from number passed last (Some x) ends is =
+      let same : x ≡ m = cc in
+      let mail = next-mail v mid.order (packet_of ends.0) x ends.1.1 in
+      let low : x.from < g.nodes = let here = mail.from in let nodes = heard-nodes in omega (arith, here, nodes) in
+      inl (record {
+        bytes = ends.0;
+        alone = ends.1.0;
+        mail = x;
+        is = ap (packet_from g.nodes) mail.mail ∙ ap (λ (b : Bool). if b then Mail x ∷ [] else []) (lt-ltb x.from g.nodes low);
+        to = mail.to;
+        next = mail.number ∙ ap (λ (k : ℕ). k + 1) (heard-counts x.from low);
+        from = ap (λ (y : Message). y.from) same ∙ sym from;
+        number = ap (λ (y : Message). y.number) same ∙ sym number;
+      })
+  mail-first turn m from number passed last None ends is =
+      let at : slice_get (inputs_for g v) (consumed_from mid.order outside) ≡ Some m = ap (λ (ms : List Message). slice_get ms (consumed_from mid.order outside)) (sym heard-inputs) ∙ is in
+      inr (from ∙ (input_at_place v 0 g.inputs (consumed_from mid.order outside) m at).0, ends.0, ends.1)
+
+  -- no mail that was consumed before is a next mail
+  not-again : (turn : Effects) (last : List (List ℕ)) (m : Message) → IsMailOf g.nodes v n turn last → Contains (packets_from g.nodes last) (Mail m) → m.number ≤ count_from m.from n.turning.turns → ⊥
+  not-again turn last m mail has old =
+      let only : packets_from g.nodes last ≡ Mail mail.mail ∷ [] = ap (packets_from g.nodes) mail.alone ∙ append-nil (packet_from g.nodes (packet_of mail.bytes)) ∙ mail.is in
+      let same : mail.mail ≡ m = mail-same mail.mail m (one-in (Mail mail.mail) (Mail m) (subst (λ (ps : List Packet). Contains ps (Mail m)) only has)) in
+      let next : m.number ≡ count_from m.from n.turning.turns + 1 = subst (λ (y : Message). y.number ≡ count_from y.from n.turning.turns + 1) same mail.next in
+      omega (arith, next, old)
+    where
+      mail-same : (x y : Message) → Mail x ≡ Mail y → x ≡ y
+      mail-same x y e = cc
+
+  was-passed : (turn : Effects) (passed last : List (List ℕ)) (m : Message) → IsMailOf g.nodes v n turn last ⊎ ((turn.from ≡ outside) × (last ≡ []) × NoneIsLeft nones nones2 passed)
+      → Contains (packets_from g.nodes passed ++ packets_from g.nodes last) (Mail m) → m.number ≤ count_from m.from n.turning.turns → Contains (packets_from g.nodes passed) (Mail m)
+  was-passed turn passed last m which has old =
+      ⊎_elim
+      (λ (mine : Contains (packets_from g.nodes passed) (Mail m)). mine)
+      (λ (later : Contains (packets_from g.nodes last) (Mail m)).
+      ⊎_elim
+      (λ (mail : IsMailOf g.nodes v n turn last). absurd (not-again turn last m mail later old))
+      (λ (input : (turn.from ≡ outside) × (last ≡ []) × NoneIsLeft nones nones2 passed). absurd (none-in (Mail m) (subst (λ (bs : List (List ℕ)). Contains (packets_from g.nodes bs) (Mail m)) input.1 later)))
+      which)
+      (Contains-append_cases (packets_from g.nodes passed) (packets_from g.nodes last) (Mail m) has)
+
+  turn-steps : Takes (Ok Turn) → TurnSteps told size g v n gave put drew nones nones2 t (Created t2 p2 s2)
   unfolding handler-steps
   turn-steps takes =
+      let listens = turn_listens told size count fate clocks words given_between put_between g v n t mid t1 p s oracle oracle2 net net2 nones nones2 up.whole still news takes fronts in
+      let listened = listens.listened in
+      let m : Message = takes.message in
+      let from : takes.ran.effects.from ≡ m.from = ap (λ (x : Effects). x.from) takes.ran.made.effects in
+      let number : takes.ran.effects.number ≡ m.number = ap (λ (x : Effects). x.number) takes.ran.made.effects in
+      let which = mail-first takes.ran.effects m from number listened.passed listened.last takes.came.took.found listened.ends takes.came.took.chosen_is in
       let lead = turn_keeps_whole told size count fate clocks words given_between put_between g v n t mid t1 p s oracle oracle2 net net2 (Ok Turn) nones nones2 up.whole still news takes fronts in
       let e : Effects = takes.ran.effects in
       let turns : t1.turns.items ≡ t.turns.items ++ e ∷ [] = takes.ran.kept.turns ∙ ap (λ (es : List Effects). es ++ e ∷ []) (ap (λ (w : TurnWorker D). w.turns.items) takes.came.rest ∙ heard-turns) in
@@ -201,6 +268,21 @@ module _ {D O N : Type 0} (told : D → Option Story) (size count : D → ℕ) (
         turn = e;
         last = sym lead.whole.workers.turns.kept ∙ turns ∙ ap (λ (es : List Effects). es ++ e ∷ []) up.whole.workers.turns.kept;
         drawn = takes.ran.drawn;
+        first = record {
+          passed = listened.passed;
+          last = listened.last;
+          parts = listens.given_is;
+          most = let most = listened.most in subst (λ (bs : List (List ℕ)). length bs ≤ 4096) (sym listens.given_is) most;
+          none_next = all-passed g.nodes v n mid.order heard-nodes heard-counts listened.passed listened.each;
+          which = which;
+        };
+        again = λ x has to old.
+            let was : Contains (packets_from g.nodes listened.passed ++ packets_from g.nodes listened.last) (Mail x) =
+            subst (λ (ps : List Packet). Contains ps (Mail x)) (ap (packets_from g.nodes) listens.given_is ∙ flat_map-append (λ (bytes : List ℕ). packet_from g.nodes (packet_of bytes)) listened.passed listened.last) has in
+            let puts : again_puts v mid.order listened.passed ≡ map (ack_put v t.order) lead.before = listens.before_are ∙ ap (λ (c : Consumed). map (ack_put v c) lead.before) heard-order in
+            more-left g v n (map (ack_put v t.order) lead.before) (map (ack_put v t1.order) lead.last) x.from
+            (subst (λ (ps : List Put). IsAnsweredIn g v n ps x.from) puts
+            (again-answered g v n mid.order few-nodes up.known heard-nodes heard-counts (subst (λ (es : List Effects). length es < 2 ^ 64) up.whole.workers.turns.kept (omega (arith, few))) listened.passed x (was-passed takes.ran.effects listened.passed listened.last x which was old) to old));
       }
 
   idle-steps : Takes (Ok Idle) → IdleSteps told size g v n gave put nones nones2 t (Created t2 p2 s2)

@@ -576,6 +576,14 @@ module _ {D : Type 0} where
   listens-by v mid gave put nones nones2 given before last None is listened all puts none = record { listened = listened; given_is = all; before_are = puts; last_are = none; no_input = is }
   listens-by v mid gave put nones nones2 given before last (Some m) is listened all puts none = absurd cc
 
+-- ---- a turn
+
+-- the packets that it was given are those that it listened to, and what it put before the seal are the acknowledgements again
+pub record TurnListens (v : ℕ) (c : Consumed) (gave : List (List ℕ) → Type 0) (put : List Put → Type 0) (nones nones2 : ℕ) (found : Option Message) (given : List (List ℕ)) (before : List ℕ) : Type 0 where
+  pub listened : Listened v c gave put nones nones2 found
+  pub given_is : given ≡ listened.passed ++ listened.last
+  pub before_are : again_puts v c listened.passed ≡ map (ack_put v c) before
+
 -- ---- a call of the handler
 
 module _ {D O N : Type 0} (told : D → Option Story) (size count : D → ℕ) (fate : D → Option Fate) (clocks words : O → Option (List ℕ)) (given_between : N → N → List (List ℕ) → Type 0) (put_between : N → N → List Put → Type 0) where
@@ -630,3 +638,18 @@ module _ {D O N : Type 0} (told : D → Option Story) (size count : D → ℕ) (
       let lead = turn_keeps_whole g v n t mid t2 p s oracle oracle2 net net2 (Ok Idle) nones nones2 whole same news takes fronts in
       let listened = listened-by told size count fate drew g v p s gave n mid heard_whole put nones nones2 took.found took.listened in
       listens-by v mid gave put nones nones2 lead.given lead.before lead.last took.found took.chosen_is listened refl (all-again v mid.order listened.passed).are refl
+
+  pub turn_listens : (g : Game) (v : ℕ) (n : Node) (t mid t2 : TurnWorker D) (p : PatchWorker D) (s : SendWorker) (oracle oracle2 : O) (net net2 : N) (nones nones2 : ℕ) (whole : IsWhole told size g v n t p s) (same : IsSameWorker t t2) (news : HearsNews t mid)
+      (takes : TakesTurn told size count fate g.handler (Drew clocks words g.handler oracle oracle2) (Ok Turn) mid t2 (given_between net net2) (put_between net net2) nones nones2) (fronts : AreFronts t2 p s)
+      → let lead = turn_keeps_whole g v n t mid t2 p s oracle oracle2 net net2 (Ok Turn) nones nones2 whole same news takes fronts in
+      TurnListens v mid.order (given_between net net2) (λ ps. put_between net net2 (ps ++ answer_puts mid.node t2.order takes.message.from)) nones nones2 takes.came.took.found lead.given lead.before
+  unfolding turn_keeps_whole took-from leads-from took-by turn-leads ready-by whole-heard heard-whole
+  turn_listens g v n t mid t2 p s oracle oracle2 net net2 nones nones2 whole same news takes fronts =
+      let drew : List ℕ → Type 0 = Drew clocks words g.handler oracle oracle2 in
+      let gave : List (List ℕ) → Type 0 = given_between net net2 in
+      let put : List Put → Type 0 = put_between net net2 in
+      let heard_whole = heard-whole g v n t mid t2 p s oracle oracle2 net net2 (Ok Turn) nones nones2 whole news takes fronts in
+      let took = takes.came.took in
+      let before : List Put → Type 0 = λ ps. put (ps ++ answer_puts mid.node t2.order takes.message.from) in
+      let listened = listened-by told size count fate drew g v p s gave n mid heard_whole before nones nones2 took.found took.listened in
+      record { listened = listened; given_is = refl; before_are = (all-again v mid.order listened.passed).are }

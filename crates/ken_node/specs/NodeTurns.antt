@@ -42,6 +42,36 @@ pub record IsAnsweredIn (g : Game) (v : ℕ) (n : Node) (puts : List Put) (from 
   pub packet : packet_from g.nodes (packet_of put.bytes) ≡ Answer (receipt_of v from n) ∷ []
   pub to : put.to ≡ from
 
+-- each mail to node v among these packets that it had consumed before, where it was n, is acknowledged again by one of these puts
+abbrev pub AcksAgain : Game → ℕ → Node → List (List ℕ) → List Put → Type 0
+AcksAgain g v n given puts =
+    (m : Message) → Contains (packets_from g.nodes given) (Mail m) → m.to ≡ v → m.number ≤ consumed_from m.from n.turning.turns
+    → IsAnsweredIn g v n puts m.from
+
+-- these packets are one, a next mail of node v, which is n: the one that a turn took
+pub record IsMailOf (nodes v : ℕ) (n : Node) (turn : Effects) (packets : List (List ℕ)) : Type 0 where
+  pub bytes : List ℕ
+  pub alone : packets ≡ bytes ∷ []
+  pub mail : Message
+  pub is : packet_from nodes (packet_of bytes) ≡ Mail mail ∷ []
+  pub to : mail.to ≡ v
+  pub next : mail.number ≡ consumed_from mail.from n.turning.turns + 1
+  pub from : mail.from ≡ turn.from
+  pub number : mail.number ≡ turn.number
+
+-- no more packets were taken: the count of those that weren't given rose, or 4,096 were
+abbrev pub NoneIsLeft : ℕ → ℕ → List (List ℕ) → Type 0
+NoneIsLeft nones nones2 given = (length given ≡ MOST_TAKEN) ⊎ (risen nones ≤ nones2)
+
+-- mail comes before inputs: packets were taken until one was a next mail, which is the turn's; where none was, it took an input
+pub record MailComesFirst (g : Game) (v : ℕ) (n : Node) (nones nones2 : ℕ) (given : List (List ℕ)) (turn : Effects) : Type 0 where
+  pub passed : List (List ℕ)
+  pub last : List (List ℕ)
+  pub parts : given ≡ passed ++ last
+  pub most : length given ≤ MOST_TAKEN
+  pub none_next : AllByRecursion (IsNotNext v n) (packets_from g.nodes passed)
+  pub which : IsMailOf g.nodes v n turn last ⊎ ((turn.from ≡ outside) × (last ≡ []) × NoneIsLeft nones nones2 passed)
+
 module _ {D : Type 0} (told : D → Option Story) (size : D → ℕ) (g : Game) (v : ℕ) (n : Node) (gave : List (List ℕ) → Type 0) (put : List Put → Type 0) where
   -- a call of the handler: its events lead to a node that is up
   pub record HandlerSteps (says : List Event → Type 0) (stage : Stage D) : Type 0 where
@@ -52,12 +82,14 @@ module _ {D : Type 0} (told : D → Option Story) (size : D → ℕ) (g : Game) 
     pub out : Outgoing
     pub steps : Steps told size g v n given puts says out stage
 
-  -- a turn was made, with these draws
-  pub record TurnSteps (drew : List ℕ → Type 0) (handler : TurnWorker D) (stage : Stage D) : Type 0 where
+  -- a turn was made, with these draws, of a mail where one came, and else of an input. Mail that was consumed before is acknowledged again
+  pub record TurnSteps (drew : List ℕ → Type 0) (nones nones2 : ℕ) (handler : TurnWorker D) (stage : Stage D) : Type 0 where
     pub call : HandlerSteps (IsTurn v (is_full handler.side)) stage
     pub turn : Effects
     pub last : call.steps.after.turning.turns ≡ n.turning.turns ++ turn ∷ []
     pub drawn : drew turn.draws
+    pub first : MailComesFirst g v n nones nones2 call.given turn
+    pub again : AcksAgain g v n call.given call.puts
 
   -- nothing waits, of a node with turns to make: none of the packets is a next mail, they were taken until the count of those that weren't given rose or 4,096
   -- were, and all inputs are consumed. Mail that was consumed before is acknowledged again, at most one put was made for each packet,
@@ -66,11 +98,11 @@ module _ {D : Type 0} (told : D → Option Story) (size : D → ℕ) (g : Game) 
     pub call : HandlerSteps (IsIdle v (is_full handler.side)) stage
     pub unmade : length n.turning.turns < g.turns
     pub most : length call.given ≤ MOST_TAKEN
-    pub until : (length call.given ≡ MOST_TAKEN) ⊎ (risen nones ≤ nones2)
+    pub until : NoneIsLeft nones nones2 call.given
     pub none_next : AllByRecursion (IsNotNext v call.steps.after) (packets_from g.nodes call.given)
     pub no_input : length (inputs_for g v) ≤ consumed_from outside call.steps.after.turning.turns
     pub few : length call.puts ≤ length call.given
-    pub again : (m : Message) → Contains (packets_from g.nodes call.given) (Mail m) → m.to ≡ v → m.number ≤ consumed_from m.from n.turning.turns → IsAnsweredIn g v n call.puts m.from
+    pub again : AcksAgain g v n call.given call.puts
     pub same_turns : call.steps.after.turning.turns ≡ n.turning.turns
     pub same_sending : call.steps.after.sending ≡ n.sending
 
@@ -108,7 +140,7 @@ module _ {D : Type 0} (told : D → Option Story) (size : D → ℕ) (g : Game) 
 
   -- by the answer
   abbrev pub TurnStepsBy : Result Took NodeFault → (List ℕ → Type 0) → ℕ → ℕ → TurnWorker D → Stage D → Type 0
-  TurnStepsBy (Ok Turn) drew nones nones2 handler stage = TurnSteps drew handler stage
+  TurnStepsBy (Ok Turn) drew nones nones2 handler stage = TurnSteps drew nones nones2 handler stage
   TurnStepsBy (Ok Idle) drew nones nones2 handler stage = IdleSteps nones nones2 handler stage
   TurnStepsBy (Ok Capped) drew nones nones2 handler stage = CappedSteps handler stage
   TurnStepsBy (Err Disk) drew nones nones2 handler stage = TurnoverFails stage ⊎ SealFails drew handler stage

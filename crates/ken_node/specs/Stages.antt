@@ -1,5 +1,5 @@
 -- A node before it is created and after.
-use Rattle.std.specs.Prelude.{◌≡◌, ℕ, ◌<◌, List, [], Option}
+use Rattle.std.specs.Prelude.{◌≡◌, ℕ, ◌<◌, List, [], Option, None}
 use Rattle.ken_disk.specs.Story.{Story}
 use Rattle.ken_model.specs.declared.reports.Emission.{Emission}
 use Rattle.ken_model.specs.declared.values.Value.{Value}
@@ -49,6 +49,12 @@ module _ {D : Type 0} where
   HasDisks disks (Uncreated d parts) = disks ≡ d
   HasDisks disks (Created t p s) = disks ≡ disks_apart t.side p.side
   HasDisks disks Moved = ⊥
+
+  -- what the disk of its image tells
+  abbrev pub image_told : (D → Option Story) → Stage D → Option Story
+  image_told told (Uncreated disks parts) = told disks.image
+  image_told told (Created t p s) = told p.side.image.disk
+  image_told told Moved = None
 
   -- the value that its heap stands for
   abbrev pub HasValue : Value → Stage D → Type 0

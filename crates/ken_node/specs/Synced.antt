@@ -1,5 +1,6 @@
 -- How often the disks of a node's logs were synced with Ok, or failed: its creation takes three of these together, and each turn two.
 use Rattle.std.specs.Prelude.{◌≡◌, ℕ, ◌+◌, ◌*◌, ◌≤◌, List, length, Option, Ok}
+use Rattle.ken_disk.specs.Steps.{after_syncing}
 use Rattle.ken_disk.specs.Story.{Story, Follows, IsImage, Tells}
 use Rattle.ken_model.specs.Game.{Game}
 use Rattle.ken_core.specs.Nodes.{Node}
@@ -32,6 +33,10 @@ module _ {D : Type 0} (told : D → Option Story) (count : D → ℕ) where
 -- a disk has as many Ok syncs as before, or more
 abbrev pub KeepsSyncs : Option Story → Option Story → Type 0
 KeepsSyncs old new = Follows (λ (a b : Story). a.now.syncs ≤ b.now.syncs) old new
+
+-- it made a sync that answered Ok, and no other call changed it
+abbrev pub HasMadeSync : Option Story → Option Story → Type 0
+HasMadeSync old new = Follows (λ (a b : Story). b ≡ after_syncing a) old new
 
 -- so each disk of a node's logs
 pub record KeepSyncs {D : Type 0} (told : D → Option Story) (old new : Disks D) : Type 0 where

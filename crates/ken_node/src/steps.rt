@@ -23,13 +23,14 @@ impl<D: Disk> Node<D> {
     ghost use Rattle.ken_ship.specs.Outlets.{also_took};
     ghost use Rattle.ken_node.specs.NodeCalls.{DisksFailBy, EmitStepsBy, HearSteps, PatchStepsBy, SendSteps, SettleStepsBy, UnlessMemory};
     ghost use Rattle.ken_node.specs.NodeTurns.{TurnStepsBy};
-    ghost use Rattle.ken_node.specs.Stages.{HasDisks, emissions_in, refusals_in};
-    ghost use Rattle.ken_node.specs.Synced.{IsSynced};
+    ghost use Rattle.ken_node.specs.Stages.{HasDisks, emissions_in, image_told, refusals_in};
+    ghost use Rattle.ken_node.specs.Synced.{HasMadeSync, IsSynced, KeepsSyncs};
     ghost use Rattle.ken_node.specs.Up.{IsUp, MayBeCalled, MayBeCalledOn, MayTakeTurns};
 
-    /// Takes the next message, has the application make its turn, seals and acknowledges it. `Turn`: a turn was made. `Idle`: no
-    /// packet that was given is a next mail, and all inputs are consumed. `Capped`: the node makes no more turns, and nothing was
-    /// taken. The errors are `Disk`, after which a turnover or the turn's seal is in doubt, and the node must be restarted;
+    /// Takes the next message, has the application make its turn, seals and acknowledges it. `Turn`: a turn was made, of the first
+    /// next mail among the packets that were given, or, where none was one, of the next input. `Idle`: no packet that was given is
+    /// a next mail, and all inputs are consumed. In both cases mail that was consumed before is acknowledged again. `Capped`: the
+    /// node makes no more turns, and nothing was taken. The errors are `Disk`, after which a turnover or the turn's seal is in doubt, and the node must be restarted;
     /// and `Memory`, after which it takes no more calls.
     pub fn turn<N: Net, A: App, O: Oracle>(
         &mut self,
@@ -41,6 +42,7 @@ impl<D: Disk> Node<D> {
         ensures steps { (g : Game) (v : ℕ) (n : core.Node) → (up : IsUp D.told D.size g v n self.old.stage) → A.handler app.now ≡ g.handler → TurnStepsBy D.told D.size g v n (N.given_between net.old net.new) (N.put_between net.old net.new) result (λ draws. Answers (O.telling.clocks oracle.old) (O.telling.clocks oracle.new) ((A.handler app.now).clocks draws) × Answers (O.telling.words oracle.old) (O.telling.words oracle.new) ((A.handler app.now).words draws)) (N.nones net.old) (N.nones net.new) up.handler self.new.stage }
         ensures disks { (old new : Disks D) → HasDisks old self.old.stage → HasDisks new self.new.stage → DisksFailBy D.told D.faults D.fate result old new }
         ensures synced { (g : Game) (v : ℕ) (n : core.Node) → IsUp D.told D.size g v n self.old.stage → A.handler app.now ≡ g.handler → IsSynced D.told D.faults g v self.old.stage → UnlessMemory result (IsSynced D.told D.faults g v self.new.stage) }
+        ensures image { image_told D.told self.new.stage ≡ image_told D.told self.old.stage }
         ensures emissions { emissions_in self.new.stage ≡ emissions_in self.old.stage }
         ensures refusals { refusals_in self.new.stage ≡ refusals_in self.old.stage }
         ensures end { (N.node net.new ≡ N.node net.old) × (N.nodes net.new ≡ N.nodes net.old) }
@@ -65,6 +67,7 @@ impl<D: Disk> Node<D> {
         ensures steps { (g : Game) (v : ℕ) (n : core.Node) → IsUp D.told D.size g v n self.old.stage → PatchStepsBy D.told D.size result g v n self.new.stage }
         ensures disks { (old new : Disks D) → HasDisks old self.old.stage → HasDisks new self.new.stage → DisksFailBy D.told D.faults D.fate result old new }
         ensures synced { (g : Game) (v : ℕ) → IsSynced D.told D.faults g v self.old.stage → IsSynced D.told D.faults g v self.new.stage }
+        ensures image { KeepsSyncs (image_told D.told self.old.stage) (image_told D.told self.new.stage) }
         ensures emissions { emissions_in self.new.stage ≡ emissions_in self.old.stage }
         ensures refusals { refusals_in self.new.stage ≡ refusals_in self.old.stage }
     {
@@ -81,6 +84,7 @@ impl<D: Disk> Node<D> {
         ensures steps { (g : Game) (v : ℕ) (n : core.Node) → IsUp D.told D.size g v n self.old.stage → SettleStepsBy D.told D.size result g v n self.new.stage }
         ensures disks { (old new : Disks D) → HasDisks old self.old.stage → HasDisks new self.new.stage → DisksFailBy D.told D.faults D.fate result old new }
         ensures synced { (g : Game) (v : ℕ) → IsSynced D.told D.faults g v self.old.stage → IsSynced D.told D.faults g v self.new.stage }
+        ensures image { OnOk result (HasMadeSync (image_told D.told self.old.stage) (image_told D.told self.new.stage)) }
         ensures emissions { emissions_in self.new.stage ≡ emissions_in self.old.stage }
         ensures refusals { refusals_in self.new.stage ≡ refusals_in self.old.stage }
     {

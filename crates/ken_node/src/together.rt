@@ -12,7 +12,7 @@ ghost use Rattle.ken_ship.specs.Outlets.{also_took};
 ghost use Rattle.ken_ship.specs.Parts.{part_of};
 ghost use Rattle.ken_node.specs.NodeCalls.{DisksFailBy, EmitStepsBy, HearSteps, PatchStepsBy, SendSteps, SettleStepsBy, UnlessMemory};
 ghost use Rattle.ken_node.specs.NodeTurns.{TurnStepsBy};
-ghost use Rattle.ken_node.specs.Synced.{LeavesSynced};
+ghost use Rattle.ken_node.specs.Synced.{HasMadeSync, KeepsSyncs, LeavesSynced};
 ghost use Rattle.ken_node.specs.declared.stage.Stage.TheVariants.{Created};
 ghost use Rattle.ken_node.specs.Up.{IsUp, MayBeCalled, MayBeCalledOn, MayTakeTurns};
 
@@ -36,6 +36,7 @@ pub(crate) fn patch<D: Disk>(
     ensures side { turns.new.side ≡ turns.old.side }
     ensures steps { (g : Game) (v : ℕ) (n : Node) → IsUp D.told D.size g v n (Created turns.old patches.old sends.old) → PatchStepsBy D.told D.size result g v n (Created turns.new patches.new sends.new) }
     ensures disks { DisksFailBy D.told D.faults D.fate result (disks_apart turns.old.side patches.old.side) (disks_apart turns.new.side patches.new.side) }
+    ensures image { KeepsSyncs (D.told patches.old.side.image.disk) (D.told patches.new.side.image.disk) }
     ensures emissions { (part_of sends.new).emissions ≡ (part_of sends.old).emissions }
     ensures refusals { (part_of sends.new).refusals ≡ (part_of sends.old).refusals }
 {
@@ -54,6 +55,7 @@ pub(crate) fn settle<D: Disk>(
     ensures side { turns.new.side ≡ turns.old.side }
     ensures steps { (g : Game) (v : ℕ) (n : Node) → IsUp D.told D.size g v n (Created turns.old patches.old sends.old) → SettleStepsBy D.told D.size result g v n (Created turns.new patches.new sends.new) }
     ensures disks { DisksFailBy D.told D.faults D.fate result (disks_apart turns.old.side patches.old.side) (disks_apart turns.new.side patches.new.side) }
+    ensures image { OnOk result (HasMadeSync (D.told patches.old.side.image.disk) (D.told patches.new.side.image.disk)) }
     ensures emissions { (part_of sends.new).emissions ≡ (part_of sends.old).emissions }
     ensures refusals { (part_of sends.new).refusals ≡ (part_of sends.old).refusals }
 {
@@ -134,6 +136,7 @@ pub(crate) fn turn<D: Disk, N: Net, A: App, O: Oracle>(
     ensures steps { (g : Game) (v : ℕ) (n : Node) → (up : IsUp D.told D.size g v n (Created turns.old patches.old sends.old)) → A.handler app.now ≡ g.handler → TurnStepsBy D.told D.size g v n (N.given_between net.old net.new) (N.put_between net.old net.new) result (λ draws. Answers (O.telling.clocks oracle.old) (O.telling.clocks oracle.new) ((A.handler app.now).clocks draws) × Answers (O.telling.words oracle.old) (O.telling.words oracle.new) ((A.handler app.now).words draws)) (N.nones net.old) (N.nones net.new) up.handler (Created turns.new patches.new sends.new) }
     ensures disks { DisksFailBy D.told D.faults D.fate result (disks_apart turns.old.side patches.old.side) (disks_apart turns.new.side patches.new.side) }
     ensures synced { (g : Game) (v : ℕ) (n : Node) → IsUp D.told D.size g v n (Created turns.old patches.old sends.old) → A.handler app.now ≡ g.handler → LeavesSynced D.told D.faults g v (disks_apart turns.old.side patches.old.side) → UnlessMemory result (LeavesSynced D.told D.faults g v (disks_apart turns.new.side patches.new.side)) }
+    ensures image { D.told patches.new.side.image.disk ≡ D.told patches.old.side.image.disk }
     ensures emissions { (part_of sends.new).emissions ≡ (part_of sends.old).emissions }
     ensures refusals { (part_of sends.new).refusals ≡ (part_of sends.old).refusals }
     ensures end { (N.node net.new ≡ N.node net.old) × (N.nodes net.new ≡ N.nodes net.old) }

@@ -1,6 +1,7 @@
 use Rattle.std.proofs.Common.{arith}
 use Rattle.ken_node.proofs.PatchSteps.{joined-patcher, settle-disks-met, settle-steps}
 use Rattle.ken_node.proofs.Up.{are-up}
+use Rattle.ken_node.proofs.ImageSyncs.{settle-sync-met}
 use Rattle.ken_node.proofs.together.settle.Goals as goal
 
 pub settle-answer-requires-clause-takes : goal.settle-answer-requires-clause-takes
@@ -37,3 +38,6 @@ settle-answer-requires-clause-slot g c =
     let up = are-up g.D.Disk.told g.D.Disk.size takes.game takes.node takes.stands_for c.args.turns.now c.args.patches.now c.args.sends.now takes.up in
     let free_now = up.empty.settled.free_now in
     omega (arith, free_now)
+
+pub returns-clause-image : goal.returns-clause-image
+returns-clause-image g c = settle-sync-met g.D.Disk.told g.D.Disk.size g.D.Disk.faults g.D.Disk.fate c.args.turns.now c.meet.new.turns c.args.patches.now c.settle-answer.new.self c.meet.new.patches c.args.sends.now c.meet.new.sends c.meet.ensures.met c.settle-answer.result c.settle-answer.ensures.settles

@@ -3,7 +3,8 @@ use Rattle.ken_node.proofs.RestartSynced.{stage-synced, unless-with}
 use Rattle.ken_node.specs.declared.stage.Stage.TheVariants.{Created}
 use Rattle.ken_node.specs.Up.{IsUp}
 use Rattle.ken_node.specs.Synced.{IsSynced}
-use Rattle.std.proofs.Common.{refl, subst, sym, ◌∙◌}
+use Rattle.ken_node.specs.Stages.{image_told}
+use Rattle.std.proofs.Common.{ap, refl, subst, sym, ◌∙◌}
 use Rattle.ken_node.proofs.node.Node.turn.Goals as goal
 
 pub returns-clause-steps : goal.returns-clause-steps
@@ -32,3 +33,6 @@ returns-clause-synced g c = λ game v n up of_run before.
     let had = subst (IsSynced told faults game v) is before in
     unless-with c.turn.result _ _ (stage-synced told faults game v (disks_apart t.side p.side) (Created t p c.turn.new.sends) refl)
     (c.turn.ensures.synced game v n (subst (IsUp told g.D.Disk.size game v n) is up) of_run (had _ refl))
+
+pub returns-clause-image : goal.returns-clause-image
+returns-clause-image g c = c.turn.ensures.image ∙ sym (ap (image_told g.D.Disk.told) c.in-Created.is)
