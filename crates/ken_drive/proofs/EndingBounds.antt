@@ -1,5 +1,5 @@
 -- How far a schedule of a run with a handler that keeps the limits of a turn can come, and that its lines can be printed.
-use Rattle.std.proofs.Common.{◌≡◌, ◌≢◌, ℕ, zero, suc, ◌+◌, ◌*◌, ◌<◌, ◌≤◌, ◌^◌, List, [], ◌∷◌, ◌++◌, length, slice_index_or, sum_by, All, ◌==◌, Option, Some, None, IfSome, refl, sym, ap, subst, ⊎_elim, arith, length-append, eq-eqb, ne_eqb, eqb-true, add-zero}
+use Rattle.std.proofs.Common.{◌≡◌, ◌≢◌, ℕ, zero, suc, ◌+◌, ◌*◌, ◌<◌, ◌≤◌, ◌^◌, ◌⊎◌, inl, inr, List, [], ◌∷◌, ◌++◌, length, slice_index_or, sum_by, All, ◌==◌, Option, Some, None, IfSome, refl, sym, ap, subst, ⊎_elim, arith, length-append, eq-eqb, ne_eqb, eqb-true, add-zero}
 use Rattle.std.specs.List.{AllByRecursion, range_with_len}
 use Rattle.std.proofs.lemmas.Bool.{cases_eq, cases_lt, cond_both}
 use Rattle.std.proofs.lemmas.List.Elements.{All-from_get_or}
@@ -17,12 +17,13 @@ use Rattle.ken_model.specs.Network.{Network, Place, Turn, outside, inputs_from, 
 use Rattle.ken_model.specs.Schedule.{IsLegalFrom, played, turn_line, turn_lines}
 use Rattle.ken_model.specs.Spelling.{IsPrintableTurn}
 use Rattle.ken_app.specs.Turning.{IsAllowed, IsShortText}
-use Rattle.ken_node.specs.Workers.{ComesTo, KeepsShort}
+use Rattle.ken_app.specs.Limits.{ComesTo, IsCall, KeepsLimits}
 use Rattle.ken_drive.proofs.EndingCounts.{sum-one_more}
 use Rattle.ken_drive.proofs.EndingPlayed.{all_append, all_at, either, IsTurnOf, turn_is}
 
--- a message that is short, and whose number and stamp are at most these
-pub record IsSmall (most latest : ℕ) (m : Message) : Type 0 where
+-- a message of this sender that is short, and whose number and stamp are at most these
+pub record IsSmall (from most latest : ℕ) (m : Message) : Type 0 where
+  pub sender : m.from ≡ from
   pub short : IsShortText m.bytes
   pub number : m.number ≤ most
   pub stamp : m.stamp ≤ latest
@@ -37,11 +38,11 @@ pub record IsWithin (g : Game) (steps : ℕ) (w : Network) : Type 0 where
   pub nowhere : (u v : ℕ) → g.nodes ≤ v → (w.link u v).sent ≡ []
   pub strangers : (u v : ℕ) → g.nodes ≤ u → u ≢ outside → (w.link u v).sent ≡ []
   pub few : (u v : ℕ) → length (w.link u v).sent ≤ length g.inputs + 16 * (w.place u).turns
-  pub mail : (u v : ℕ) → AllByRecursion (IsSmall (length (w.link u v).sent) steps) (w.link u v).sent
+  pub mail : (u v : ℕ) → AllByRecursion (IsSmall u (length (w.link u v).sent) steps) (w.link u v).sent
 
-small_more : (n k n2 k2 : ℕ) (ms : List Message) → n ≤ n2 → k ≤ k2 → AllByRecursion (IsSmall n k) ms → AllByRecursion (IsSmall n2 k2) ms
-small_more n k n2 k2 [] le le2 all = tt
-small_more n k n2 k2 (m ∷ ms) le le2 all = (record { short = all.0.short; number = omega (arith, all.0.number); stamp = omega (arith, all.0.stamp) }, small_more n k n2 k2 ms le le2 all.1)
+small_more : (u n k n2 k2 : ℕ) (ms : List Message) → n ≤ n2 → k ≤ k2 → AllByRecursion (IsSmall u n k) ms → AllByRecursion (IsSmall u n2 k2) ms
+small_more u n k n2 k2 [] le le2 all = tt
+small_more u n k n2 k2 (m ∷ ms) le le2 all = (record { sender = all.0.sender; short = all.0.short; number = omega (arith, all.0.number); stamp = omega (arith, all.0.stamp) }, small_more u n k n2 k2 ms le le2 all.1)
 
 -- ---- what a turn sends
 
@@ -55,15 +56,15 @@ numbered-nowhere : (nodes u v n stamp : ℕ) (ss : List Send) → nodes ≤ v �
 numbered-nowhere nodes u v n stamp [] past known = refl
 numbered-nowhere nodes u v n stamp (s ∷ ss) past known = rw (ne_eqb s.to v (λ e. omega (arith, known.0.0))) (numbered-nowhere nodes u v n stamp ss past known.1)
 
-numbered-small : (nodes u v n stamp steps : ℕ) (ss : List Send) → stamp ≤ steps → AllByRecursion (λ (s : Send). (s.to < nodes) × IsShortText s.bytes) ss → AllByRecursion (IsSmall (n + length (numbered u v n stamp ss)) steps) (numbered u v n stamp ss)
+numbered-small : (nodes u v n stamp steps : ℕ) (ss : List Send) → stamp ≤ steps → AllByRecursion (λ (s : Send). (s.to < nodes) × IsShortText s.bytes) ss → AllByRecursion (IsSmall u (n + length (numbered u v n stamp ss)) steps) (numbered u v n stamp ss)
 numbered-small nodes u v n stamp steps [] le known = tt
 numbered-small nodes u v n stamp steps (s ∷ ss) le known =
     let one : Message = record { from = u; to = v; number = n + 1; stamp = stamp; bytes = s.bytes } in
     let later = numbered u v (n + 1) stamp ss in
     let count : n + 1 + length later ≡ n + suc (length later) = omega arith in
-    let rest = subst (λ k. AllByRecursion (IsSmall k steps) later) count (numbered-small nodes u v (n + 1) stamp steps ss le known.1) in
-    either (λ (ms : List Message). AllByRecursion (IsSmall (n + length ms) steps) ms) (s.to == v) (one ∷ later) (numbered u v n stamp ss)
-    (record { short = known.0.1; number = omega arith; stamp = le }, rest) (numbered-small nodes u v n stamp steps ss le known.1)
+    let rest = subst (λ k. AllByRecursion (IsSmall u k steps) later) count (numbered-small nodes u v (n + 1) stamp steps ss le known.1) in
+    either (λ (ms : List Message). AllByRecursion (IsSmall u (n + length ms) steps) ms) (s.to == v) (one ∷ later) (numbered u v n stamp ss)
+    (record { sender = refl; short = known.0.1; number = omega arith; stamp = le }, rest) (numbered-small nodes u v n stamp steps ss le known.1)
 
 -- ---- the start
 
@@ -77,15 +78,15 @@ inputs-nowhere : (nodes v n : ℕ) (is : List Input) → nodes ≤ v → AllByRe
 inputs-nowhere nodes v n [] past known = refl
 inputs-nowhere nodes v n (i ∷ is) past known = rw (ne_eqb i.node v (λ e. omega (arith, known.0.0))) (inputs-nowhere nodes v n is past known.1)
 
-inputs-small : (nodes v n : ℕ) (is : List Input) → AllByRecursion (λ (i : Input). (i.node < nodes) × (length i.text ≤ 512)) is → AllByRecursion (IsSmall (n + length (inputs_from v n is)) 0) (inputs_from v n is)
+inputs-small : (nodes v n : ℕ) (is : List Input) → AllByRecursion (λ (i : Input). (i.node < nodes) × (length i.text ≤ 512)) is → AllByRecursion (IsSmall outside (n + length (inputs_from v n is)) 0) (inputs_from v n is)
 inputs-small nodes v n [] known = tt
 inputs-small nodes v n (i ∷ is) known =
     let one : Message = record { from = outside; to = i.node; number = n + 1; stamp = 0; bytes = i.text } in
     let later = inputs_from v (n + 1) is in
     let count : n + 1 + length later ≡ n + suc (length later) = omega arith in
-    let rest = subst (λ k. AllByRecursion (IsSmall k 0) later) count (inputs-small nodes v (n + 1) is known.1) in
-    either (λ (ms : List Message). AllByRecursion (IsSmall (n + length ms) 0) ms) (i.node == v) (one ∷ later) (inputs_from v n is)
-    (record { short = known.0.1; number = omega arith; stamp = omega arith }, rest) (inputs-small nodes v n is known.1)
+    let rest = subst (λ k. AllByRecursion (IsSmall outside k 0) later) count (inputs-small nodes v (n + 1) is known.1) in
+    either (λ (ms : List Message). AllByRecursion (IsSmall outside (n + length ms) 0) ms) (i.node == v) (one ∷ later) (inputs_from v n is)
+    (record { sender = refl; short = known.0.1; number = omega arith; stamp = omega arith }, rest) (inputs-small nodes v n is known.1)
 
 sum-none : (a n : ℕ) → sum_by (λ v. 0) (range_with_len a n) ≡ 0
 sum-none a zero = refl
@@ -101,7 +102,9 @@ within_start g limits = record {
   nowhere = λ u v past. either (λ (ms : List Message). ms ≡ []) (u == outside) (inputs_for g v) [] (inputs-nowhere g.nodes v 0 g.inputs past limits.inputs) refl;
   strangers = λ u v past ne. rw (ne_eqb u outside ne) refl;
   few = λ u v. either (λ (ms : List Message). length ms ≤ length g.inputs + 16 * 0) (u == outside) (inputs_for g v) [] (omega (arith, inputs-few v 0 g.inputs)) (omega arith);
-  mail = λ u v. either (λ (ms : List Message). AllByRecursion (IsSmall (length ms) 0) ms) (u == outside) (inputs_for g v) [] (small_more (0 + length (inputs_for g v)) 0 (length (inputs_for g v)) 0 (inputs_for g v) (omega arith) (omega arith) (inputs-small g.nodes v 0 g.inputs limits.inputs)) tt;
+  mail = λ u v. cond_both (u == outside) (inputs_for g v) [] (λ (ms : List Message). AllByRecursion (IsSmall u (length ms) 0) ms)
+      (λ same. subst (λ k. AllByRecursion (IsSmall k (length (inputs_for g v)) 0) (inputs_for g v)) (sym (eqb-true u outside same)) (small_more outside (0 + length (inputs_for g v)) 0 (length (inputs_for g v)) 0 (inputs_for g v) (omega arith) (omega arith) (inputs-small g.nodes v 0 g.inputs limits.inputs)))
+      (λ other. tt);
 }
 
 -- ---- a step
@@ -110,12 +113,9 @@ some_of : {A : Type 0} (P : A → Type 0) (o : Option A) (x : A) → IfSome o P 
 some_of P None x holds is = absurd cc
 some_of P (Some y) x holds is = let same : y ≡ x = cc in subst P same holds
 
-module _ (g : Game) (limits : IsWithinLimits g) (keeps : KeepsShort g.nodes g.size g.handler) (steps : ℕ) (w : Network) (s : Step) (t : Turn) (is : IsTurnOf g w s t) (old : IsWithin g steps w) where
-  message : IsSmall (length (w.link s.from s.node).sent) steps t.message
-  message = all_at (IsSmall (length (w.link s.from s.node).sent) steps) (w.link s.from s.node).sent (w.link s.from s.node).taken t.message (old.mail s.from s.node) is.next
-
-  allowed : IsAllowed g.nodes t.effect
-  allowed = some_of (IsAllowed g.nodes) (g.handler.after s.node g.nodes (w.place s.node).value t.message s.draws) t.effect (keeps s.node (w.place s.node).value t.message s.draws (old.comes s.node) message.short) is.effect
+module _ (g : Game) (limits : IsWithinLimits g) (keeps : KeepsLimits g.nodes g.size g.handler) (steps : ℕ) (w : Network) (s : Step) (t : Turn) (is : IsTurnOf g w s t) (old : IsWithin g steps w) where
+  message : IsSmall s.from (length (w.link s.from s.node).sent) steps t.message
+  message = all_at (IsSmall s.from (length (w.link s.from s.node).sent) steps) (w.link s.from s.node).sent (w.link s.from s.node).taken t.message (old.mail s.from s.node) is.next
 
   some_mail : 0 < length (w.link s.from s.node).sent
   some_mail = omega (arith, slice_get_within (w.link s.from s.node).sent (w.link s.from s.node).taken t.message is.next)
@@ -125,12 +125,18 @@ module _ (g : Game) (limits : IsWithinLimits g) (keeps : KeepsShort g.nodes g.si
   known = ⊎_elim (λ lt. lt) (λ past. absurd (omega (arith, some_mail, ap length (old.nowhere s.from s.node past)))) (cases_lt s.node g.nodes)
 
   -- and so is the sender, or it is the outside
+  from : (s.from < g.nodes) ⊎ (s.from ≡ outside)
+  from =
+      ⊎_elim inr (λ ne. ⊎_elim inl (λ past. absurd (omega (arith, some_mail, ap length (old.strangers s.from s.node past ne)))) (cases_lt s.from g.nodes)) (cases_eq s.from outside)
+
   pub sender : s.from ≤ outside
-  sender =
-      ⊎_elim
-      (λ (e : s.from ≡ outside). omega arith)
-      (λ ne. ⊎_elim (λ lt. omega (arith, limits.few_nodes)) (λ past. absurd (omega (arith, some_mail, ap length (old.strangers s.from s.node past ne)))) (cases_lt s.from g.nodes))
-      (cases_eq s.from outside)
+  sender = ⊎_elim (λ lt. omega (arith, lt, limits.few_nodes)) (λ (e : s.from ≡ outside). omega arith) from
+
+  call : IsCall s.node g.nodes t.message s.draws
+  call = record { placed = record { some_node = omega (arith, known); few_nodes = limits.few_nodes; known = known }; sender = subst (λ u. (u < g.nodes) ⊎ (u ≡ outside)) (sym message.sender) from; short = message.short; words = is.words }
+
+  allowed : IsAllowed g.nodes t.effect
+  allowed = some_of (IsAllowed g.nodes) (g.handler.after s.node g.nodes (w.place s.node).value t.message s.draws) t.effect (keeps s.node (w.place s.node).value t.message s.draws (old.comes s.node) call) is.effect
 
   pub stamp_at_most : t.stamp ≤ steps + 1
   stamp_at_most = omega (arith, is.stamp, old.stamps s.node, message.stamp)
@@ -148,7 +154,7 @@ module _ (g : Game) (limits : IsWithinLimits g) (keeps : KeepsShort g.nodes g.si
   pub within_applied : IsWithin g (steps + 1) (applied w s t)
   within_applied = record {
     comes = λ v. cond_both (v == s.node) (place_after (w.place v) t) (w.place v) (λ (p : Place). ComesTo g.handler v g.nodes g.size p.value)
-        (λ same. subst (λ k. ComesTo g.handler k g.nodes g.size t.effect.value) (sym (eqb-true v s.node same)) (ComesTo.next (old.comes s.node) message.short is.effect))
+        (λ same. subst (λ k. ComesTo g.handler k g.nodes g.size t.effect.value) (sym (eqb-true v s.node same)) (ComesTo.next (old.comes s.node) call is.effect))
         (λ other. old.comes v);
     turns = λ v. cond_both (v == s.node) (place_after (w.place v) t) (w.place v) (λ (p : Place). p.turns ≤ g.turns)
         (λ same. let e : v ≡ s.node = eqb-true v s.node same in let more = subst (λ k. (w.place k).turns < g.turns) (sym e) is.more in omega arith)
@@ -167,16 +173,16 @@ module _ (g : Game) (limits : IsWithinLimits g) (keeps : KeepsShort g.nodes g.si
         let old_sent = (w.link u v).sent in
         let new_sent = numbered u v (length (w.link u v).sent) t.stamp t.effect.sends in
         let count = length-append old_sent new_sent in
-        either (λ (ms : List Message). AllByRecursion (IsSmall (length ms) (steps + 1)) ms) (u == s.node) (old_sent ++ new_sent) old_sent
-        (all_append (IsSmall (length (old_sent ++ new_sent)) (steps + 1)) old_sent new_sent
-        (small_more (length old_sent) steps (length (old_sent ++ new_sent)) (steps + 1) old_sent (omega arith) (omega arith) (old.mail u v))
-        (small_more (length old_sent + length new_sent) (steps + 1) (length (old_sent ++ new_sent)) (steps + 1) new_sent (omega arith) (omega arith) (numbered-small g.nodes u v (length old_sent) t.stamp (steps + 1) t.effect.sends stamp_at_most allowed.sends)))
-        (small_more (length old_sent) steps (length old_sent) (steps + 1) old_sent (omega arith) (omega arith) (old.mail u v));
+        either (λ (ms : List Message). AllByRecursion (IsSmall u (length ms) (steps + 1)) ms) (u == s.node) (old_sent ++ new_sent) old_sent
+        (all_append (IsSmall u (length (old_sent ++ new_sent)) (steps + 1)) old_sent new_sent
+        (small_more u (length old_sent) steps (length (old_sent ++ new_sent)) (steps + 1) old_sent (omega arith) (omega arith) (old.mail u v))
+        (small_more u (length old_sent + length new_sent) (steps + 1) (length (old_sent ++ new_sent)) (steps + 1) new_sent (omega arith) (omega arith) (numbered-small g.nodes u v (length old_sent) t.stamp (steps + 1) t.effect.sends stamp_at_most allowed.sends)))
+        (small_more u (length old_sent) steps (length old_sent) (steps + 1) old_sent (omega arith) (omega arith) (old.mail u v));
   }
 
 -- ---- a legal schedule
 
-module _ (g : Game) (limits : IsWithinLimits g) (keeps : KeepsShort g.nodes g.size g.handler) where
+module _ (g : Game) (limits : IsWithinLimits g) (keeps : KeepsLimits g.nodes g.size g.handler) where
   -- the network after it
   pub within_played : (steps : ℕ) (w : Network) (stamp node : ℕ) (ss : List Step) → IsLegalFrom g w stamp node ss → IsWithin g steps w → IsWithin g (steps + length ss) (played g w ss)
   unfolding IsLegalFrom played

@@ -16,7 +16,7 @@ use Rattle.ken_core.proofs.Inserted.{IsAdding, IsAdding-insert_entry, by_stamp_a
 use Rattle.ken_core.proofs.Numbers.{consumed-sealed, mails_to-sealed}
 use Rattle.ken_core.proofs.Rising.{lines_own, turns_rise}
 use Rattle.ken_flow.specs.Standstill.{sent_on}
-use Rattle.ken_node.specs.Workers.{KeepsShort}
+use Rattle.ken_app.specs.Limits.{KeepsLimits}
 use Rattle.ken_drive.specs.Ended.{waits_in}
 use Rattle.ken_drive.proofs.EndingTold.{waiting-few}
 
@@ -93,5 +93,5 @@ module _ (g : Game) (c : Cluster) (accord : Accord g c) where
       omega (arith, took, ap length sent, ap length front.1, length-append (consumed u (h v)) front.0)
 
   -- and what waits is little
-  pub waits-little : IsWithinLimits g → KeepsShort g.nodes g.size g.handler → waits_in g c.node < 2 ^ 64
+  pub waits-little : IsWithinLimits g → KeepsLimits g.nodes g.size g.handler → waits_in g c.node < 2 ^ 64
   waits-little limits keeps = let history = some_history in waiting-few g c history.0 limits keeps accord history.1

@@ -35,7 +35,7 @@ use Rattle.ken_core.specs.Turns.{effects_line, outs_of}
 use Rattle.ken_core.proofs.History.{history_is_legal}
 use Rattle.ken_core.proofs.Numbers.{effects_lines, length-outputs_from}
 use Rattle.ken_flow.specs.Standstill.{HasEnded, sent_on, waits_on}
-use Rattle.ken_node.specs.Workers.{KeepsShort}
+use Rattle.ken_app.specs.Limits.{KeepsLimits}
 use Rattle.ken_drive.specs.Ended.{AreRestartsByNode, IsRunOf, ending_of, waits_for, waits_in}
 use Rattle.ken_drive.proofs.EndingBounds.{IsWithin, few_steps, printable_lines, within_played, within_start}
 use Rattle.ken_drive.proofs.EndingCounts.{AreByNode-from, all-by, all-from, emissions_from, emitted_by-from, in_range-le, largest-few, printable_by, some_in_sum, sum_by-same}
@@ -54,7 +54,7 @@ pub record Tells (g : Game) (c : Cluster) (l : Lines) : Type 0 where
 
 -- ---- what is played
 
-module _ (g : Game) (c : Cluster) (lines : List TurnLine) (limits : IsWithinLimits g) (keeps : KeepsShort g.nodes g.size g.handler) (accord : Accord g c) (history : IsHistoryOf c lines) where
+module _ (g : Game) (c : Cluster) (lines : List TurnLine) (limits : IsWithinLimits g) (keeps : KeepsLimits g.nodes g.size g.handler) (accord : Accord g c) (history : IsHistoryOf c lines) where
   abbrev h : ℕ → List Turn
   h = accord.history
 
@@ -147,7 +147,7 @@ module _ (g : Game) (c : Cluster) (lines : List TurnLine) (limits : IsWithinLimi
 
 -- ---- what is told
 
-module _ (kind : Kind) (g : Game) (c : Cluster) (l : Lines) (limits : IsWithinLimits g) (keeps : KeepsShort g.nodes g.size g.handler) (of_kind : g.handler ≡ handler_of kind) (plain : IsPlainRun g) (accord : Accord g c) (ended : HasEnded g c.emissions c.node) (tells : Tells g c l) where
+module _ (kind : Kind) (g : Game) (c : Cluster) (l : Lines) (limits : IsWithinLimits g) (keeps : KeepsLimits g.nodes g.size g.handler) (of_kind : g.handler ≡ handler_of kind) (plain : IsPlainRun g) (accord : Accord g c) (ended : HasEnded g c.emissions c.node) (tells : Tells g c l) where
   abbrev w : Network
   w = play g (steps_of l.turns)
 

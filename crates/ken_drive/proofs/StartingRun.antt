@@ -29,7 +29,7 @@ use Rattle.ken_node.specs.Restarts.{IsUpAgain}
 use Rattle.ken_node.specs.Stages.{refusals_in}
 use Rattle.ken_ship.specs.Fates as ship
 use Rattle.ken_node.specs.Up.{IsUp}
-use Rattle.ken_node.proofs.ShortKinds.{kinds_keep_short}
+use Rattle.ken_node.proofs.ShortKinds.{kinds_keep_limits}
 use Rattle.ken_flow.specs.Flows.{AreKnown}
 use Rattle.ken_flow.specs.Groups.{group_of, with_node}
 use Rattle.ken_flow.specs.Laws.{FirstIsInAccord}
@@ -115,7 +115,7 @@ module _ {D O U : Type 0} (told : Watched D → Option Story) (size : Watched D 
     nodes = λ v. first_node (game_of f);
     stands = record {
       limits = limits;
-      keeps = kinds_keep_short f.kind f.nodes f.size limits.some_node limits.few_nodes;
+      keeps = kinds_keep_limits f.kind f.nodes f.size;
       few = omega arith;
       count = count;
       handler = handler;

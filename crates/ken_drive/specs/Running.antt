@@ -18,7 +18,7 @@ use Rattle.ken_ship.specs.declared.faults.NodeFault.TheVariants.{Disk, Damaged, 
 use Rattle.ken_node.specs.declared.watched.Watched.{Watched}
 use Rattle.ken_node.specs.Down.{IsDown}
 use Rattle.ken_node.specs.Up.{IsUp}
-use Rattle.ken_node.specs.Workers.{KeepsShort}
+use Rattle.ken_app.specs.Limits.{KeepsLimits}
 use Rattle.ken_flow.specs.Flows.{AreKnown}
 use Rattle.ken_flow.specs.Groups.{group_of}
 use Rattle.ken_flow.specs.Standstill.{AreShort}
@@ -34,7 +34,7 @@ module _ {D O U : Type 0} (told : Watched D → Option Story) (size : Watched D 
   -- so many nodes of this game were made, they stand for these in accord, which emitted this, and all on its way was put
   pub record StandsFor (g : Game) (made : ℕ) (nodes : ℕ → Node) (emissions : List Emission) (r : Run D O U) : Type 0 where
     pub limits : IsWithinLimits g
-    pub keeps : KeepsShort g.nodes g.size g.handler
+    pub keeps : KeepsLimits g.nodes g.size g.handler
     pub few : made ≤ g.nodes
     pub count : r.nodes ≡ made
     pub handler : handler_of r.app.0 ≡ g.handler

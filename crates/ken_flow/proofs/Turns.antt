@@ -19,6 +19,7 @@ use Rattle.ken_flow.proofs.Lists.{filter_yes, filter_no, if_yes, if_no}
 -- ---- where messages come from
 
 pub record IsInput (g : Game) (m : Message) : Type 0 where
+  pub from : m.from ≡ outside
   pub stamp : m.stamp ≡ 0
   pub input : Input
   pub one : Contains g.inputs input
@@ -72,20 +73,21 @@ sent_in u v n (t ∷ ts) m there =
 
 -- an input's message, by its place on the list
 pub record IsOfInput (is : List Input) (m : Message) : Type 0 where
+  pub from : m.from ≡ outside
   pub stamp : m.stamp ≡ 0
   pub input : Input
   pub one : Contains is input
   pub bytes : m.bytes ≡ input.text
 
 input_later : (i : Input) (is : List Input) (m : Message) → IsOfInput is m → IsOfInput (i ∷ is) m
-input_later i is m it = record { stamp = it.stamp; input = it.input; one = later_in i is it.input it.one; bytes = it.bytes }
+input_later i is m it = record { from = it.from; stamp = it.stamp; input = it.input; one = later_in i is it.input it.one; bytes = it.bytes }
 
 input_in : (v n : ℕ) (is : List Input) (m : Message) → Contains (inputs_from v n is) m → IsOfInput is m
 input_in v n [] m there = absurd (none_in m there)
 input_in v n (i ∷ is) m there =
     let first : Message = record { from = outside; to = i.node; number = n + 1; stamp = 0; bytes = i.text } in
     ⊎_elim
-    (λ (same : first ≡ m). record { stamp = sym (ap (λ (x : Message). x.stamp) same); input = i; one = first_in i is; bytes = sym (ap (λ (x : Message). x.bytes) same) })
+    (λ (same : first ≡ m). record { from = sym (ap (λ (x : Message). x.from) same); stamp = sym (ap (λ (x : Message). x.stamp) same); input = i; one = first_in i is; bytes = sym (ap (λ (x : Message). x.bytes) same) })
     (⊎_elim (λ more. input_later i is m (input_in v (n + 1) is m more)) (λ less. input_later i is m (input_in v n is m less)))
     (either (i.node == v) first (inputs_from v (n + 1) is) (inputs_from v n is) m there)
 
@@ -95,7 +97,7 @@ message_in g h u v m there =
     ⊎_elim
     (λ (out : u ≡ outside).
     let it = input_in v 0 g.inputs m (subst (λ (ms : List Message). Contains ms m) (if_yes (u == outside) (inputs_for g v) (sent_by u v 0 (h u)) (eq-eqb u outside out)) there) in
-    inl (record { stamp = it.stamp; input = it.input; one = it.one; bytes = it.bytes }))
+    inl (record { from = it.from; stamp = it.stamp; input = it.input; one = it.one; bytes = it.bytes }))
     (λ node. inr (sent_in u v 0 (h u) m (subst (λ (ms : List Message). Contains ms m) (if_no (u == outside) (inputs_for g v) (sent_by u v 0 (h u)) (ne_eqb u outside node)) there)))
     (cases_eq u outside)
 

@@ -37,7 +37,8 @@ use Rattle.ken_node.specs.Created.{AreNew, AreOver, IsCreation, IsNewNode, first
 use Rattle.ken_node.specs.Faults.{node_answer, store_answer}
 use Rattle.ken_node.specs.First.{AreFirst, IsNewRing}
 use Rattle.ken_node.specs.Stages.{IsUncreated}
-use Rattle.ken_node.specs.Workers.{ComesTo, Working, first}
+use Rattle.ken_app.specs.Limits.{ComesTo, first}
+use Rattle.ken_node.specs.Workers.{Working}
 use Rattle.ken_node.proofs.Answered.{store_answer-node_answer}
 
 -- whose disks these parts tell

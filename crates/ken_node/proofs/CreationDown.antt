@@ -31,7 +31,7 @@ use Rattle.ken_node.specs.DownLaws.{CreationGoesDown}
 use Rattle.ken_node.specs.First.{AreFirst, IsNewRing}
 use Rattle.ken_node.specs.Meeting.{IsEmptied}
 use Rattle.ken_node.specs.News.{AreInputs}
-use Rattle.ken_node.specs.Workers.{first}
+use Rattle.ken_app.specs.Limits.{first}
 use Rattle.ken_node.proofs.Finding.{some_of}
 use Rattle.ken_node.proofs.InputsOf.{inputs_are}
 use Rattle.ken_node.proofs.NewWhole.{first-reads, first-sent, first-state, heap-sized, none-counted}

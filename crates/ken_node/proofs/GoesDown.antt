@@ -47,7 +47,7 @@ use Rattle.ken_node.specs.DownLaws.{PatchGoesDown, SyncGoesDown, WholeGoesDown}
 use Rattle.ken_node.specs.Meeting.{AreJoined}
 use Rattle.ken_node.specs.Patches.{waits_of}
 use Rattle.ken_node.specs.Whole.{AreOfRun, AreWorkersOf, IsWhole}
-use Rattle.ken_node.specs.Workers.{ComesTo}
+use Rattle.ken_app.specs.Limits.{ComesTo}
 use Rattle.ken_node.proofs.PatchesWhole.{covers-node, joined-patcher}
 
 -- ---- which of two logs is current

@@ -17,8 +17,10 @@ use Rattle.ken_store.specs.Turning.{IsSameNode, IsSealed, Turning, record_of}
 use Rattle.ken_node.specs.declared.worker.TurnWorker.{TurnWorker}
 use Rattle.ken_node.specs.Calls.{consumed_with}
 use Rattle.ken_node.specs.Making.{IsMade, IsMessage, stamp_in}
-use Rattle.ken_node.specs.Workers as workers
-use Rattle.ken_node.specs.Workers.{ComesTo, Working}
+use Rattle.ken_node.proofs.Handled.{call_of}
+use Rattle.ken_app.specs.Limits.{ComesTo}
+use Rattle.ken_app.specs.Limits as limits
+use Rattle.ken_node.specs.Workers.{Working}
 
 module _ {D : Type 0} (told : D → Option Story) (size : D → ℕ) (h : Handler) (before : TurnSide D) (w new : TurnWorker D) (m : Message) (e : Effects) (working : Working told size h (record w { side = before })) (made : IsMade h m e before w.side) (message : IsMessage w.node w.order m) where
   stamped : e.stamp ≡ stamp_in before.numbers m
@@ -62,7 +64,8 @@ module _ {D : Type 0} (told : D → Option Story) (size : D → ℕ) (h : Handle
     comes : ComesTo h new.node new.nodes (256 * new.side.owner.pages) new.side.objects.value
     comes =
         let after : h.after w.node w.nodes before.objects.value m e.draws ≡ Some made.effect = rw (working.node, working.nodes) at made.made in
-        let next : ComesTo h w.node w.nodes (256 * before.owner.pages) made.effect.value = workers.next working.heap message.short after in
+        let call = call_of before.owner w.order m e.draws w.node w.nodes working.side.owner working.node working.nodes (ap (λ (c : Consumed). c.nodes) working.order) message made.words in
+        let next : ComesTo h w.node w.nodes (256 * before.owner.pages) made.effect.value = limits.next working.heap call after in
         rw (node, nodes, owner, value) next
 
     pub working_kept : Working told size h new

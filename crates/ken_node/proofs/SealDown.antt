@@ -1,5 +1,5 @@
 -- A node whose seal is in doubt may be restarted.
-use Rattle.std.proofs.Common.{◌≡◌, ℕ, ◌+◌, ◌*◌, ◌<◌, List, [], ◌∷◌, ◌++◌, length, map, replicate, take, true, Contains, refl, sym, ap, subst, ◌∙◌, ⊎_elim, Option, Some, Ok, Err}
+use Rattle.std.proofs.Common.{◌≡◌, ℕ, ◌+◌, ◌*◌, ◌<◌, List, [], ◌∷◌, ◌++◌, length, map, replicate, take, true, Contains, refl, sym, ap, subst, ◌∙◌, ⊎_elim, arith, Option, Some, Ok, Err}
 use Rattle.ken_disk.specs.Fates.{Fate}
 use Rattle.ken_disk.specs.Story.{Story, IsImage}
 use Rattle.ken_disk.proofs.Images.{image_at_rest}
@@ -50,12 +50,12 @@ use Rattle.ken_node.specs.Making.{IsMade}
 use Rattle.ken_node.specs.Sealing.{SealsTurn, coming_pages, coming_turn}
 use Rattle.ken_node.specs.TurnLaws.{turn_made}
 use Rattle.ken_node.specs.Whole.{IsWhole}
-use Rattle.ken_node.specs.Workers.{next}
+use Rattle.ken_app.specs.Limits.{IsCall, next}
 use Rattle.ken_node.proofs.GoesDown.{FoundLog, LeavesLogs, comes, finds-current, found-over, is-down, leaves-by, live-recounted, log-of, owner-is, possible-now}
 use Rattle.ken_node.proofs.Paced.{paced-more}
 use Rattle.ken_node.proofs.PatchesWhole.{covers-node}
 use Rattle.ken_node.proofs.SealsWhole.{after, begun-heap, comes-of, coming, counted-after, handler-made, number-is, own-after, sent-after, stands-after, state-after, turn, turns-are}
-use Rattle.ken_node.proofs.ShortMails.{came-short}
+use Rattle.ken_node.proofs.ShortMails.{came-known, came-short}
 use Rattle.ken_node.proofs.TurnoversWhole.{joined-side, of-run-side}
 
 module _ {D : Type 0} (told : D → Option Story) (size : D → ℕ) (g : Game) (v : ℕ) (n : Node) (t : TurnWorker D) (p : PatchWorker D) (s : SendWorker) (whole : IsWhole told size g v n t p s) (m : Message) (e : Effects) (begun : TurnSide D) (made : IsMade g.handler m e t.side begun)
@@ -83,15 +83,15 @@ module _ {D : Type 0} (told : D → Option Story) (size : D → ℕ) (g : Game) 
       let within : AreWithin (heap_pages g) (coming_pages begun) = changed_within (heap_pages g) (turn_pages begun).heap (coming_pages begun) long changed.each in
       seal_keeps_coverage (heap_pages g) true n.turning.pages n.patching counted (coming_pages begun) within covers-now
 
-  sound-then : IsShortText m.bytes → IsSound g v landed
-  sound-then short = record {
+  sound-then : IsCall v g.nodes m e.draws → IsSound g v landed
+  sound-then call = record {
     up = whole.workers.sends.due.up;
     own = whole.workers.sends.due.own ++ turn told size g v n t p s whole m e begun made may ∷ [];
     turns = own-after told size g v n t p s whole m e begun made may;
     covers = covers-then;
     value = made.effect.value;
     reads = stands-after told size g v n t p s whole m e begun made may;
-    comes = next (comes told size g v n t p s whole.workers whole.pages.turning) short (handler-made told size g v n t p s whole m e begun made may);
+    comes = next (comes told size g v n t p s whole.workers whole.pages.turning) call (handler-made told size g v n t p s whole m e begun made may);
   }
 
   -- its live records, each page of which counts as changed by the last turn of its layer
@@ -127,7 +127,7 @@ module _ {D : Type 0} (told : D → Option Story) (size : D → ℕ) (g : Game) 
       }
 
   -- what a crash leaves while the seal is in doubt: the log without the record or with it
-  module _ (count : D → ℕ) (fate : D → Option Fate) (given : List Packet) (room : length t.side.records.items < 32) (short : IsShortText m.bytes) (sealable : MaySeal g (Contains given) v n m.from e.draws (coming_pages begun) (turn_made m e made.effect)) (new : TurnSide D)
+  module _ (count : D → ℕ) (fate : D → Option Fate) (given : List Packet) (room : length t.side.records.items < 32) (call : IsCall v g.nodes m e.draws) (sealable : MaySeal g (Contains given) v n m.from e.draws (coming_pages begun) (turn_made m e made.effect)) (new : TurnSide D)
       (sealing : SealsTurn told size count fate {T = Unit {0}} (Err store.Disk) e begun new) where
     abbrev doubt : Doubt
     doubt = seal m.from e.draws (coming_pages begun)
@@ -170,7 +170,7 @@ module _ {D : Type 0} (told : D → Option Story) (size : D → ℕ) (g : Game) 
           holds = log-then;
           comes_out = (turn_made m e made.effect, (sealable, refl));
           last = (t.side.records.items, (its, (refl, turns-are told size g v n t p s whole m e begun made may)));
-          sound = sound-then short;
+          sound = sound-then call;
           tells = tells-then room;
           finds = finds-current (owner_of g v) log-then passes.owned new.which log other (with_it ∙ ap (with_record its) mounted) older;
           possible = record { size = possible.size; same = possible.same };
@@ -196,5 +196,5 @@ module _ {D O N : Type 0} (told : D → Option Story) (size count : D → ℕ) (
       let d = doubts.doubt in
       let given : List Packet = packets_from g.nodes doubts.before.given in
       let may = subst (λ (x : Turn). MaySeal g (Contains given) v node m.from d.effects.draws (coming_pages d.begun) x) doubts.turn_is doubts.may in
-      let short : IsShortText m.bytes = came-short g doubts.before.given v m limits may.came in
-      seal-down told size g v node mid p s whole m d.effects d.begun d.made d.seals.may count fate given doubts.room short may t2.side d.seals t2 refl d.quiet limits known tell
+      let call : IsCall v g.nodes m d.effects.draws = record { placed = record { some_node = omega (arith, known); few_nodes = limits.few_nodes; known = known }; sender = came-known g doubts.before.given v m may.came; short = came-short g doubts.before.given v m limits may.came; words = d.made.words } in
+      seal-down told size g v node mid p s whole m d.effects d.begun d.made d.seals.may count fate given doubts.room call may t2.side d.seals t2 refl d.quiet limits known tell

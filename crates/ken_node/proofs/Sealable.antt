@@ -27,8 +27,9 @@ use Rattle.ken_node.specs.declared.worker.TurnWorker.{TurnWorker}
 use Rattle.ken_node.specs.Capped as capped
 use Rattle.ken_node.specs.Capped.{HasHigh, IsHigh}
 use Rattle.ken_node.specs.Making.{IsMade, IsMessage, MayTakeMore, effects_in, stamp_in}
-use Rattle.ken_node.specs.Workers.{KeepsShort, Working}
-use Rattle.ken_node.proofs.Handled.{if_some}
+use Rattle.ken_app.specs.Limits.{KeepsLimits}
+use Rattle.ken_node.specs.Workers.{Working}
+use Rattle.ken_node.proofs.Handled.{call_of, if_some}
 use Rattle.ken_node.proofs.Numbering.{are_numbered-outputs_from, length-posted, outs_fit, outs_follow-outputs_from, sends_follow-sents, sents, sents_fit}
 
 pub AllByRecursion-weaker : {A : Type 0} (P Q : A → Type 0) (xs : List A) → ((x : A) → P x → Q x) → AllByRecursion P xs → AllByRecursion Q xs
@@ -111,10 +112,12 @@ module _ (o : Owner) (n : Numbers) (v : ℕ) (m : Message) (draws : List ℕ) (e
 
 -- ---- the turn
 
-module _ {D : Type 0} (told : D → Option Story) (size : D → ℕ) (h : Handler) (w : TurnWorker D) (working : Working told size h w) (keeps : KeepsShort w.nodes (256 * w.side.owner.pages) h) (m : Message) (message : IsMessage w.node w.order m) where
+module _ {D : Type 0} (told : D → Option Story) (size : D → ℕ) (h : Handler) (w : TurnWorker D) (working : Working told size h w) (keeps : KeepsLimits w.nodes (256 * w.side.owner.pages) h) (m : Message) (message : IsMessage w.node w.order m) where
   -- what the handler makes of the message is within the limits
-  pub allowed : (draws : List ℕ) (effect : Effect) → h.after w.node w.nodes w.side.objects.value m draws ≡ Some effect → IsAllowed w.nodes effect
-  allowed draws effect made = if_some (IsAllowed w.nodes) (h.after w.node w.nodes w.side.objects.value m draws) effect made (keeps w.node w.side.objects.value m draws working.heap message.short)
+  pub allowed : (draws : List ℕ) (effect : Effect) → AllByRecursion IsWord draws → h.after w.node w.nodes w.side.objects.value m draws ≡ Some effect → IsAllowed w.nodes effect
+  allowed draws effect words made =
+      let call = call_of w.side.owner w.order m draws w.node w.nodes working.side.owner working.node working.nodes (ap (λ (c : Consumed). c.nodes) working.order) message words in
+      if_some (IsAllowed w.nodes) (h.after w.node w.nodes w.side.objects.value m draws) effect made (keeps w.node w.side.objects.value m draws working.heap call)
 
   module _ (more : MayTakeMore w) (most : w.cap ≤ 100000) where
     pub may_seal : (e : Effects) (new : TurnSide D) → IsMade h m e w.side new → AtMost 16 IsWord e.draws → MaySeal new e
@@ -131,7 +134,7 @@ module _ {D : Type 0} (told : D → Option Story) (size : D → ℕ) (h : Handle
         let sender : IsSender o.nodes m.from = subst (λ k. IsSender k m.from) (ap (λ (c : Consumed). c.nodes) order ∙ sym working.nodes) message.sender in
         let number : m.number ≡ slice_index n.consumed (place m.from) + 1 = message.number ∙ ap (λ (c : Consumed). slice_index c.consumed (place m.from) + 1) order in
         let after : h.after w.node w.nodes w.side.objects.value m e.draws ≡ Some made.effect = rw (working.node, working.nodes) at made.made in
-        let is : IsAllowed o.nodes made.effect = subst (λ k. IsAllowed k made.effect) (sym working.nodes) (allowed e.draws made.effect after) in
+        let is : IsAllowed o.nodes made.effect = subst (λ k. IsAllowed k made.effect) (sym working.nodes) (allowed e.draws made.effect drawn.1 after) in
         let spelled = fits o n v m e.draws made.effect few wide more.numbers few_turns sender number message.stamp drawn is in
         let going = follow o n v m e.draws made.effect few wide more.numbers few_turns sender number message.stamp drawn is in
         let P : Numbers → Effects → Type 0 = λ k x. IsRecord One (record_of (k.turns + 1) x []) in

@@ -17,8 +17,8 @@ use Rattle.ken_model.proofs.Others.{to_others-each, to_others-few}
 use Rattle.ken_num.specs.Numbers.{num}
 use Rattle.ken_num.proofs.Small.{num-lt}
 use Rattle.ken_app.specs.Turning.{IsAllowed, IsShortText}
-use Rattle.ken_node.specs.KindLaws.{KindsKeepShort}
-use Rattle.ken_node.specs.Workers.{ComesTo, first, next}
+use Rattle.ken_node.specs.KindLaws.{KindsKeepLimits}
+use Rattle.ken_app.specs.Limits.{ComesTo, first, next}
 
 -- what holds of both holds of one
 either : {A : Type 0} (P : A → Type 0) (c : Bool) (x y : A) → P x → P y → P (if c then x else y)
@@ -166,13 +166,13 @@ short_after Mix node nodes value m draws e some few all short is = short_mix nod
 short_after Kv node nodes value m draws e some few all short is = undrawn node nodes value some all draws (kv value (command_of m.bytes)) e (short_kv nodes value (command_of m.bytes) all (fits_in m.bytes (position (λ b. b == 32) m.bytes) short)) is
 
 -- the blocks of a heap that a kind comes to are short
-comes_short : (kind : Kind) (node nodes size : ℕ) (value : Value) → 0 < nodes → nodes ≤ 8 → ComesTo (handler_of kind) node nodes size value → AreShort value.blocks
-comes_short kind node nodes size _ some few first = tt
-comes_short kind node nodes size _ some few (next {value} {m} {draws} {effect} comes short is) = (short_after kind node nodes value m draws effect some few (comes_short kind node nodes size value some few comes) short is).blocks
+comes_short : (kind : Kind) (node nodes size : ℕ) (value : Value) → ComesTo (handler_of kind) node nodes size value → AreShort value.blocks
+comes_short kind node nodes size _ first = tt
+comes_short kind node nodes size _ (next {value} {m} {draws} {effect} comes call is) = (short_after kind node nodes value m draws effect call.placed.some_node call.placed.few_nodes (comes_short kind node nodes size value comes) call.short is).blocks
 
 allowed_by : (kind : Kind) (node nodes : ℕ) (value : Value) (m : Message) (draws : List ℕ) (o : Option Effect) → after kind node nodes value m draws ≡ o → 0 < nodes → nodes ≤ 8 → AreShort value.blocks → IsShortText m.bytes → IfSome o (IsAllowed nodes)
 allowed_by kind node nodes value m draws None is some few all short = tt
 allowed_by kind node nodes value m draws (Some e) is some few all short = (short_after kind node nodes value m draws e some few all short is).allowed
 
-pub kinds_keep_short : KindsKeepShort
-kinds_keep_short kind nodes size some few node value m draws comes short = allowed_by kind node nodes value m draws (after kind node nodes value m draws) refl some few (comes_short kind node nodes size value some few comes) short
+pub kinds_keep_limits : KindsKeepLimits
+kinds_keep_limits kind nodes size node value m draws comes call = allowed_by kind node nodes value m draws (after kind node nodes value m draws) refl call.placed.some_node call.placed.few_nodes (comes_short kind node nodes size value comes) call.short

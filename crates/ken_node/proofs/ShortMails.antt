@@ -1,5 +1,5 @@
 -- A message that came to a node is short.
-use Rattle.std.proofs.Common.{◌≡◌, ℕ, zero, suc, ◌-◌, Bool, true, false, ◌==◌, ◌&&◌, nat_lt, if◌then◌else◌, List, [], ◌∷◌, length, take, drop, Contains, Option, Some, None, refl, ap, subst, ⊎_elim, arith}
+use Rattle.std.proofs.Common.{◌≡◌, ℕ, zero, suc, ◌-◌, ◌<◌, inl, inr, ltb-true, Bool, true, false, ◌==◌, ◌&&◌, nat_lt, if◌then◌else◌, List, [], ◌∷◌, length, take, drop, Contains, Option, Some, None, refl, ap, subst, ⊎_elim, arith}
 use Rattle.std.proofs.lemmas.Bool.{ltb-false}
 use Rattle.std.proofs.lemmas.List.{length-take}
 use Rattle.std.proofs.lemmas.List.Elements.{Contains-append_cases}
@@ -7,6 +7,7 @@ use Rattle.ken_model.specs.declared.messages.Message.{Message}
 use Rattle.ken_model.specs.Game.{Game}
 use Rattle.ken_model.specs.Limits.{IsWithinLimits}
 use Rattle.ken_app.specs.Turning.{IsShortText}
+use Rattle.ken_order.specs.Consumed.{IsSender}
 use Rattle.ken_record.specs.Reading.{◌>>=◌, number_at, part_at, text_at}
 use Rattle.ken_record.proofs.Forms.{bind_some, if_none, if_some, some_is}
 use Rattle.ken_packet.specs.declared.packet.Packet.{Packet as Spelled}
@@ -79,6 +80,33 @@ mail-short nodes (bytes ∷ given) m has = ⊎_elim
     (λ here. given-short nodes (packet_of bytes) m (λ x is. let read = mail-read bytes x is in short-between read.from read.to read.rest x read.between) here)
     (λ later. mail-short nodes given m later)
     (Contains-append_cases (packet_from nodes (packet_of bytes)) (packets_from nodes given) (Mail m) has)
+
+-- its sender is one of the run
+given-known : (nodes : ℕ) (p : Option Spelled) (m : Message) → Contains (packet_from nodes p) (Mail m) → m.from < nodes
+given-known nodes None m has = absurd (omega (arith, has.1))
+given-known nodes (Some (Ack from to through)) m has = by (nat_lt from nodes) has
+  where
+    by : (b : Bool) → Contains (if b then Answer (record { from = from; to = to; through = through }) ∷ [] else []) (Mail m) → m.from < nodes
+    by true (zero, low, is) = absurd cc
+    by true (suc k, low, is) = absurd (omega (arith, low))
+    by false (k, low, is) = absurd (omega (arith, low))
+given-known nodes (Some (SpelledMail x)) m has = by (nat_lt x.from nodes) refl has
+  where
+    by : (b : Bool) → nat_lt x.from nodes ≡ b → Contains (if b then Mail x ∷ [] else []) (Mail m) → m.from < nodes
+    by true known (zero, low, is) = let same : x ≡ m = cc in let below = ltb-true x.from nodes known in omega (arith, below, ap (λ (y : Message). y.from) same)
+    by true known (suc k, low, is) = absurd (omega (arith, low))
+    by false known (k, low, is) = absurd (omega (arith, low))
+
+mail-known : (nodes : ℕ) (given : List (List ℕ)) (m : Message) → Contains (packets_from nodes given) (Mail m) → m.from < nodes
+mail-known nodes [] m has = absurd (omega (arith, has.1))
+mail-known nodes (bytes ∷ given) m has = ⊎_elim
+    (λ here. given-known nodes (packet_of bytes) m here)
+    (λ later. mail-known nodes given m later)
+    (Contains-append_cases (packet_from nodes (packet_of bytes)) (packets_from nodes given) (Mail m) has)
+
+-- the sender of what came is a node of the run or the outside
+pub came-known : (g : Game) (given : List (List ℕ)) (v : ℕ) (m : Message) → Came g (Contains (packets_from g.nodes given)) v m → IsSender g.nodes m.from
+came-known g given v m came = ⊎_elim (λ mail. inl (mail-known g.nodes given m mail)) (λ input. inr input.0) came
 
 -- a mail that was given to the node, or an input
 pub came-short : (g : Game) (given : List (List ℕ)) (v : ℕ) (m : Message) → IsWithinLimits g → Came g (Contains (packets_from g.nodes given)) v m → IsShortText m.bytes

@@ -61,7 +61,8 @@ use Rattle.ken_node.specs.Meeting.{IsEmptied}
 use Rattle.ken_node.specs.Paced.{IsPaced}
 use Rattle.ken_node.specs.Restarts.{AreOfRestart, GoOnFrom, kept_turns}
 use Rattle.ken_node.specs.Whole.{AreNumbersOf, HasReached, IsSettledAt, IsWhole, WereTold}
-use Rattle.ken_node.specs.Workers.{ComesTo, Working}
+use Rattle.ken_app.specs.Limits.{ComesTo}
+use Rattle.ken_node.specs.Workers.{Working}
 use Rattle.ken_node.proofs.Creation.{size_is}
 use Rattle.ken_node.proofs.FoundAgain.{HasLog, log-is-found, whole-has-log}
 use Rattle.ken_node.proofs.NewWhole.{zero-at}

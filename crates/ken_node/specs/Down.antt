@@ -44,7 +44,7 @@ use Rattle.ken_node.specs.News.{AreInputs}
 use Rattle.ken_node.specs.Paced.{IsPaced}
 use Rattle.ken_node.specs.Stages.{HasDisks, turns_in}
 use Rattle.ken_node.specs.Whole.{AreNumbersOf, AreOfRun}
-use Rattle.ken_node.specs.Workers.{ComesTo}
+use Rattle.ken_app.specs.Limits.{ComesTo}
 
 -- ---- what the logs of a node hold
 

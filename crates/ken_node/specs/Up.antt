@@ -14,7 +14,7 @@ use Rattle.ken_node.specs.declared.worker.TurnWorker.{TurnWorker}
 use Rattle.ken_node.specs.Down.{AreTold}
 use Rattle.ken_node.specs.Meeting.{AreEmpty}
 use Rattle.ken_node.specs.Whole.{IsWhole}
-use Rattle.ken_node.specs.Workers.{KeepsShort}
+use Rattle.ken_app.specs.Limits.{KeepsLimits}
 
 module _ {D : Type 0} (told : D → Option Story) (size : D → ℕ) where
   -- node v of a run, which is up: its workers stand for this node of the core, with nothing on its way in their rings
@@ -50,4 +50,4 @@ module _ {D : Type 0} (told : D → Option Story) (size : D → ℕ) where
     pub up : IsUp game node stands_for stage
     pub count : nodes ≡ game.nodes
     pub of_run : handler ≡ game.handler
-    pub keeps : KeepsShort game.nodes game.size game.handler
+    pub keeps : KeepsLimits game.nodes game.size game.handler

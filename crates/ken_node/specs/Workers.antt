@@ -1,25 +1,12 @@
 -- What a contract sees of a node's handler.
-use Rattle.std.specs.Prelude.{◌≡◌, ℕ, ◌*◌, List, length, Option, Some, None, IfSome}
+use Rattle.std.specs.Prelude.{◌≡◌, ℕ, ◌*◌, length, Option, None}
 use Rattle.ken_disk.specs.Story.{Story}
-use Rattle.ken_model.specs.declared.messages.Message.{Message}
-use Rattle.ken_model.specs.declared.values.Value.{Value}
-use Rattle.ken_model.specs.Effects.{Effect}
 use Rattle.ken_model.specs.Handler.{Handler}
-use Rattle.ken_model.specs.Network.{empty_heap}
-use Rattle.ken_app.specs.Turning.{IsAllowed, IsShortText}
+use Rattle.ken_app.specs.Limits.{ComesTo}
 use Rattle.ken_links.specs.Rings.{popped, nones, SamePushEnd, SamePopEnd}
 use Rattle.ken_store.specs.Turning.{Turning}
 use Rattle.ken_node.specs.declared.worker.TurnWorker.{TurnWorker}
 pub use Rattle.ken_node.specs.News.{IsInput, AreInputs, latest, TakesNews}
-
--- a heap that a handler comes to at a node: the empty one, or what it makes of one that it comes to
-pub data ComesTo (h : Handler) (node nodes size : ℕ) : Value → Type 0 where
-  first : ComesTo h node nodes size (empty_heap size)
-  next : {value : Value} {m : Message} {draws : List ℕ} {effect : Effect} → ComesTo h node nodes size value → IsShortText m.bytes → h.after node nodes value m draws ≡ Some effect → ComesTo h node nodes size effect.value
-
--- a handler that keeps the limits of a turn at each node, whatever it comes to
-abbrev pub KeepsShort : ℕ → ℕ → Handler → Type 0
-KeepsShort nodes size h = (node : ℕ) (value : Value) (m : Message) (draws : List ℕ) → ComesTo h node nodes size value → IsShortText m.bytes → IfSome (h.after node nodes value m draws) (IsAllowed nodes)
 
 -- a worker that takes calls, with no turn begun: it goes on from the numbers of its log, and its heap is one that the handler comes to
 pub record Working {D : Type 0} (told : D → Option Story) (size : D → ℕ) (h : Handler) (w : TurnWorker D) : Type 0 where

@@ -5,7 +5,8 @@ ghost use Rattle.ken_links.specs.Rings.{free};
 ghost use Rattle.ken_node.specs.Calls.{TakesTurn};
 ghost use Rattle.ken_node.specs.Capped.{IsCapped};
 ghost use Rattle.ken_node.specs.declared.worker.TurnWorker.{TurnWorker};
-ghost use Rattle.ken_node.specs.Workers.{HearsNews, IsSameWorker, KeepsShort, Working};
+ghost use Rattle.ken_app.specs.Limits.{KeepsLimits};
+ghost use Rattle.ken_node.specs.Workers.{HearsNews, IsSameWorker, Working};
 
 use crate::faults::answered;
 use crate::took::Took;
@@ -32,7 +33,7 @@ impl<D: Disk> TurnWorker<D> {
         oracle: &mut O,
     ) -> Result<Took, NodeFault>
         requires working { Working D.told D.size (A.handler app.now) self.old }
-        requires keeps { KeepsShort self.old.nodes (256 * self.old.side.owner.pages) (A.handler app.now) }
+        requires keeps { KeepsLimits self.old.nodes (256 * self.old.side.owner.pages) (A.handler app.now) }
         requires end { (N.node net.old ≡ self.old.node) × (N.nodes net.old ≡ self.old.nodes) }
         requires slots { (0 < free self.old.pages) × (0 < free self.old.sealed) }
         ensures same { IsSameWorker self.old self.new }
@@ -58,7 +59,7 @@ impl<D: Disk> TurnWorker<D> {
         oracle: &mut O,
     ) -> Result<Took, NodeFault>
         requires working { Working D.told D.size (A.handler app.now) self.old }
-        requires keeps { KeepsShort self.old.nodes (256 * self.old.side.owner.pages) (A.handler app.now) }
+        requires keeps { KeepsLimits self.old.nodes (256 * self.old.side.owner.pages) (A.handler app.now) }
         requires open_yet { IsCapped self.old → ⊥ }
         requires end { (N.node net.old ≡ self.old.node) × (N.nodes net.old ≡ self.old.nodes) }
         requires slots { (0 < free self.old.pages) × (0 < free self.old.sealed) }

@@ -1,6 +1,6 @@
 // What the calls of a node's workers are as events of the node. Each law is the contract of a function that does nothing.
 ghost use Rattle.ken_node.specs.DownLaws.{CreationGoesDown, MeetingStaysDown, PatchGoesDown, SealGoesDown, SyncGoesDown, TurnGoesDown, TurnoverGoesDown, WholeGoesDown};
-ghost use Rattle.ken_node.specs.KindLaws.{KindsKeepShort};
+ghost use Rattle.ken_node.specs.KindLaws.{KindsKeepLimits};
 ghost use Rattle.ken_node.specs.NewLaws.{NewAreWhole};
 ghost use Rattle.ken_node.specs.Synced.{UpHasSynced};
 ghost use Rattle.ken_node.specs.TurnLaws.{TurnKeepsWhole};
@@ -48,8 +48,8 @@ pub fn a_turn_keeps_the_whole<D: Disk, O: Oracle, N: Net>()
 {}
 
 /// What the kinds' handlers send and output keeps the limits of a turn, whatever they come to.
-pub fn kinds_keep_short()
-    ensures { KindsKeepShort }
+pub fn kinds_keep_limits()
+    ensures { KindsKeepLimits }
 {}
 
 /// New workers over a created store stand for a node at its start.

@@ -8,7 +8,8 @@ ghost use Rattle.ken_app.specs.Oracles.{Answers, HasAnswered};
 ghost use Rattle.ken_store.specs.Turning.{HasPages, KeepsLog, MaySeal, Turning};
 ghost use Rattle.ken_node.specs.Calls.{IsSameState};
 ghost use Rattle.ken_node.specs.Making.{IsMade, IsMessage, MayTakeMore, effects_in};
-ghost use Rattle.ken_node.specs.Workers.{ComesTo, KeepsShort, Working};
+ghost use Rattle.ken_app.specs.Limits.{ComesTo, KeepsLimits};
+ghost use Rattle.ken_node.specs.Workers.{Working};
 
 use crate::effects::{NODES, draws_of, outs_of, sends_of};
 use crate::worker::TurnWorker;
@@ -64,9 +65,10 @@ impl<D: Disk> TurnWorker<D> {
         requires turning { Turning D.told D.size self.old.side }
         requires begun { self.old.side.objects.begun ≡ Some self.old.side.objects.bytes }
         requires node { (self.old.side.owner.node ≡ self.old.node) × (self.old.side.owner.nodes ≡ self.old.nodes) }
+        requires order { self.old.order.nodes ≡ self.old.nodes }
         requires stamp { self.old.order.stamp ≡ self.old.side.numbers.stamp }
         requires heap { ComesTo (A.handler app.now) self.old.node self.old.nodes (256 * self.old.side.owner.pages) self.old.side.objects.value }
-        requires keeps { KeepsShort self.old.nodes (256 * self.old.side.owner.pages) (A.handler app.now) }
+        requires keeps { KeepsLimits self.old.nodes (256 * self.old.side.owner.pages) (A.handler app.now) }
         requires more { MayTakeMore self.old }
         requires message { IsMessage self.old.node self.old.order message.now }
         ensures rest { self.new ≡ record self.old { side = self.new.side } }
@@ -100,7 +102,7 @@ impl<D: Disk> TurnWorker<D> {
         message: &Message,
     ) -> Result<Effects, AllocError>
         requires working { Working D.told D.size (A.handler app.now) self.old }
-        requires keeps { KeepsShort self.old.nodes (256 * self.old.side.owner.pages) (A.handler app.now) }
+        requires keeps { KeepsLimits self.old.nodes (256 * self.old.side.owner.pages) (A.handler app.now) }
         requires more { MayTakeMore self.old }
         requires message { IsMessage self.old.node self.old.order message.now }
         ensures rest { self.new ≡ record self.old { side = self.new.side } }

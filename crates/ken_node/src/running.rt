@@ -9,7 +9,8 @@ ghost use Rattle.ken_store.specs.Turning.{MaySeal};
 ghost use Rattle.ken_store.specs.declared.turning.TurnSide.{TurnSide};
 ghost use Rattle.ken_node.specs.Calls.{IsQuiet, Runs, Seals, TakesMessage};
 ghost use Rattle.ken_node.specs.Making.{IsHanded, IsMade, IsMessage, MayTakeMore};
-ghost use Rattle.ken_node.specs.Workers.{IsSameWorker, KeepsShort, Working};
+ghost use Rattle.ken_app.specs.Limits.{KeepsLimits};
+ghost use Rattle.ken_node.specs.Workers.{IsSameWorker, Working};
 
 use crate::effects::handed;
 use crate::faults::answered;
@@ -98,7 +99,7 @@ impl<D: Disk> TurnWorker<D> {
         message: &Message,
     ) -> Result<Took, NodeFault>
         requires working { Working D.told D.size (A.handler app.now) self.old }
-        requires keeps { KeepsShort self.old.nodes (256 * self.old.side.owner.pages) (A.handler app.now) }
+        requires keeps { KeepsLimits self.old.nodes (256 * self.old.side.owner.pages) (A.handler app.now) }
         requires more { MayTakeMore self.old }
         requires message { IsMessage self.old.node self.old.order message.now }
         requires end { (N.node net.old ≡ self.old.node) × (N.nodes net.old ≡ self.old.nodes) }

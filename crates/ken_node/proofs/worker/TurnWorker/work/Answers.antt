@@ -9,8 +9,8 @@ use Rattle.ken_model.specs.Layout.{StandsFor}
 use Rattle.ken_record.specs.declared.effects.Effects.{Effects}
 use Rattle.ken_record.specs.Grammar.{AtMost, IsWord}
 use Rattle.ken_node.specs.Making.{effects_in}
-use Rattle.ken_node.specs.Workers.{ComesTo}
-use Rattle.ken_node.proofs.Handled.{both_ok, long_as_before, turn_handled}
+use Rattle.ken_app.specs.Limits.{ComesTo}
+use Rattle.ken_node.proofs.Handled.{both_ok, call_of, long_as_before, turn_handled}
 use Rattle.ken_node.proofs.SameWorker.{same_worker}
 use Rattle.ken_node.proofs.Sealable.{low_sent}
 use Rattle.ken_node.proofs.worker.TurnWorker.work.Goals as goal
@@ -23,7 +23,8 @@ effects-requires-clause-sends g c =
     let effect : Effect = record { value = c.take_turn-made.new.objects.value; sends = made.sends.items; outs = made.outs.items } in
     let before : Heap = c.objects-objects.result.now in
     let comes = subst (λ (x : Heap). ComesTo h s.node s.nodes (256 * s.side.owner.pages) x.value) (sym c.objects-objects.ensures.heap) c.requires.heap in
-    let turn = turn_handled h s.node s.nodes (256 * s.side.owner.pages) c.args.message.now before made.draws.items effect c.requires.keeps comes c.requires.message.short c.in_ok-made.ensures.handled in
+    let call = call_of s.side.owner s.order c.args.message.now made.draws.items s.node s.nodes c.requires.turning.owner c.requires.node.0 c.requires.node.1 c.requires.order c.requires.message c.in_ok-made.ensures.drawn in
+    let turn = turn_handled h s.node s.nodes (256 * s.side.owner.pages) c.args.message.now before made.draws.items effect c.requires.keeps comes call c.in_ok-made.ensures.handled in
     let few : length made.sends.items ≤ 16 = turn.allowed.few_sends in
     λ w. let low = low_sent s.side.numbers c.requires.more.numbers w in omega arith
 
@@ -41,7 +42,8 @@ returns-clause-made g c =
     let before : Heap = c.objects-objects.result.now in
     let is : before ≡ s.side.objects = c.objects-objects.ensures.heap in
     let comes = subst (λ (x : Heap). ComesTo h s.node s.nodes (256 * s.side.owner.pages) x.value) (sym is) c.requires.heap in
-    let turn = turn_handled h s.node s.nodes (256 * s.side.owner.pages) m before made.draws.items effect c.requires.keeps comes c.requires.message.short c.in_ok-made.ensures.handled in
+    let call = call_of s.side.owner s.order m made.draws.items s.node s.nodes c.requires.turning.owner c.requires.node.0 c.requires.node.1 c.requires.order c.requires.message c.in_ok-made.ensures.drawn in
+    let turn = turn_handled h s.node s.nodes (256 * s.side.owner.pages) m before made.draws.items effect c.requires.keeps comes call c.in_ok-made.ensures.handled in
     let after : h.after s.node s.nodes s.side.objects.value m made.draws.items ≡ Some effect = subst (λ (x : Heap). h.after s.node s.nodes x.value m made.draws.items ≡ Some effect) is turn.after in
     let begun : heap.begun ≡ Some s.side.objects.bytes = c.in_ok-made.ensures.begun ∙ ap (λ (x : Heap). x.begun) is ∙ c.requires.begun in
     let P : Effects → Type 0 = λ e. e ≡ effects_in s.side.owner.node s.side.numbers m made.draws.items effect in
