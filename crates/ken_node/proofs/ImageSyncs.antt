@@ -6,7 +6,7 @@ use Rattle.ken_disk.specs.declared.faults.DiskFault.TheVariants.{Failed, Memory}
 use Rattle.ken_disk.specs.Fates.{Fate}
 use Rattle.ken_disk.specs.Steps.{after_syncing, after_writing}
 use Rattle.ken_disk.specs.Story.{Story, Follows}
-use Rattle.ken_image.specs.Calls.{Call, Called, Sync, Write, after_call, after_calls, after_failure}
+use Rattle.ken_image.specs.Calls.{Call, Called, Sync, Write, after_calls, after_failure}
 use Rattle.ken_image.specs.declared.image.Image.{Image}
 use Rattle.ken_store.specs.declared.faults.StoreFault.{StoreFault}
 use Rattle.ken_store.specs.Patching.{disk_answer, patch_calls}

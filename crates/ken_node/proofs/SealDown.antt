@@ -8,7 +8,6 @@ use Rattle.ken_model.specs.declared.messages.Message.{Message}
 use Rattle.ken_model.specs.Game.{Game}
 use Rattle.ken_model.specs.Limits.{IsWithinLimits}
 use Rattle.ken_model.specs.Network.{Turn}
-use Rattle.ken_app.specs.Turning.{IsShortText}
 use Rattle.ken_net.specs.Puts.{Put}
 use Rattle.ken_record.specs.declared.effects.Effects.{Effects}
 use Rattle.ken_record.specs.declared.record.Record.{Record}

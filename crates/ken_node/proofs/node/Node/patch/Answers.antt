@@ -2,7 +2,6 @@ use Rattle.ken_node.proofs.RestartSynced.{side-synced}
 use Rattle.std.proofs.Common.{subst, sym}
 use Rattle.ken_node.specs.Stages.{image_told}
 use Rattle.ken_node.specs.Synced.{KeepsSyncs}
-use Rattle.ken_node.specs.declared.stage.Stage.{Stage}
 use Rattle.ken_node.proofs.node.Node.patch.Goals as goal
 
 pub returns-clause-synced : goal.returns-clause-synced

@@ -3,7 +3,6 @@ use Rattle.std.proofs.Common.{subst, sym}
 use Rattle.std.specs.Prelude.{OnOk}
 use Rattle.ken_node.specs.Stages.{image_told}
 use Rattle.ken_node.specs.Synced.{HasMadeSync}
-use Rattle.ken_node.specs.declared.stage.Stage.{Stage}
 use Rattle.ken_node.proofs.node.Node.settle.Goals as goal
 
 pub returns-clause-synced : goal.returns-clause-synced
