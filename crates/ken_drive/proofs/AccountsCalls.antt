@@ -1,6 +1,6 @@
 -- What each call of a node leaves of what a run keeps account of.
-use Rattle.std.proofs.Common.{◌≡◌, ◌≢◌, ◌∙◌, ℕ, ◌+◌, ◌-◌, ◌^◌, ◌<◌, ◌≤◌, min, inl, inr, ⊎_elim, List, [], ◌∷◌, ◌++◌, length, Bool, true, false, Option, Some, None, Result, Ok, Err, slice_get, slice_index_or, slice_set, refl, sym, ap, subst, arith, append-nil}
-use Rattle.std.specs.Prelude.{IfSome}
+use Rattle.std.proofs.Common.{◌≡◌, ◌≢◌, ◌∙◌, ℕ, ◌+◌, ◌-◌, ◌^◌, ◌<◌, ◌≤◌, min, inl, inr, ⊎_elim, ◌⊎◌, List, [], ◌∷◌, ◌++◌, length, Bool, true, false, Option, Some, None, Result, Ok, Err, slice_get, slice_index_or, slice_set, refl, sym, ap, subst, arith, append-nil}
+use Rattle.std.specs.Prelude.{◌*◌, IfOk, IfSome}
 use Rattle.std.specs.List.{AllByRecursion, Contains, flat_map}
 use Rattle.std.proofs.lemmas.Bool.{cases_eq}
 use Rattle.std.proofs.lemmas.List.{flat_map_more, get_or-set_other, get_or-set_same, length_push, map-append}
@@ -52,11 +52,13 @@ use Rattle.ken_flow.specs.Groups.{group_of}
 use Rattle.ken_flow.proofs.Flows.{given_are_known}
 use Rattle.ken_drive.specs.declared.run.Run.{Run}
 use Rattle.ken_drive.specs.declared.station.Station.{Station}
-use Rattle.ken_drive.specs.Accounts.{AccountsBy, AreAccounted, AreRaised, HasBooks, HasDrawn, HasFailedOften, HasFates, HasNotFailed, HaveFallen, IsAccounted, IsHeld, OneIsHeld, Terms, draws_of, doubted, emitted_through, faults_of, numbers_of}
+use Rattle.ken_drive.specs.Accounts.{AccountsBy, AreAccounted, AreRaised, HasBooks, HasDrawn, HasFailedOften, HasFates, HasNotFailed, HasOwnDisks, HaveFallen, IsAccounted, IsHeld, OneIsHeld, TellsAll, TellsAtMost, Terms, draws_of, doubted, emitted_through, faults_of, numbers_of}
 use Rattle.ken_drive.specs.Ends.{WereGiven}
 use Rattle.ken_drive.specs.Running.{IsRunning}
 use Rattle.ken_drive.specs.Sequences.{IsSubsequence, NeverFall, descents}
-use Rattle.ken_drive.proofs.AccountsFates.{fates-failed, fates-still}
+use Rattle.ken_app.specs.declared.turn.TheConstants.{MAX_DRAWS}
+use Rattle.ken_drive.specs.Worlds.{IsTold}
+use Rattle.ken_drive.proofs.AccountsFates.{fates-failed, fates-still, own-after, own-still}
 use Rattle.ken_drive.proofs.AccountsLists.{descents-front, descents-next, never-more, sub-both, sub-more}
 use Rattle.ken_drive.proofs.AccountsRuns.{CountsNone, SealsNone, idle-counts-none, idle-seals-none, none-all, patch-counts-none, patch-seals-none, run-emitted, run-turns, sends-count-none, sends-seal-none, sync-counts-none, sync-seals-none, taken-count-none, taken-seal-none, turn-counts-none}
 use Rattle.ken_drive.proofs.Calls.{no-further}
@@ -94,6 +96,38 @@ module _ {O : Type 0} (telling : Telling O) (h : Handler) (luck luck2 : O) (draw
 
 pub draws-push : (ts : List Effects) (t : Effects) → draws_of (ts ++ t ∷ []) ≡ draws_of ts ++ t.draws ∷ []
 draws-push ts t = map-append (λ (x : Effects). x.draws) ts (t ∷ [])
+
+-- it tells all that it has answered, after a turn more
+
+more-told : (most : ℕ) (old new : Option (List ℕ)) → HasAnswered old new → most + MAX_DRAWS < 2 ^ 64 - 1 → IsTold true old (λ xs. length xs ≤ most) → IsTold true new (λ xs. length xs ≤ most + MAX_DRAWS)
+more-told most (Some xs) (Some ys) h room is =
+    let long : length ys ≡ length xs + length h.more = ap (λ (zs : List ℕ). length zs) h.answers ∙ length-append xs h.more in
+    let few = h.few in
+    omega (arith, long, few, is)
+more-told most (Some xs) None h room is = let full : 2 ^ 64 - 1 ≤ length xs + length h.more = h.answers in let few = h.few in absurd (omega (arith, full, few, is, room))
+more-told most None new h room is = absurd is
+
+wider : (most more : ℕ) (told : Option (List ℕ)) → most ≤ more → IsTold true told (λ xs. length xs ≤ most) → IsTold true told (λ xs. length xs ≤ more)
+wider most more (Some xs) up is = omega (arith, is, up)
+wider most more None up is = is
+
+module _ {O : Type 0} (scripted : Bool) (telling : Telling O) (luck : O) (begun : ℕ) (all : TellsAll scripted telling luck begun) where
+  pub tells-more : (luck2 : O) → HasAnswered (telling.clocks luck) (telling.clocks luck2) → HasAnswered (telling.words luck) (telling.words luck2) → TellsAll scripted telling luck2 (begun + 1)
+  tells-more luck2 clocks words tells room =
+      let was = all tells (omega (arith, room)) in
+      let enough : MAX_DRAWS * begun + MAX_DRAWS < 2 ^ 64 - 1 = omega (arith, room) in
+      let same : MAX_DRAWS * begun + MAX_DRAWS ≤ MAX_DRAWS * (begun + 1) = omega arith in
+      record {
+        clocks = wider (MAX_DRAWS * begun + MAX_DRAWS) (MAX_DRAWS * (begun + 1)) (telling.clocks luck2) same (more-told (MAX_DRAWS * begun) (telling.clocks luck) (telling.clocks luck2) clocks enough was.clocks);
+        words = wider (MAX_DRAWS * begun + MAX_DRAWS) (MAX_DRAWS * (begun + 1)) (telling.words luck2) same (more-told (MAX_DRAWS * begun) (telling.words luck) (telling.words luck2) words enough was.words);
+      }
+
+  pub tells-still : (luck2 : O) (begun2 : ℕ) → luck2 ≡ luck → begun ≤ begun2 → TellsAll scripted telling luck2 begun2
+  tells-still luck2 begun2 same up tells room =
+      let was = all tells (omega (arith, room, up)) in
+      let wide : MAX_DRAWS * begun ≤ MAX_DRAWS * begun2 = omega (arith, up) in
+      subst (λ (o : O). TellsAtMost telling o (MAX_DRAWS * begun2)) (sym same)
+      (record { clocks = wider (MAX_DRAWS * begun) (MAX_DRAWS * begun2) (telling.clocks luck) wide was.clocks; words = wider (MAX_DRAWS * begun) (MAX_DRAWS * begun2) (telling.words luck) wide was.words })
 
 -- ---- what the disks of a node counted
 
@@ -156,21 +190,23 @@ due-number told size g v n stage up out was_due =
 module _ {D O U : Type 0} (told : Watched D → Option Story) (count : Watched D → ℕ) (fate : Watched D → Option Fate) (telling : Telling O) (terms : Terms) (g : Game) (v : ℕ) (s s2 : Station D O U)
     (synced : IsSynced told count g v s2.node.stage) (origin : telling.origin s2.luck ≡ telling.origin s.luck) (lines : s2.lines.items ≡ s.lines.items) (tries : s2.restarts ≡ s.restarts)
     (longer : length (turns_in s.node.stage) ≤ length (turns_in s2.node.stage)) where
-  pub books-still : HasBooks told count fate telling terms g v s → HasBooks told count fate telling terms g v s2
-  books-still books = record {
+  books-still : HasOwnDisks fate terms.scripted (terms.origins v) s.restarts s2.node.stage → HasBooks told count fate telling terms g v s → HasBooks told count fate telling terms g v s2
+  books-still own books = record {
     synced = synced;
-    origin = subst (λ o. IfSome o (λ x. x ≡ record { node = v; seed = terms.seed })) (sym origin) books.origin;
+    own = subst (λ (k : ℕ). HasOwnDisks fate terms.scripted (terms.origins v) k s2.node.stage) (sym tries) own;
+    origin = subst (λ o. IsTold terms.scripted o (λ x. x ≡ record { node = v; seed = terms.seed })) (sym origin) books.origin;
     lines = subst (λ (ls : List ℕ). NeverFall 0 ls (length (turns_in s2.node.stage))) (sym lines) (never-more 0 s.lines.items (length (turns_in s.node.stage)) (length (turns_in s2.node.stage)) books.lines longer);
     few = let few = books.few in let long : length s2.lines.items ≡ length s.lines.items = ap length lines in omega (arith, few, long, tries);
     most = let most = books.most in omega (arith, most, tries);
   }
 
   module _ (has : HasSome s.node.stage) (was : IsAccounted told count fate telling terms g v s) where
-    pub accounted-still : HasDrawn telling g.handler s2.luck (draws_of (turns_in s2.node.stage)) → Unfailed told count fate s.node.stage s2.node.stage
+    pub accounted-still : HasDrawn telling g.handler s2.luck (draws_of (turns_in s2.node.stage)) → TellsAll terms.scripted telling s2.luck (length (turns_in s2.node.stage) + s2.restarts) → Unfailed told count fate s.node.stage s2.node.stage
         → descents 0 (numbers_of (emissions_in s2.node.stage) ++ (emitted_through s2.node.stage + 1) ∷ []) ≤ descents 0 (numbers_of (emissions_in s.node.stage) ++ (emitted_through s.node.stage + 1) ∷ []) → IsAccounted told count fate telling terms g v s2
-    accounted-still drew unfailed fewer = record {
-      books = books-still was.books;
+    accounted-still drew tells unfailed fewer = record {
+      books = books-still (own-still told count fate terms.scripted s.node.stage s2.node.stage has.0 has.1 (terms.origins v) s.restarts was.books.own unfailed) was.books;
       drew = drew;
+      tells = tells;
       causes = subst (λ (k : ℕ). HasFailedOften count k s2.node.stage) (sym tries) (often-still told count fate s.restarts s.node.stage s2.node.stage has unfailed was.causes);
       fates = subst (λ (k : ℕ). HasFates fate terms.scripted (AreRaised (terms.cuts v) k) s2.node.stage) (sym tries) (fates-still told count fate terms.scripted s.node.stage s2.node.stage has.0 has.1 (AreRaised (terms.cuts v) s.restarts) unfailed was.fates);
       calm = λ none. none-still told count fate s.restarts s.node.stage s2.node.stage has unfailed (was.calm (sym lines ∙ none));
@@ -178,14 +214,15 @@ module _ {D O U : Type 0} (told : Watched D → Option Story) (count : Watched D
     }
 
     pub held-after : (given : List Packet) (n : Node) (doubt : Doubt) → IsDown told g v given n doubt s2.node.stage → HasDrawn telling g.handler s2.luck (draws_of (turns_in s2.node.stage) ++ doubted doubt)
-        → ((d d2 : Disks (Watched D)) → HasDisks d s.node.stage → HasDisks d2 s2.node.stage → OneHasFailed told count fate d d2) → emissions_in s2.node.stage ≡ emissions_in s.node.stage → IsHeld told count fate telling terms g v s2
-    held-after given n doubt down drew failed same = record {
-      books = books-still was.books;
+        → TellsAll terms.scripted telling s2.luck (length (turns_in s2.node.stage) + s2.restarts + 1) → ((d d2 : Disks (Watched D)) → HasDisks d s.node.stage → HasDisks d2 s2.node.stage → OneHasFailed told count fate d d2) → emissions_in s2.node.stage ≡ emissions_in s.node.stage → IsHeld told count fate telling terms g v s2
+    held-after given n doubt down drew tells failed same = record {
+      books = books-still (own-after told count fate terms.scripted s.node.stage s2.node.stage has.0 has.1 (terms.origins v) s.restarts was.books.own failed) was.books;
       given = given;
       stood_for = n;
       doubt = doubt;
       down = down;
       drew = drew;
+      tells = tells;
       causes = subst (λ (k : ℕ). HasFailedOften count (k + 1) s2.node.stage) (sym tries) (often-more told count fate s.restarts s.node.stage s2.node.stage has failed was.causes);
       fates = subst (λ (k : ℕ). HasFates fate terms.scripted (HaveFallen (terms.cuts v) (k + 1)) s2.node.stage) (sym tries) (fates-failed told count fate terms.scripted s.node.stage s2.node.stage has.0 has.1 (terms.cuts v) s.restarts failed was.fates);
       again =
@@ -263,7 +300,8 @@ module _ {D O U : Type 0} (told : Watched D → Option Story) (size : Watched D 
         let turns : turns_in s2.node.stage ≡ turns_in s.node.stage = up-turns told size g v after s2.node.stage up2 ∙ same ∙ sym (up-turns told size g v n s.node.stage up) in
         let long : length (turns_in s2.node.stage) ≡ length (turns_in s.node.stage) = ap (λ (ts : List Effects). length ts) turns in
         still-up (accounted-still told count fate telling terms g v s s2 synced (ap telling.origin luck-is) lines tries (omega (arith, long)) has was
-        (subst (λ (ts : List Effects). HasDrawn telling g.handler s2.luck (draws_of ts)) (sym turns) (subst (λ (o : O). HasDrawn telling g.handler o (draws_of (turns_in s.node.stage))) (sym luck-is) was.drew)) unfailed fewer)
+        (subst (λ (ts : List Effects). HasDrawn telling g.handler s2.luck (draws_of ts)) (sym turns) (subst (λ (o : O). HasDrawn telling g.handler o (draws_of (turns_in s.node.stage))) (sym luck-is) was.drew))
+        (tells-still terms.scripted telling s.luck (length (turns_in s.node.stage) + s.restarts) was.tells s2.luck (length (turns_in s2.node.stage) + s2.restarts) luck-is (omega (arith, long, tries))) unfailed fewer)
 
     -- and emits nothing
     pub quiet-accounted : (put : Packet → Type 0) (es : List Event) (out : Outgoing) (after : Node) → NodeRun g put v n es out after → AllByRecursion SealsNone es → AllByRecursion CountsNone es → IsUp told size g v after s2.node.stage
@@ -279,7 +317,8 @@ module _ {D O U : Type 0} (told : Watched D → Option Story) (size : Watched D 
         let turns : turns_in s2.node.stage ≡ turns_in s.node.stage = down.turns ∙ run-turns g put v n es out after seals run ∙ sym (up-turns told size g v n s.node.stage up) in
         let long : length (turns_in s2.node.stage) ≡ length (turns_in s.node.stage) = ap (λ (ts : List Effects). length ts) turns in
         now-held (held-after told count fate telling terms g v s s2 synced (ap telling.origin luck-is) lines tries (omega (arith, long)) has was given after no_doubt down
-        (subst (λ (ds : List (List ℕ)). HasDrawn telling g.handler s2.luck ds) (sym (append-nil (draws_of (turns_in s2.node.stage)))) (subst (λ (ts : List Effects). HasDrawn telling g.handler s2.luck (draws_of ts)) (sym turns) (subst (λ (o : O). HasDrawn telling g.handler o (draws_of (turns_in s.node.stage))) (sym luck-is) was.drew))) failed emissions)
+        (subst (λ (ds : List (List ℕ)). HasDrawn telling g.handler s2.luck ds) (sym (append-nil (draws_of (turns_in s2.node.stage)))) (subst (λ (ts : List Effects). HasDrawn telling g.handler s2.luck (draws_of ts)) (sym turns) (subst (λ (o : O). HasDrawn telling g.handler o (draws_of (turns_in s.node.stage))) (sym luck-is) was.drew)))
+        (tells-still terms.scripted telling s.luck (length (turns_in s.node.stage) + s.restarts) was.tells s2.luck (length (turns_in s2.node.stage) + s2.restarts + 1) luck-is (omega (arith, long, tries))) failed emissions)
 
     -- ---- the patcher
 
@@ -371,14 +410,18 @@ module _ {D O U : Type 0} (told : Watched D → Option Story) (size : Watched D 
         let by = subst (λ (x : Handler). Answers (telling.clocks s.luck) (telling.clocks s2.luck) (x.clocks draws) × Answers (telling.words s.luck) (telling.words s2.luck) (x.words draws)) of_game drawn in
         drew-more telling g.handler s.luck s2.luck (draws_of (turns_in s.node.stage)) was.drew draws by.0 by.1
 
+    begun-more : TellsAll terms.scripted telling s2.luck (length (turns_in s.node.stage) + s.restarts + 1)
+    begun-more = tells-more terms.scripted telling s.luck (length (turns_in s.node.stage) + s.restarts) was.tells s2.luck clocks words
+
     -- no turn was sealed
-    idle-accounted : (put2 : Packet → Type 0) (es : List Event) (out : Outgoing) (after : Node) → NodeRun g put2 v n es out after → AllByRecursion SealsNone es → AllByRecursion CountsNone es → IsUp told size g v after s2.node.stage
+    idle-accounted : s2.luck ≡ s.luck → (put2 : Packet → Type 0) (es : List Event) (out : Outgoing) (after : Node) → NodeRun g put2 v n es out after → AllByRecursion SealsNone es → AllByRecursion CountsNone es → IsUp told size g v after s2.node.stage
         → Unfailed told count fate s.node.stage s2.node.stage → IsSynced told count g v s2.node.stage → AreAccounted told count fate telling terms g made r2
-    idle-accounted put2 es out after run seals counts up2 unfailed synced =
+    idle-accounted luck-is put2 es out after run seals counts up2 unfailed synced =
         let turns : turns_in s2.node.stage ≡ turns_in s.node.stage = up-turns told size g v after s2.node.stage up2 ∙ run-turns g put2 v n es out after seals run ∙ sym (up-turns told size g v n s.node.stage up) in
         let long : length (turns_in s2.node.stage) ≡ length (turns_in s.node.stage) = ap (λ (ts : List Effects). length ts) turns in
         still-up (accounted-still told count fate telling terms g v s s2 synced origin lines tries (omega (arith, long)) has was
-        (subst (λ (ts : List Effects). HasDrawn telling g.handler s2.luck (draws_of ts)) (sym turns) (drew-on telling g.handler s.luck s2.luck (draws_of (turns_in s.node.stage)) was.drew clocks words)) unfailed
+        (subst (λ (ts : List Effects). HasDrawn telling g.handler s2.luck (draws_of ts)) (sym turns) (drew-on telling g.handler s.luck s2.luck (draws_of (turns_in s.node.stage)) was.drew clocks words))
+        (tells-still terms.scripted telling s.luck (length (turns_in s.node.stage) + s.restarts) was.tells s2.luck (length (turns_in s2.node.stage) + s2.restarts) luck-is (omega (arith, long, tries))) unfailed
         (again-same s.node.stage s2.node.stage emissions (up-emitted told size g v after s2.node.stage up2 ∙ run-emitted g put2 v n es out after counts run ∙ sym (up-emitted told size g v n s.node.stage up))))
 
     -- the node is down, with this in doubt
@@ -388,11 +431,12 @@ module _ {D O U : Type 0} (told : Watched D → Option Story) (size : Watched D 
         let turns : turns_in s2.node.stage ≡ turns_in s.node.stage = down.turns ∙ run-turns g put2 v n es out after seals run ∙ sym (up-turns told size g v n s.node.stage up) in
         let long : length (turns_in s2.node.stage) ≡ length (turns_in s.node.stage) = ap (λ (ts : List Effects). length ts) turns in
         now-held (held-after told count fate telling terms g v s s2 synced origin lines tries (omega (arith, long)) has was given after doubt down
-        (subst (λ (ts : List Effects). HasDrawn telling g.handler s2.luck (draws_of ts ++ doubted doubt)) (sym turns) drew) failed emissions)
+        (subst (λ (ts : List Effects). HasDrawn telling g.handler s2.luck (draws_of ts ++ doubted doubt)) (sym turns) drew)
+        (subst (TellsAll terms.scripted telling s2.luck) (let same : length (turns_in s.node.stage) + s.restarts + 1 ≡ length (turns_in s2.node.stage) + s2.restarts + 1 = omega (arith, long, tries) in same) begun-more) failed emissions)
 
     pub turn-accounts : (result : Result Took NodeFault) → TurnStepsBy told size g v n gave put result DrewOf nones nones2 handler s2.node.stage → ((d d2 : Disks (Watched D)) → HasDisks d s.node.stage → HasDisks d2 s2.node.stage → DisksFailBy told count fate result d d2)
-        → UnlessMemory result (IsSynced told count g v s2.node.stage) → AccountsBy told count fate telling terms g result made v r2
-    turn-accounts (Ok Turn) t disks synced =
+        → UnlessMemory result (IsSynced told count g v s2.node.stage) → IfOk result (λ took. (took ≡ Turn) ⊎ (s2.luck ≡ s.luck)) → AccountsBy told count fate telling terms g result made v r2
+    turn-accounts (Ok Turn) t disks synced undrawn =
         let after = t.call.steps.after in
         let call = t.call.steps.call in
         let up2 = t.call.steps.up in
@@ -400,15 +444,16 @@ module _ {D O U : Type 0} (told : Watched D → Option Story) (size : Watched D 
         let long : length (turns_in s2.node.stage) ≡ length (turns_in s.node.stage) + 1 = ap (λ (ts : List Effects). length ts) turns ∙ length_push (turns_in s.node.stage) t.turn in
         still-up (accounted-still told count fate telling terms g v s s2 synced origin lines tries (omega (arith, long)) has was
         (subst (λ (ts : List Effects). HasDrawn telling g.handler s2.luck (draws_of ts)) (sym turns) (subst (λ (ds : List (List ℕ)). HasDrawn telling g.handler s2.luck ds) (sym (draws-push (turns_in s.node.stage) t.turn)) (drew-one t.turn.draws t.drawn)))
+        (subst (TellsAll terms.scripted telling s2.luck) (let same : length (turns_in s.node.stage) + s.restarts + 1 ≡ length (turns_in s2.node.stage) + s2.restarts = omega (arith, long, tries) in same) begun-more)
         disks
         (again-same s.node.stage s2.node.stage emissions (up-emitted told size g v after s2.node.stage up2 ∙ run-emitted g _ v n call.events t.call.out after (turn-counts-none v (is_full handler.side) call.events call.which) call.run ∙ sym (up-emitted told size g v n s.node.stage up))))
-    turn-accounts (Ok Idle) t disks synced =
+    turn-accounts (Ok Idle) t disks synced undrawn =
         let call = t.call.steps.call in
-        idle-accounted _ call.events t.call.out t.call.steps.after call.run (idle-seals-none v (is_full handler.side) call.events call.which) (idle-counts-none v (is_full handler.side) call.events call.which) t.call.steps.up disks synced
-    turn-accounts (Ok Capped) t disks synced =
+        idle-accounted (⊎_elim (λ (is : Idle ≡ Turn). absurd (cc)) (λ (same : s2.luck ≡ s.luck). same) undrawn) _ call.events t.call.out t.call.steps.after call.run (idle-seals-none v (is_full handler.side) call.events call.which) (idle-counts-none v (is_full handler.side) call.events call.which) t.call.steps.up disks synced
+    turn-accounts (Ok Capped) t disks synced undrawn =
         let call = t.steps.call in
-        idle-accounted _ call.events nothing t.steps.after call.run (none-all SealsNone call.events call.which) (none-all CountsNone call.events call.which) t.steps.up disks synced
-    turn-accounts (Err Disk) t disks synced = ⊎_elim
+        idle-accounted (⊎_elim (λ (is : Capped ≡ Turn). absurd (cc)) (λ (same : s2.luck ≡ s.luck). same) undrawn) _ call.events nothing t.steps.after call.run (none-all SealsNone call.events call.which) (none-all CountsNone call.events call.which) t.steps.up disks synced
+    turn-accounts (Err Disk) t disks synced undrawn = ⊎_elim
         (λ (f : TurnoverFails told size g v n gave put s2.node.stage).
         let call = f.down.call in
         turn-held _ call.events nothing _ f.down.after (turnover f.with_news) call.run (none-all SealsNone call.events call.which) f.down.down
@@ -417,9 +462,9 @@ module _ {D O U : Type 0} (told : Watched D → Option Story) (size : Watched D 
         let call = f.down.call in
         turn-held _ call.events f.out _ f.down.after (seal f.from f.draws f.pages) call.run (idle-seals-none v (is_full handler.side) call.events call.which) f.down.down (drew-one f.draws f.drawn) disks synced)
         t
-    turn-accounts (Err Memory) t disks synced = tt
-    turn-accounts (Err Outlet) t disks synced = absurd t
-    turn-accounts (Err (Damaged disk place)) t disks synced = absurd t
+    turn-accounts (Err Memory) t disks synced undrawn = tt
+    turn-accounts (Err Outlet) t disks synced undrawn = absurd t
+    turn-accounts (Err (Damaged disk place)) t disks synced undrawn = absurd t
 
 -- ---- what a call needs to know
 

@@ -1,12 +1,13 @@
 -- What the disks of a node tell of their falls.
-use Rattle.std.proofs.Common.{◌≡◌, ◌∙◌, ℕ, ◌+◌, ◌≤◌, inl, inr, Bool, Option, Some, None, refl, sym, ap, subst, arith}
-use Rattle.ken_disk.specs.Fates.{Fate, fall_of}
+use Rattle.std.proofs.Common.{◌≡◌, ◌∙◌, ℕ, ◌+◌, ◌≤◌, inl, inr, Bool, true, false, List, ◌∷◌, length, Option, Some, None, Err, refl, sym, ap, subst, arith}
+use Rattle.ken_disk.specs.declared.faults.DiskFault.TheVariants.{Failed}
+use Rattle.ken_disk.specs.Fates.{Fate, Origin, Raised, Suffers, fall_of}
 use Rattle.ken_disk.specs.Story.{Story, Follows}
 use Rattle.ken_store.specs.declared.disks.Disks.{Disks}
 use Rattle.ken_node.specs.declared.stage.Stage.{Stage}
 use Rattle.ken_node.specs.Restarts.{AreUnfailed, OneHasFailed, WereRestarted}
 use Rattle.ken_node.specs.Stages.{HasDisks}
-use Rattle.ken_drive.specs.Accounts.{AreFated, AreRaised, AreTelling, HasFates, HaveFallen}
+use Rattle.ken_drive.specs.Accounts.{AreFated, AreOwnDisks, AreRaised, AreTelling, HasFates, HasOwnDisks, HaveFallen, IsOwnDisk}
 
 -- what is told after a step was told before it
 told-before : {X : Type 0} (R : X → X → Type 0) (old new : Option X) (y : X) → Follows R old new → new ≡ Some y → (x : X) × ((old ≡ Some x) × R x y)
@@ -18,7 +19,57 @@ told-after : {X : Type 0} (R : X → X → Type 0) (old new : Option X) (x : X) 
 told-after R None new x f is = absurd (cc)
 told-after R (Some y) new x f is = (f.0, f.1)
 
+-- ---- whose a disk is, and its restarts
+
+own-failed : (scripted : Bool) (origin : Origin) (often : ℕ) (old new : Option Fate) → Follows (Suffers {T = Unit {0}} (Err Failed)) old new → IsOwnDisk scripted origin often old → IsOwnDisk scripted origin often new
+own-failed scripted origin often None new follows own = subst (IsOwnDisk scripted origin often) (sym follows) own
+own-failed scripted origin often (Some f) new follows own =
+    subst (IsOwnDisk scripted origin often) (sym follows.1)
+    (ap (λ (x : Fate). x.origin) follows.2.0 ∙ own.0, ap (λ (x : Fate). length x.picks) follows.2.0 ∙ own.1)
+
+own-raised : (scripted : Bool) (origin : Origin) (often pick : ℕ) (old new : Option Fate) → Follows (Raised pick) old new → IsOwnDisk scripted origin often old → IsOwnDisk scripted origin (often + 1) new
+own-raised scripted origin often pick (Some f) new follows own =
+    let longer : length follows.0.picks ≡ length (pick ∷ f.picks) = ap (λ (x : Fate). length x.picks) follows.2 in
+    let was : length f.picks ≡ often = own.1 in
+    subst (IsOwnDisk scripted origin (often + 1)) (sym follows.1) (ap (λ (x : Fate). x.origin) follows.2 ∙ own.0, omega (arith, longer, was))
+own-raised true origin often pick None new follows own = absurd own
+own-raised false origin often pick None new follows own = subst (IsOwnDisk false origin (often + 1)) (sym follows) own
+
 module _ {D : Type 0} (told : D → Option Story) (count : D → ℕ) (fate : D → Option Fate) (scripted : Bool) where
+  -- of three disks
+  module _ (origins : ℕ → Origin) (often : ℕ) (a b : Disks D) where
+    abbrev Own : (which : ℕ) → Option Fate → Type 0
+    Own which = IsOwnDisk scripted (origins which) often
+
+    pub own-unfailed : AreUnfailed told count fate a b → AreOwnDisks fate scripted origins often a → AreOwnDisks fate scripted origins often b
+    own-unfailed u own = record { log = subst (Own 0) (sym u.log.falls) own.log; image = subst (Own 1) (sym u.image.falls) own.image; second = subst (Own 2) (sym u.second.falls) own.second }
+
+    pub own-one-failed : OneHasFailed told count fate a b → AreOwnDisks fate scripted origins often a → AreOwnDisks fate scripted origins often b
+    own-one-failed (inl w) own = record {
+      log = own-failed scripted (origins 0) often (fate a.log) (fate b.log) w.0.falls own.log;
+      image = subst (Own 1) (sym w.1.falls) own.image;
+      second = subst (Own 2) (sym w.2.falls) own.second;
+    }
+    own-one-failed (inr (inl w)) own = record {
+      log = subst (Own 0) (sym w.0.falls) own.log;
+      image = own-failed scripted (origins 1) often (fate a.image) (fate b.image) w.1.falls own.image;
+      second = subst (Own 2) (sym w.2.falls) own.second;
+    }
+    own-one-failed (inr (inr w)) own = record {
+      log = subst (Own 0) (sym w.0.falls) own.log;
+      image = subst (Own 1) (sym w.1.falls) own.image;
+      second = own-failed scripted (origins 2) often (fate a.second) (fate b.second) w.2.falls own.second;
+    }
+
+    own-restarted : (pick : ℕ) → WereRestarted told count fate pick a b → AreOwnDisks fate scripted origins often a → AreOwnDisks fate scripted origins (often + 1) b
+    own-restarted pick w own = record {
+      log = own-raised scripted (origins 0) often pick (fate a.log) (fate b.log) w.log.falls own.log;
+      image = own-raised scripted (origins 1) often pick (fate a.image) (fate b.image) w.image.falls own.image;
+      second = own-raised scripted (origins 2) often pick (fate a.second) (fate b.second) w.second.falls own.second;
+    }
+
+  -- ---- and their falls
+
   abbrev pub Fated : (Fate → Fate → Fate → Type 0) → Disks D → Type 0
   Fated P disks = AreFated fate scripted P disks
 
@@ -27,8 +78,8 @@ module _ {D : Type 0} (told : D → Option Story) (count : D → ℕ) (fate : D 
   unfailed-tell : (a b : Disks D) → AreUnfailed told count fate a b → AreTelling fate a → AreTelling fate b
   unfailed-tell a b u t = record { log = t.log; image = t.image; second = t.second; log_is = u.log.falls ∙ t.log_is; image_is = u.image.falls ∙ t.image_is; second_is = u.second.falls ∙ t.second_is }
 
-  restarted-tell : (a b : Disks D) → WereRestarted told count fate a b → AreTelling fate a → AreTelling fate b
-  restarted-tell a b w t =
+  restarted-tell : (pick : ℕ) (a b : Disks D) → WereRestarted told count fate pick a b → AreTelling fate a → AreTelling fate b
+  restarted-tell pick a b w t =
       let l = told-after _ (fate a.log) (fate b.log) t.log w.log.falls t.log_is in
       let i = told-after _ (fate a.image) (fate b.image) t.image w.image.falls t.image_is in
       let s = told-after _ (fate a.second) (fate b.second) t.second w.second.falls t.second_is in
@@ -45,14 +96,12 @@ module _ {D : Type 0} (told : D → Option Story) (count : D → ℕ) (fate : D 
       let s = told-after _ (fate a.second) (fate b.second) t.second w.2.falls t.second_is in
       record { log = t.log; image = t.image; second = s.0; log_is = w.0.falls ∙ t.log_is; image_is = w.1.falls ∙ t.image_is; second_is = s.1 }
 
-  -- ---- and their falls
-
   pub unfailed-fated : (P : Fate → Fate → Fate → Type 0) (a b : Disks D) → AreUnfailed told count fate a b → Fated P a → Fated P b
   unfailed-fated P a b u f = record { falls = λ l i s x y z. f.falls l i s (sym u.log.falls ∙ x) (sym u.image.falls ∙ y) (sym u.second.falls ∙ z); tell = λ tells. unfailed-tell a b u (f.tell tells) }
 
-  restarted-fated : (cuts often : ℕ) (a b : Disks D) → WereRestarted told count fate a b → Fated (HaveFallen cuts often) a → Fated (AreRaised cuts often) b
-  restarted-fated cuts often a b w f = record {
-    tell = λ tells. restarted-tell a b w (f.tell tells);
+  restarted-fated : (cuts often pick : ℕ) (a b : Disks D) → WereRestarted told count fate pick a b → Fated (HaveFallen cuts often) a → Fated (AreRaised cuts often) b
+  restarted-fated cuts often pick a b w f = record {
+    tell = λ tells. restarted-tell pick a b w (f.tell tells);
     falls = λ l i s x y z.
         let tl = told-before _ (fate a.log) (fate b.log) l w.log.falls x in
         let ti = told-before _ (fate a.image) (fate b.image) i w.image.falls y in
@@ -108,8 +157,23 @@ module _ {D : Type 0} (told : D → Option Story) (count : D → ℕ) (fate : D 
     fates-failed cuts often failed f = λ d2 h2. failed-fated cuts often disks d2 (failed disks d2 has h2) (f disks has)
 
     -- the disks were restarted, and then none failed, or one did
-    pub fates-raised : (cuts often : ℕ) → ((d d2 : Disks D) → HasDisks d stage → HasDisks d2 stage2 → (mid : Disks D) × (WereRestarted told count fate d mid × AreUnfailed told count fate mid d2)) → HasFates fate scripted (HaveFallen cuts often) stage → HasFates fate scripted (AreRaised cuts often) stage2
-    fates-raised cuts often raised f = λ d2 h2. let by = raised disks d2 has h2 in unfailed-fated (AreRaised cuts often) by.0 d2 by.1.1 (restarted-fated cuts often disks by.0 by.1.0 (f disks has))
+    pub fates-raised : (cuts often : ℕ) (pick : Disks D → ℕ) → ((d d2 : Disks D) → HasDisks d stage → HasDisks d2 stage2 → (mid : Disks D) × (WereRestarted told count fate (pick d) d mid × AreUnfailed told count fate mid d2)) → HasFates fate scripted (HaveFallen cuts often) stage → HasFates fate scripted (AreRaised cuts often) stage2
+    fates-raised cuts often pick raised f = λ d2 h2. let by = raised disks d2 has h2 in unfailed-fated (AreRaised cuts often) by.0 d2 by.1.1 (restarted-fated cuts often (pick disks) disks by.0 by.1.0 (f disks has))
 
-    pub fates-failed-again : (cuts often : ℕ) → ((d d2 : Disks D) → HasDisks d stage → HasDisks d2 stage2 → (mid : Disks D) × (WereRestarted told count fate d mid × OneHasFailed told count fate mid d2)) → HasFates fate scripted (HaveFallen cuts often) stage → HasFates fate scripted (HaveFallen cuts (often + 1)) stage2
-    fates-failed-again cuts often raised f = λ d2 h2. let by = raised disks d2 has h2 in failed-fated cuts often by.0 d2 by.1.1 (restarted-fated cuts often disks by.0 by.1.0 (f disks has))
+    pub fates-failed-again : (cuts often : ℕ) (pick : Disks D → ℕ) → ((d d2 : Disks D) → HasDisks d stage → HasDisks d2 stage2 → (mid : Disks D) × (WereRestarted told count fate (pick d) d mid × OneHasFailed told count fate mid d2)) → HasFates fate scripted (HaveFallen cuts often) stage → HasFates fate scripted (HaveFallen cuts (often + 1)) stage2
+    fates-failed-again cuts often pick raised f = λ d2 h2. let by = raised disks d2 has h2 in failed-fated cuts often by.0 d2 by.1.1 (restarted-fated cuts often (pick disks) disks by.0 by.1.0 (f disks has))
+
+    -- and so of whose they are
+    module _ (origins : ℕ → Origin) (often : ℕ) (own : HasOwnDisks fate scripted origins often stage) where
+      pub own-still : ((d d2 : Disks D) → HasDisks d stage → HasDisks d2 stage2 → AreUnfailed told count fate d d2) → HasOwnDisks fate scripted origins often stage2
+      own-still unfailed = λ d2 h2. own-unfailed origins often disks d2 (unfailed disks d2 has h2) (own disks has)
+
+      pub own-after : ((d d2 : Disks D) → HasDisks d stage → HasDisks d2 stage2 → OneHasFailed told count fate d d2) → HasOwnDisks fate scripted origins often stage2
+      own-after failed = λ d2 h2. own-one-failed origins often disks d2 (failed disks d2 has h2) (own disks has)
+
+      module _ (pick : Disks D → ℕ) where
+        pub own-up : ((d d2 : Disks D) → HasDisks d stage → HasDisks d2 stage2 → (mid : Disks D) × (WereRestarted told count fate (pick d) d mid × AreUnfailed told count fate mid d2)) → HasOwnDisks fate scripted origins (often + 1) stage2
+        own-up raised = λ d2 h2. let by = raised disks d2 has h2 in own-unfailed origins (often + 1) by.0 d2 by.1.1 (own-restarted origins often disks by.0 (pick disks) by.1.0 (own disks has))
+
+        pub own-down : ((d d2 : Disks D) → HasDisks d stage → HasDisks d2 stage2 → (mid : Disks D) × (WereRestarted told count fate (pick d) d mid × OneHasFailed told count fate mid d2)) → HasOwnDisks fate scripted origins (often + 1) stage2
+        own-down raised = λ d2 h2. let by = raised disks d2 has h2 in own-one-failed origins (often + 1) by.0 d2 by.1.1 (own-restarted origins often disks by.0 (pick disks) by.1.0 (own disks has))

@@ -1,5 +1,5 @@
 -- What a run keeps account of at a node that was just created, and what follows from it later.
-use Rattle.std.proofs.Common.{◌≡◌, ◌∙◌, ℕ, ◌+◌, inl, inr, ⊎_elim, List, [], ◌∷◌, ◌++◌, length, Option, Some, None, Ok, Err, nat_lt, true, refl, sym, ap, subst, arith}
+use Rattle.std.proofs.Common.{◌≡◌, ◌∙◌, ℕ, ◌+◌, ◌*◌, ◌≤◌, inl, inr, ⊎_elim, Bool, List, [], ◌∷◌, ◌++◌, length, Option, Some, None, Ok, Err, nat_lt, true, refl, sym, ap, subst, arith}
 use Rattle.std.specs.Prelude.{IfSome}
 use Rattle.std.proofs.lemmas.Bool.Decides.{nat_tests}
 use Rattle.ken_disk.specs.Fates.{Fate}
@@ -23,11 +23,12 @@ use Rattle.ken_node.specs.Stages.{HasDisks, emissions_in, turns_in}
 use Rattle.ken_node.specs.Synced.{IsSynced}
 use Rattle.ken_node.proofs.Fresh.{has-one}
 use Rattle.ken_drive.specs.declared.station.Station.{Station}
-use Rattle.ken_drive.specs.Accounts.{AreFated, AreRaised, HasBooks, HasDrawn, HasFailedOften, HasFates, HaveFallen, IsAccounted, IsHeld, Terms, draws_of, emitted_through, faults_of, numbers_of}
+use Rattle.ken_drive.specs.Accounts.{AreFated, AreOwnDisks, AreRaised, HasBooks, HasDrawn, HasFailedOften, HasFates, HaveFallen, IsAccounted, IsHeld, TellsAll, Terms, draws_of, emitted_through, faults_of, numbers_of}
 use Rattle.ken_drive.specs.Sequences.{IsSubsequence, NeverFall, descents}
-use Rattle.ken_drive.specs.Worlds.{IsOf}
+use Rattle.ken_drive.specs.Worlds.{IsNewOracle, IsTold}
+use Rattle.ken_app.specs.declared.turn.TheConstants.{MAX_DRAWS}
 use Rattle.ken_drive.proofs.AccountsCalls.{failed-sum, unfailed-sum}
-use Rattle.ken_drive.proofs.AccountsFates.{failed-fated, unfailed-fated}
+use Rattle.ken_drive.proofs.AccountsFates.{failed-fated, own-one-failed, own-unfailed, unfailed-fated}
 use Rattle.ken_drive.proofs.AccountsLists.{sub-none}
 
 -- ---- the disks of a creation
@@ -58,6 +59,10 @@ none-drawn : (told : Option (List ℕ)) → IfSome told (IsSubsequence [])
 none-drawn None = tt
 none-drawn (Some xs) = sub-none xs
 
+told-none : (begun : ℕ) (told : Option (List ℕ)) → IsTold true told (λ xs. xs ≡ []) → IsTold true told (λ xs. length xs ≤ MAX_DRAWS * begun)
+told-none begun (Some xs) is = let none : length xs ≡ 0 = ap (λ (ys : List ℕ). length ys) is in omega (arith, none)
+told-none begun None is = is
+
 first-rises : (x : ℕ) → nat_lt 0 (x + 1) ≡ true
 first-rises x = grind (arith, nat_tests)
 
@@ -65,12 +70,13 @@ first-descent : (x : ℕ) → descents 0 ((x + 1) ∷ []) ≡ 0
 first-descent x = rw (first-rises x) refl
 
 module _ {D O U : Type 0} (told : Watched D → Option Story) (count : Watched D → ℕ) (fate : Watched D → Option Fate) (telling : Telling O) (terms : Terms) (g : Game) (v : ℕ) (s : Station D O U) (old : Disks (Watched D))
-    (no_line : s.lines.items ≡ []) (no_restart : s.restarts ≡ 0) (origin : IsOf telling s.luck v terms.seed) (synced : IsSynced told count g v s.node.stage) (turns : turns_in s.node.stage ≡ []) (emissions : emissions_in s.node.stage ≡ [])
-    (none : faults_of count old ≡ 0) (falls : AreFated fate terms.scripted (AreRaised (terms.cuts v) 0) old) where
-  first-books : HasBooks told count fate telling terms g v s
-  first-books = record {
+    (no_line : s.lines.items ≡ []) (no_restart : s.restarts ≡ 0) (oracle : IsNewOracle terms.scripted telling s.luck v terms.seed) (synced : IsSynced told count g v s.node.stage) (turns : turns_in s.node.stage ≡ []) (emissions : emissions_in s.node.stage ≡ [])
+    (none : faults_of count old ≡ 0) (falls : AreFated fate terms.scripted (AreRaised (terms.cuts v) 0) old) (own : AreOwnDisks fate terms.scripted (terms.origins v) 0 old) where
+  first-books : ((d : Disks (Watched D)) → HasDisks d s.node.stage → AreOwnDisks fate terms.scripted (terms.origins v) 0 d) → HasBooks told count fate telling terms g v s
+  first-books owned = record {
     synced = synced;
-    origin = origin;
+    own = λ d has. subst (λ (k : ℕ). AreOwnDisks fate terms.scripted (terms.origins v) k d) (sym no_restart) (owned d has);
+    origin = oracle.origin;
     lines = subst (λ (ls : List ℕ). NeverFall 0 ls (length (turns_in s.node.stage))) (sym no_line) (omega arith);
     few = let long : length s.lines.items ≡ 0 = ap (λ (ls : List ℕ). length ls) no_line in omega (arith, long);
     most = omega (arith, no_restart);
@@ -79,11 +85,18 @@ module _ {D O U : Type 0} (told : Watched D → Option Story) (count : Watched D
   first-drew : HasDrawn telling g.handler s.luck (draws_of (turns_in s.node.stage))
   first-drew = subst (λ (ts : List Effects). HasDrawn telling g.handler s.luck (draws_of ts)) (sym turns) (record { clocks = none-drawn (telling.clocks s.luck); words = none-drawn (telling.words s.luck) })
 
+  first-tells : (begun : ℕ) → TellsAll terms.scripted telling s.luck begun
+  first-tells begun tells room = record {
+    clocks = told-none begun (telling.clocks s.luck) (subst (λ (b : Bool). IsTold b (telling.clocks s.luck) (λ told. told ≡ [])) tells oracle.clocks);
+    words = told-none begun (telling.words s.luck) (subst (λ (b : Bool). IsTold b (telling.words s.luck) (λ told. told ≡ [])) tells oracle.words);
+  }
+
   -- its creation answered Ok
   pub first-accounted : ((d : Disks (Watched D)) → HasDisks d s.node.stage → AreUnfailed told count fate old d) → IsAccounted told count fate telling terms g v s
   first-accounted unfailed = record {
-    books = first-books;
+    books = first-books (λ d has. own-unfailed told count fate terms.scripted (terms.origins v) 0 old d (unfailed d has) own);
     drew = first-drew;
+    tells = first-tells (length (turns_in s.node.stage) + s.restarts);
     causes = λ d has. omega (arith, no_restart);
     fates = subst (λ (k : ℕ). HasFates fate terms.scripted (AreRaised (terms.cuts v) k) s.node.stage) (sym no_restart) (λ d has. unfailed-fated told count fate terms.scripted (AreRaised (terms.cuts v) 0) old d (unfailed d has) falls);
     calm = λ no d has. unfailed-sum told count fate old d (unfailed d has) ∙ none;
@@ -96,12 +109,13 @@ module _ {D O U : Type 0} (told : Watched D → Option Story) (count : Watched D
   -- or a disk failed in it, and it is down with nothing in doubt
   pub first-held : (given : List Packet) (n : Node) → IsDown told g v given n no_doubt s.node.stage → ((d : Disks (Watched D)) → HasDisks d s.node.stage → OneHasFailed told count fate old d) → IsHeld told count fate telling terms g v s
   first-held given n down failed = record {
-    books = first-books;
+    books = first-books (λ d has. own-one-failed told count fate terms.scripted (terms.origins v) 0 old d (failed d has) own);
     given = given;
     stood_for = n;
     doubt = no_doubt;
     down = down;
     drew = subst (λ (ts : List Effects). HasDrawn telling g.handler s.luck (draws_of ts ++ [])) (sym turns) (record { clocks = none-drawn (telling.clocks s.luck); words = none-drawn (telling.words s.luck) });
+    tells = first-tells (length (turns_in s.node.stage) + s.restarts + 1);
     causes = subst (λ (k : ℕ). HasFailedOften count (k + 1) s.node.stage) (sym no_restart) (λ d has. failed-sum told count fate 0 old d (failed d has) (omega arith));
     fates = subst (λ (k : ℕ). HasFates fate terms.scripted (HaveFallen (terms.cuts v) (k + 1)) s.node.stage) (sym no_restart) (λ d has. failed-fated told count fate terms.scripted (terms.cuts v) 0 old d (failed d has) falls);
     again = let nothing : descents 0 (numbers_of (emissions_in s.node.stage)) ≡ 0 = ap (λ (es : List Emission). descents 0 (numbers_of es)) emissions in omega (arith, nothing);

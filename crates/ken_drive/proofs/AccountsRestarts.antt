@@ -26,12 +26,13 @@ use Rattle.ken_node.specs.Synced.{IsSynced}
 use Rattle.ken_drive.specs.declared.faults.RunFault.{RunFault}
 use Rattle.ken_drive.specs.declared.run.Run.{Run}
 use Rattle.ken_drive.specs.declared.station.Station.{Station}
-use Rattle.ken_drive.specs.Accounts.{AccountsBy, AccountsFault, AccountsRunBy, AccountsRunFault, AccountsStation, AreRaised, HasDrawn, HasFates, HaveFallen, IsHeld, IsUsedUp, OneIsHeld, Terms, draws_of, doubted, emitted_through, faults_of, numbers_of}
+use Rattle.ken_drive.specs.Accounts.{AccountsBy, AccountsFault, AccountsRunBy, AccountsRunFault, AccountsStation, AreRaised, HasDrawn, HasFates, HasOwnDisks, HaveFallen, IsHeld, IsUsedUp, OneIsHeld, Terms, draws_of, doubted, emitted_through, faults_of, numbers_of}
 use Rattle.ken_drive.specs.Left.{tries_at}
 use Rattle.ken_drive.specs.Sequences.{IsSubsequence, NeverFall, descents}
 use Rattle.ken_drive.specs.Stations.{RestartsStation}
-use Rattle.ken_drive.proofs.AccountsCalls.{draws-push, failed-sum, run-accounted, run-held, unfailed-sum}
-use Rattle.ken_drive.proofs.AccountsFates.{fates-failed-again, fates-raised}
+use Rattle.ken_drive.specs.Worlds.{IsOf}
+use Rattle.ken_drive.proofs.AccountsCalls.{draws-push, failed-sum, run-accounted, run-held, tells-still, unfailed-sum}
+use Rattle.ken_drive.proofs.AccountsFates.{fates-failed-again, fates-raised, own-down, own-up}
 use Rattle.ken_drive.proofs.AccountsLists.{descents-one, never-push, sub-front}
 use Rattle.ken_drive.proofs.AccountsRuns.{TurnsAfterRestart, restart-turns}
 use Rattle.ken_drive.proofs.Leaving.{tries-is}
@@ -60,19 +61,19 @@ longer-after n after doubt (inr landed) =
     let long : length after.turning.turns ≡ length n.turning.turns + 1 = ap (λ (ts : List Effects). length ts) landed.1.0 ∙ length_push n.turning.turns landed.0 in
     omega (arith, long)
 
-restarted-sum : {D : Type 0} (told : D → Option Story) (count : D → ℕ) (fate : D → Option Fate) (a b : Disks D) → WereRestarted told count fate a b → faults_of count b ≡ faults_of count a
-restarted-sum told count fate a b w = let l = w.log.faults in let i = w.image.faults in let s = w.second.faults in omega (arith, l, i, s)
+restarted-sum : {D : Type 0} (told : D → Option Story) (count : D → ℕ) (fate : D → Option Fate) (pick : ℕ) (a b : Disks D) → WereRestarted told count fate pick a b → faults_of count b ≡ faults_of count a
+restarted-sum told count fate pick a b w = let l = w.log.faults in let i = w.image.faults in let s = w.second.faults in omega (arith, l, i, s)
 
 -- ---- a restart
 
 module _ {D O U : Type 0} (told : Watched D → Option Story) (size : Watched D → ℕ) (count : Watched D → ℕ) (fate : Watched D → Option Fate) (telling : Telling O) (terms : Terms) (g : Game) (v : ℕ) (s s2 : Station D O U) (h : IsHeld told count fate telling terms g v s) (less : s.restarts < terms.most)
     (luck-is : s2.luck ≡ s.luck) (synced : IsSynced told count g v s2.node.stage) (emissions : emissions_in s2.node.stage ≡ emissions_in s.node.stage) where
-  origin-still : IfSome (telling.origin s2.luck) (λ x. x ≡ record { node = v; seed = terms.seed })
-  origin-still = subst (λ (o : O). IfSome (telling.origin o) (λ x. x ≡ record { node = v; seed = terms.seed })) (sym luck-is) h.books.origin
+  origin-still : IsOf terms.scripted telling s2.luck v terms.seed
+  origin-still = subst (λ (o : O). IsOf terms.scripted telling o v terms.seed) (sym luck-is) h.books.origin
 
-  pub restart-station : (result : Result (Unit {0}) NodeFault) → RestartsStation told size result g v h.given h.stood_for h.doubt s s2
-      → ((d d2 : Disks (Watched D)) → HasDisks d s.node.stage → HasDisks d2 s2.node.stage → UnlessMemory result (RestartsBy told count fate result d d2)) → AccountsStation told count fate telling terms g result v s2
-  restart-station (Ok x) b disks =
+  pub restart-station : (pick : Disks (Watched D) → ℕ) (result : Result (Unit {0}) NodeFault) → RestartsStation told size result g v h.given h.stood_for h.doubt s s2
+      → ((d d2 : Disks (Watched D)) → HasDisks d s.node.stage → HasDisks d2 s2.node.stage → UnlessMemory result (RestartsBy told count fate (pick d) result d d2)) → AccountsStation told count fate telling terms g result v s2
+  restart-station pick (Ok x) b disks =
       let n = h.stood_for in
       let up = b.1.0 in
       let after = up.after in
@@ -89,6 +90,7 @@ module _ {D O U : Type 0} (told : Watched D → Option Story) (size : Watched D 
       record {
         books = record {
           synced = synced;
+          own = subst (λ (k : ℕ). HasOwnDisks fate terms.scripted (terms.origins v) k s2.node.stage) (sym tried) (own-up told count fate terms.scripted s.node.stage s2.node.stage h.down.disks h.down.has (terms.origins v) s.restarts h.books.own pick disks);
           origin = origin-still;
           lines = subst (λ (ls : List ℕ). NeverFall 0 ls (length (turns_in s2.node.stage))) (sym b.1.1) (subst (λ (k : ℕ). NeverFall 0 (s.lines.items ++ turns ∷ []) k) (counted ∙ sym high) (never-push 0 s.lines.items (length (turns_in s.node.stage)) turns h.books.lines (omega (arith, longer, counted, was))));
           few = omega (arith, few, long, tried);
@@ -96,13 +98,14 @@ module _ {D O U : Type 0} (told : Watched D → Option Story) (size : Watched D 
         };
         drew = subst (λ (o : O). HasDrawn telling g.handler o (draws_of (turns_in s2.node.stage))) (sym luck-is)
             (subst (λ (ts : List Effects). HasDrawn telling g.handler s.luck (draws_of ts)) (sym now) (drew-after telling g.handler s.luck n after h.doubt grows (subst (λ (ts : List Effects). HasDrawn telling g.handler s.luck (draws_of ts ++ doubted h.doubt)) h.down.turns h.drew)));
+        tells = tells-still terms.scripted telling s.luck (length (turns_in s.node.stage) + s.restarts + 1) h.tells s2.luck (length (turns_in s2.node.stage) + s2.restarts) luck-is (omega (arith, longer, was, high, tried));
         causes = λ d2 h2.
             let by = disks h.down.disks d2 h.down.has h2 in
-            let mid = restarted-sum told count fate h.down.disks by.0 by.1.0 in
+            let mid = restarted-sum told count fate (pick h.down.disks) h.down.disks by.0 by.1.0 in
             let end = unfailed-sum told count fate by.0 d2 by.1.1 in
             let so = h.causes h.down.disks h.down.has in
             omega (arith, mid, end, so, tried);
-        fates = subst (λ (k : ℕ). HasFates fate terms.scripted (AreRaised (terms.cuts v) k) s2.node.stage) (sym tried) (fates-raised told count fate terms.scripted s.node.stage s2.node.stage h.down.disks h.down.has (terms.cuts v) (s.restarts + 1) disks h.fates);
+        fates = subst (λ (k : ℕ). HasFates fate terms.scripted (AreRaised (terms.cuts v) k) s2.node.stage) (sym tried) (fates-raised told count fate terms.scripted s.node.stage s2.node.stage h.down.disks h.down.has (terms.cuts v) (s.restarts + 1) pick disks h.fates);
         calm = λ none. absurd (let empty : length s2.lines.items ≡ 0 = ap (λ (ls : List ℕ). length ls) none in omega (arith, empty, long));
         again =
             let again = h.again in
@@ -110,7 +113,7 @@ module _ {D O U : Type 0} (told : Watched D → Option Story) (size : Watched D 
             let same : descents 0 (numbers_of (emissions_in s2.node.stage)) ≡ descents 0 (numbers_of (emissions_in s.node.stage)) = ap (λ (es : List Emission). descents 0 (numbers_of es)) emissions in
             omega (arith, again, one, same, long);
       }
-  restart-station (Err Disk) b disks =
+  restart-station pick (Err Disk) b disks =
       let turns : turns_in s2.node.stage ≡ turns_in s.node.stage = b.0.turns ∙ sym h.down.turns in
       let tried : s2.restarts ≡ s.restarts + 1 = b.2 in
       let few = h.books.few in
@@ -118,6 +121,7 @@ module _ {D O U : Type 0} (told : Watched D → Option Story) (size : Watched D 
       record {
         books = record {
           synced = synced;
+          own = subst (λ (k : ℕ). HasOwnDisks fate terms.scripted (terms.origins v) k s2.node.stage) (sym tried) (own-down told count fate terms.scripted s.node.stage s2.node.stage h.down.disks h.down.has (terms.origins v) s.restarts h.books.own pick disks);
           origin = origin-still;
           lines = subst (λ (ls : List ℕ). NeverFall 0 ls (length (turns_in s2.node.stage))) (sym b.1) (subst (λ (ts : List Effects). NeverFall 0 s.lines.items (length ts)) (sym turns) h.books.lines);
           few = omega (arith, few, long, tried);
@@ -128,21 +132,23 @@ module _ {D O U : Type 0} (told : Watched D → Option Story) (size : Watched D 
         doubt = h.doubt;
         down = b.0;
         drew = subst (λ (o : O). HasDrawn telling g.handler o (draws_of (turns_in s2.node.stage) ++ doubted h.doubt)) (sym luck-is) (subst (λ (ts : List Effects). HasDrawn telling g.handler s.luck (draws_of ts ++ doubted h.doubt)) (sym turns) h.drew);
+        tells = let same : length (turns_in s2.node.stage) ≡ length (turns_in s.node.stage) = ap (λ (ts : List Effects). length ts) turns in
+            tells-still terms.scripted telling s.luck (length (turns_in s.node.stage) + s.restarts + 1) h.tells s2.luck (length (turns_in s2.node.stage) + s2.restarts + 1) luck-is (omega (arith, same, tried));
         causes = λ d2 h2.
             let by = disks h.down.disks d2 h.down.has h2 in
-            let mid : faults_of count by.0 ≡ faults_of count h.down.disks = restarted-sum told count fate h.down.disks by.0 by.1.0 in
+            let mid : faults_of count by.0 ≡ faults_of count h.down.disks = restarted-sum told count fate (pick h.down.disks) h.down.disks by.0 by.1.0 in
             let so : min (s.restarts + 1) (2 ^ 64 - 1) ≤ faults_of count h.down.disks = h.causes h.down.disks h.down.has in
             let end : min (s.restarts + 1 + 1) (2 ^ 64 - 1) ≤ faults_of count d2 = failed-sum told count fate (s.restarts + 1) by.0 d2 by.1.1 (omega (arith, mid, so)) in
             omega (arith, end, tried);
-        fates = subst (λ (k : ℕ). HasFates fate terms.scripted (HaveFallen (terms.cuts v) (k + 1)) s2.node.stage) (sym tried) (fates-failed-again told count fate terms.scripted s.node.stage s2.node.stage h.down.disks h.down.has (terms.cuts v) (s.restarts + 1) disks h.fates);
+        fates = subst (λ (k : ℕ). HasFates fate terms.scripted (HaveFallen (terms.cuts v) (k + 1)) s2.node.stage) (sym tried) (fates-failed-again told count fate terms.scripted s.node.stage s2.node.stage h.down.disks h.down.has (terms.cuts v) (s.restarts + 1) pick disks h.fates);
         again =
             let again = h.again in
             let same : descents 0 (numbers_of (emissions_in s2.node.stage)) ≡ descents 0 (numbers_of (emissions_in s.node.stage)) = ap (λ (es : List Emission). descents 0 (numbers_of es)) emissions in
             omega (arith, again, same, long);
       }
-  restart-station (Err Memory) b disks = tt
-  restart-station (Err Outlet) b disks = absurd b
-  restart-station (Err (Damaged disk place)) b disks = absurd b
+  restart-station pick (Err Memory) b disks = tt
+  restart-station pick (Err Outlet) b disks = absurd b
+  restart-station pick (Err (Damaged disk place)) b disks = absurd b
 
 -- of a run whose node was down
 module _ {D O U : Type 0} (told : Watched D → Option Story) (size : Watched D → ℕ) (count : Watched D → ℕ) (fate : Watched D → Option Fate) (telling : Telling O) (terms : Terms) (g : Game) (made : ℕ) (r r2 : Run D O U) (v : ℕ) (s s2 : Station D O U)
@@ -159,12 +165,12 @@ module _ {D O U : Type 0} (told : Watched D → Option Story) (size : Watched D 
   restart-accounts width low stations kept (Err (Damaged disk place)) by = tt
 
 -- a restart's error is its node's
-pub restart-disks-err : {D : Type 0} (told : D → Option Story) (count : D → ℕ) (fate : D → Option Fate) (result : Result (Unit {0}) NodeFault) (fault : NodeFault) (a b : Disks D) → IsErrAnd result (λ e. e ≡ fault) → RestartsBy told count fate {T = ℕ} (Err fault) a b → UnlessMemory result (RestartsBy told count fate result a b)
-restart-disks-err told count fate (Ok x) fault a b same by = absurd same
-restart-disks-err told count fate (Err Disk) fault a b same by = subst (λ (x : NodeFault). RestartsBy told count fate {T = ℕ} (Err x) a b) (sym same) by
-restart-disks-err told count fate (Err Memory) fault a b same by = tt
-restart-disks-err told count fate (Err Outlet) fault a b same by = subst (λ (x : NodeFault). RestartsBy told count fate {T = ℕ} (Err x) a b) (sym same) by
-restart-disks-err told count fate (Err (Damaged disk place)) fault a b same by = subst (λ (x : NodeFault). RestartsBy told count fate {T = ℕ} (Err x) a b) (sym same) by
+pub restart-disks-err : {D : Type 0} (told : D → Option Story) (count : D → ℕ) (fate : D → Option Fate) (pick : ℕ) (result : Result (Unit {0}) NodeFault) (fault : NodeFault) (a b : Disks D) → IsErrAnd result (λ e. e ≡ fault) → RestartsBy told count fate {T = ℕ} pick (Err fault) a b → UnlessMemory result (RestartsBy told count fate pick result a b)
+restart-disks-err told count fate pick (Ok x) fault a b same by = absurd same
+restart-disks-err told count fate pick (Err Disk) fault a b same by = subst (λ (x : NodeFault). RestartsBy told count fate {T = ℕ} pick (Err x) a b) (sym same) by
+restart-disks-err told count fate pick (Err Memory) fault a b same by = tt
+restart-disks-err told count fate pick (Err Outlet) fault a b same by = subst (λ (x : NodeFault). RestartsBy told count fate {T = ℕ} pick (Err x) a b) (sym same) by
+restart-disks-err told count fate pick (Err (Damaged disk place)) fault a b same by = subst (λ (x : NodeFault). RestartsBy told count fate {T = ℕ} pick (Err x) a b) (sym same) by
 
 -- ---- one call after another
 

@@ -1,5 +1,5 @@
 -- What a run that has ended leaves with its world.
-use Rattle.std.proofs.Common.{arith, ◌≡◌, ◌∙◌, ℕ, suc, zero, ◌+◌, ◌<◌, ◌≤◌, Bool, true, false, ◌==◌, List, [], ◌∷◌, ◌++◌, length, map, filter, slice_index_or, Option, Some, None, IfSome, refl, sym, ap, subst, ◌≢◌, eq-eqb}
+use Rattle.std.proofs.Common.{arith, ◌≡◌, ◌∙◌, ℕ, suc, zero, ◌+◌, ◌*◌, ◌<◌, ◌≤◌, Bool, true, false, ◌==◌, List, [], ◌∷◌, ◌++◌, length, map, filter, slice_index_or, Option, Some, None, IfSome, refl, sym, ap, subst, ◌≢◌, eq-eqb}
 use Rattle.std.proofs.lemmas.Bool.{ne_eqb}
 use Rattle.std.proofs.lemmas.List.{append-nil, map-append}
 use Rattle.std.proofs.lemmas.List.Elements.{filter-append}
@@ -29,12 +29,16 @@ use Rattle.ken_node.specs.Up.{IsUp}
 use Rattle.ken_flow.specs.Groups.{group_of}
 use Rattle.ken_drive.specs.declared.run.Run.{Run}
 use Rattle.ken_drive.specs.declared.station.Station.{Station}
-use Rattle.ken_drive.specs.Accounts.{AreAccounted, IsAccounted, Terms, draws_of, emitted_through, faults_of, numbers_of}
+use Rattle.ken_drive.specs.Accounts.{AreAccounted, AreOwnDisks, IsAccounted, TellsAtMost, Terms, draws_of, emitted_through, faults_of, numbers_of}
 use Rattle.ken_drive.specs.Driven.{HaveCauses, KeepsNode, KeepsRun, Views, out_numbers, restarts_of, steps_at}
 use Rattle.ken_drive.specs.Ended.{IsEnded, IsReportOf, restarts_from}
 use Rattle.ken_drive.specs.Finishing.{WasKept, unwatched}
 use Rattle.ken_drive.specs.Recovering.{RecoversAt}
+use Rattle.ken_drive.specs.Refusals.{AreRefused, IsRefused}
 use Rattle.ken_drive.specs.Running.{IsRunning}
+use Rattle.ken_drive.specs.Worlds.{IsTold, MayFailAt}
+use Rattle.ken_app.specs.declared.turn.TheConstants.{MAX_DRAWS}
+use Rattle.ken_drive.proofs.Fewer.{few-turns}
 use Rattle.ken_drive.specs.Sequences.{IsSubsequence, NeverFall, descents}
 use Rattle.ken_drive.proofs.Recovering.{up-recovers}
 
@@ -111,7 +115,13 @@ fewer-descents before (x ∷ xs) ys = let rest = fewer-descents x xs ys in omega
 
 -- ---- a node
 
-module _ {D O U : Type 0} (views : Views D O U) (size : D → ℕ) (fate : Watched D → Option Fate) (g : Game) (r : Run D O U) (terms : Terms) (l : Lines) where
+-- what holds of what is told holds in a scripted world where it is told
+told-that : (scripted : Bool) (told : Option (List ℕ)) (Q P : List ℕ → Type 0) → IfSome told P → (scripted ≡ true → IsTold true told Q) → IsTold scripted told P
+told-that scripted (Some xs) Q P is all = is
+told-that true None Q P is all = all refl
+told-that false None Q P is all = tt
+
+module _ {D O U : Type 0} (views : Views D O U) (size : D → ℕ) (g : Game) (r : Run D O U) (terms : Terms) (l : Lines) where
   abbrev told-of : Watched D → Option Story
   told-of w = views.told w.disk
 
@@ -121,7 +131,10 @@ module _ {D O U : Type 0} (views : Views D O U) (size : D → ℕ) (fate : Watch
   abbrev faults-in : Watched D → ℕ
   faults-in w = views.faults w.disk
 
-  module _ (ended : IsEnded told-of size-of views.took g r) (report : IsReportOf told-of size-of views.took g r ended l) (accounts : AreAccounted told-of faults-in fate views.telling terms g ended.made r)
+  abbrev fate-of : Watched D → Option Fate
+  fate-of w = views.fate w.disk
+
+  module _ (ended : IsEnded told-of size-of views.took g r) (report : IsReportOf told-of size-of views.took g r ended l) (accounts : AreAccounted told-of faults-in fate-of views.telling terms g ended.made r) (refusals : AreRefused views.refused views.calls terms ended.made r)
       (few : terms.most ≤ 1000) (legal : HistoryIsLegal) (apart : ApartRecovers told-of size-of) (synced : UpHasSynced told-of size-of faults-in) where
     abbrev running : IsRunning told-of size-of views.took g ended.made r
     running = ended.running
@@ -136,8 +149,11 @@ module _ {D O U : Type 0} (views : Views D O U) (size : D → ℕ) (fate : Watch
       up : IsUp told-of size-of g v (running.nodes v) s.node.stage
       up = subst (λ (x : Station D O U). IsUp told-of size-of g v (running.nodes v) x.node.stage) is (running.up v s made-low)
 
-      books : IsAccounted told-of faults-in fate views.telling terms g v s
-      books = subst (IsAccounted told-of faults-in fate views.telling terms g v) is (accounts.each v s made-low)
+      books : IsAccounted told-of faults-in fate-of views.telling terms g v s
+      books = subst (IsAccounted told-of faults-in fate-of views.telling terms g v) is (accounts.each v s made-low)
+
+      may : MayFailAt terms.scripted v (terms.fails v) (views.calls s.out)
+      may = (subst (IsRefused views.refused views.calls terms v) is (refusals.each v s made-low)).fails
 
       turns-are : turns_in s.node.stage ≡ (running.nodes v).turning.turns
       turns-are = ap turns_in up.stage_is ∙ up.whole.workers.turns.kept
@@ -153,9 +169,18 @@ module _ {D O U : Type 0} (views : Views D O U) (size : D → ℕ) (fate : Watch
           ∙ ap (λ (ls : List TurnLine). flat_map (λ (st : Step). read st.draws) (map (λ (x : TurnLine). x.step) ls)) (sym (report.history.parts v))
           ∙ ap (flat_map (λ (st : Step). read st.draws)) (sym (steps-by v l.turns))
 
-      drawn : (told : Option (List ℕ)) (read : List ℕ → List ℕ) → IfSome told (IsSubsequence (flat_map read (draws_of (turns_in s.node.stage)))) → IfSome told (IsSubsequence (flat_map (λ (st : Step). read st.draws) (steps_at v (steps_of l.turns))))
-      drawn None read is = tt
-      drawn (Some xs) read is = subst (λ (ds : List ℕ). IsSubsequence ds xs) (drew read) is
+      -- its oracle tells all that it has answered: few turns may have been begun
+      tells : terms.scripted ≡ true → TellsAtMost views.telling s.luck (MAX_DRAWS * (length (turns_in s.node.stage) + s.restarts))
+      tells scripted =
+          let made : length (turns_in s.node.stage) ≡ length (running.nodes v).turning.turns = ap length turns-are in
+          let short = few-turns g running.nodes running.emissions v running.stands.accord in
+          let limit = running.stands.limits.few_turns in
+          let most = books.books.most in
+          books.tells scripted (omega (arith, made, short, limit, most, few))
+
+      drawn : (told : Option (List ℕ)) (read : List ℕ → List ℕ) → IfSome told (IsSubsequence (flat_map read (draws_of (turns_in s.node.stage)))) → (terms.scripted ≡ true → IsTold true told (λ xs. length xs ≤ MAX_DRAWS * (length (turns_in s.node.stage) + s.restarts)))
+          → IsTold terms.scripted told (IsSubsequence (flat_map (λ (st : Step). read st.draws) (steps_at v (steps_of l.turns))))
+      drawn told read is all = told-that terms.scripted told (λ xs. length xs ≤ MAX_DRAWS * (length (turns_in s.node.stage) + s.restarts)) (IsSubsequence (flat_map (λ (st : Step). read st.draws) (steps_at v (steps_of l.turns)))) (subst (λ (ds : List ℕ). IfSome told (IsSubsequence ds)) (drew read) is) all
 
       -- what it emitted
       abbrev outs : List Out
@@ -184,26 +209,29 @@ module _ {D O U : Type 0} (views : Views D O U) (size : D → ℕ) (fate : Watch
           omega (arith, all, front, count)
 
       module _ (disks : Disks (Watched D)) (has : HasDisks disks s.node.stage) where
-        causes : HaveCauses (faults_of views.faults (unwatched disks)) terms.most ((play g (steps_of l.turns)).place v).turns (restarts_of v l.restarts) (out_numbers outs)
+        causes : HaveCauses (faults_of views.faults (unwatched disks)) s.restarts ((play g (steps_of l.turns)).place v).turns (restarts_of v l.restarts) (out_numbers outs)
         causes =
             let failed = books.causes disks has in
             let most = books.books.most in
             let lines = books.books.few in
-            subst (λ (xs : List ℕ). HaveCauses (faults_of views.faults (unwatched disks)) terms.most ((play g (steps_of l.turns)).place v).turns xs (out_numbers outs)) (sym restarts-are)
+            subst (λ (xs : List ℕ). HaveCauses (faults_of views.faults (unwatched disks)) s.restarts ((play g (steps_of l.turns)).place v).turns xs (out_numbers outs)) (sym restarts-are)
             (record {
               rise = subst (NeverFall 0 s.lines.items) turn-count books.books.lines;
-              few = omega (arith, most, lines);
-              causes = omega (arith, failed, most, lines, few);
+              few = lines;
+              causes = omega (arith, failed, most, few);
               none = λ none. books.calm none disks has;
               again = again;
             })
+
+        owned : AreOwnDisks views.fate terms.scripted (terms.origins v) s.restarts (unwatched disks)
+        owned = let own = books.books.own disks has in record { log = own.log; image = own.image; second = own.second }
 
         recovers : RecoversAt views.told g v (play g (steps_of l.turns)) (unwatched disks)
         recovers =
             let watched = up-recovers told-of size-of g v running.nodes running.emissions l.turns s.node.stage running.stands.accord played up apart disks has in
             record { state = watched.state; recovers = watched.recovers; is = watched.is }
 
-        keeps-node : (kept : Option (Disks D × O × U)) → kept ≡ Some (unwatched disks, s.luck, s.out) → KeepsNode views g terms.seed terms.most v (steps_of l.turns) l.emissions l.restarts kept
+        keeps-node : (kept : Option (Disks D × O × U)) → kept ≡ Some (unwatched disks, s.luck, s.out) → KeepsNode views g terms v (steps_of l.turns) l.emissions l.restarts kept
         keeps-node kept is-kept = record {
           disks = unwatched disks;
           luck = s.luck;
@@ -212,14 +240,15 @@ module _ {D O U : Type 0} (views : Views D O U) (size : D → ℕ) (fate : Watch
           recovers = recovers;
           synced = subst (λ (n : ℕ). HasSynced told-of faults-in n disks) (played.place v).turns (synced g v (running.nodes v) s.node.stage disks up books.books.synced has);
           took = subst (λ (os : List Out). IfSome (views.took s.out) (λ told. told ≡ os)) (sym outs-are) (subst (λ (x : Station D O U). IfSome (views.took x.out) (λ told. told ≡ emitted_by v running.emissions)) is (running.stands.each v s made-low).emitted.took_it);
-          origin = books.books.origin;
-          clocks = drawn (views.telling.clocks s.luck) g.handler.clocks books.drew.clocks;
-          words = drawn (views.telling.words s.luck) g.handler.words books.drew.words;
+          often = s.restarts;
+          own = record { oracle = books.books.origin; own_disks = owned; few = books.books.most; outlet = may };
+          clocks = drawn (views.telling.clocks s.luck) g.handler.clocks books.drew.clocks (λ scripted. (tells scripted).clocks);
+          words = drawn (views.telling.words s.luck) g.handler.words books.drew.words (λ scripted. (tells scripted).words);
           causes = causes;
         }
 
     pub keeps-run : (kept : ℕ → Option (Disks D × O × U)) → ((v : ℕ) (d : Station D O U) → v < length r.stations.items → WasKept (slice_index_or r.stations.items v d) (kept v)) → ((v : ℕ) → length r.stations.items ≤ v → kept v ≡ None)
-        → KeepsRun views g terms.seed terms.most (steps_of l.turns) l.emissions l.restarts kept
+        → KeepsRun views g terms (steps_of l.turns) l.emissions l.restarts kept
     keeps-run kept each others =
         let width : length r.stations.items ≡ g.nodes = running.stands.width ∙ ended.all in
         record {

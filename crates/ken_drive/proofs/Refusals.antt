@@ -1,5 +1,5 @@
 -- What each call of a node leaves of the failures of its outlet.
-use Rattle.std.proofs.Common.{◌≡◌, ◌≢◌, ◌∙◌, ℕ, ◌+◌, ◌-◌, ◌^◌, ◌<◌, ◌≤◌, ⊎_elim, List, length, Bool, Option, Some, None, Result, Ok, Err, slice_index_or, slice_set, refl, sym, ap, subst, arith}
+use Rattle.std.proofs.Common.{◌≡◌, ◌≢◌, ◌∙◌, ℕ, ◌+◌, ◌-◌, ◌^◌, ◌<◌, ◌≤◌, ⊎_elim, ◌↔◌, List, length, Bool, Option, Some, None, Result, Ok, Err, slice_index_or, slice_set, refl, sym, ap, subst, arith}
 use Rattle.std.specs.List.{Contains}
 use Rattle.std.specs.Result.{IsErrAnd}
 use Rattle.std.proofs.lemmas.Bool.{cases_eq, cases_lt}
@@ -34,7 +34,8 @@ use Rattle.ken_drive.specs.declared.faults.RunFault.{RunFault}
 use Rattle.ken_drive.specs.declared.run.Run.{Run}
 use Rattle.ken_drive.specs.declared.station.Station.{Station}
 use Rattle.ken_drive.specs.Left.{tries_at}
-use Rattle.ken_drive.specs.Refusals.{AreRefused, HasFailedLast, IsListedLate, IsRefused, IsUsedUpOf, IsWornOut, LastFail, MayFailAt, RefusedBy, RefusedFault, RefusedRunBy, RefusedRunFault, StopsBy}
+use Rattle.ken_drive.specs.Refusals.{AreRefused, HasFailedLast, IsListedLate, IsRefused, IsUsedUpOf, IsWornOut, LastFail, RefusedBy, RefusedFault, RefusedRunBy, RefusedRunFault, StopsBy}
+use Rattle.ken_drive.specs.Worlds.{MayFailAt}
 use Rattle.ken_drive.specs.Stations.{RestartsStation}
 use Rattle.ken_drive.proofs.Leaving.{tries-is}
 
@@ -116,10 +117,17 @@ list-same (Ok x) old new suffers = ap (λ (f : Fate). f.fails) suffers
 list-same (Err Failed) old new suffers = ap (λ (f : Fate). f.fails) suffers.1
 list-same (Err NoMemory) old new suffers = ap (λ (f : Fate). f.fails) suffers
 
-pub may-fail-still : {T : Type 0} (scripted : Bool) (fails : List ℕ) (result : Result T OutFault) (old new : Option Fate) → Follows (Suffers result) old new → MayFailAt scripted fails old → MayFailAt scripted fails new
-may-fail-still scripted fails result None new follows may = subst (MayFailAt scripted fails) (sym follows) may
-may-fail-still scripted fails result (Some f) new follows may =
-    subst (MayFailAt scripted fails) (sym follows.1) (λ call contains. may call (subst (λ (fs : List ℕ). Contains fs call) (list-same result f follows.0 follows.2) contains))
+-- nor whose it is
+node-same : {T : Type 0} (result : Result T OutFault) (old new : Fate) → Suffers result old new → new.node ≡ old.node
+node-same (Ok x) old new suffers = ap (λ (f : Fate). f.node) suffers
+node-same (Err Failed) old new suffers = ap (λ (f : Fate). f.node) suffers.1
+node-same (Err NoMemory) old new suffers = ap (λ (f : Fate). f.node) suffers
+
+pub may-fail-still : {T : Type 0} (scripted : Bool) (v : ℕ) (fails : List ℕ) (result : Result T OutFault) (old new : Option Fate) → Follows (Suffers result) old new → MayFailAt scripted v fails old → MayFailAt scripted v fails new
+may-fail-still scripted v fails result None new follows may = subst (MayFailAt scripted v fails) (sym follows) may
+may-fail-still scripted v fails result (Some f) new follows may =
+    subst (MayFailAt scripted v fails) (sym follows.1)
+    (node-same result f follows.0 follows.2 ∙ may.0, λ call. subst (λ (fs : List ℕ). Contains fs call ↔ Contains fails call) (sym (list-same result f follows.0 follows.2)) (may.1 call))
 
 -- ---- a call of one node of a run
 
@@ -158,7 +166,7 @@ module _ {D O U : Type 0} (faults : U → ℕ) (fate : U → Option Fate) (terms
   still-refused fewer out = now (record {
     few = let few = was.few in omega (arith, few, fewer);
     failed = failed-fewer faults fate (refusals_in s.node.stage) (refusals_in s2.node.stage) s2.out fewer (subst (HasFailedLast faults fate (refusals_in s.node.stage)) (sym out) was.failed);
-    fails = subst (λ (o : U). MayFailAt terms.scripted (terms.fails v) (fate o)) (sym out) was.fails;
+    fails = subst (λ (o : U). MayFailAt terms.scripted v (terms.fails v) (fate o)) (sym out) was.fails;
   })
 
   pub call-refused : {T : Type 0} (result : Result T NodeFault) → NoOutlet result → refusals_in s2.node.stage ≤ refusals_in s.node.stage → s2.out ≡ s.out → RefusedBy faults fate terms result made v r2
@@ -174,19 +182,19 @@ module _ {D O U : Type 0} (faults : U → ℕ) (fate : U → Option Fate) (terms
   emit-refused told size g n took (Ok (Done number)) e cause follows = now (record {
     few = let none = e.refusals in omega (arith, none);
     failed = subst (λ (k : ℕ). HasFailedLast faults fate k s2.out) (sym e.refusals) (failed-none faults fate s2.out);
-    fails = may-fail-still terms.scripted (terms.fails v) (outlet_answer (Ok (Done number))) (fate s.out) (fate s2.out) follows was.fails;
+    fails = may-fail-still terms.scripted v (terms.fails v) (outlet_answer (Ok (Done number))) (fate s.out) (fate s2.out) follows was.fails;
   })
   emit-refused told size g n took (Ok Refused) e cause follows =
       let below : refusals_in s.node.stage < 64 = e.2 in
       now (record {
         few = let more = e.3 in omega (arith, more, below);
         failed = subst (λ (k : ℕ). HasFailedLast faults fate k s2.out) (sym e.3) (failed-more faults fate (refusals_in s.node.stage) s.out s2.out was.few was.failed cause follows);
-        fails = may-fail-still terms.scripted (terms.fails v) (outlet_answer (Ok Refused)) (fate s.out) (fate s2.out) follows was.fails;
+        fails = may-fail-still terms.scripted v (terms.fails v) (outlet_answer (Ok Refused)) (fate s.out) (fate s2.out) follows was.fails;
       })
   emit-refused told size g n took (Ok Nothing) e cause follows = now (record {
     few = let same = e.2 in let few = was.few in omega (arith, same, few);
     failed = subst (λ (k : ℕ). HasFailedLast faults fate k s2.out) (sym e.2) (failed-same faults fate (refusals_in s.node.stage) s.out s2.out was.failed cause follows);
-    fails = may-fail-still terms.scripted (terms.fails v) (outlet_answer (Ok Nothing)) (fate s.out) (fate s2.out) follows was.fails;
+    fails = may-fail-still terms.scripted v (terms.fails v) (outlet_answer (Ok Nothing)) (fate s.out) (fate s2.out) follows was.fails;
   })
   emit-refused told size g n took (Err Outlet) e cause follows =
       let most : refusals_in s.node.stage ≡ 64 = e.2 in
@@ -194,7 +202,7 @@ module _ {D O U : Type 0} (faults : U → ℕ) (fate : U → Option Fate) (terms
         now (record {
           few = let same = e.3 in omega (arith, same, most);
           failed = failed-fewer faults fate (refusals_in s.node.stage + 1) (refusals_in s2.node.stage) s2.out (let same = e.3 in omega (arith, same)) more;
-          fails = may-fail-still terms.scripted (terms.fails v) (outlet_answer (Err Outlet)) (fate s.out) (fate s2.out) follows was.fails;
+          fails = may-fail-still terms.scripted v (terms.fails v) (outlet_answer (Err Outlet)) (fate s.out) (fate s2.out) follows was.fails;
         }),
         worn-out (subst (λ (k : ℕ). HasFailedLast faults fate (k + 1) s2.out) most more),
       )

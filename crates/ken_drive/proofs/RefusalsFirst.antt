@@ -10,7 +10,8 @@ use Rattle.ken_node.specs.Created.{IsNewNode}
 use Rattle.ken_node.specs.Stages.{IsUncreated, refusals_in}
 use Rattle.ken_drive.specs.Accounts.{Terms}
 use Rattle.ken_drive.specs.declared.station.Station.{Station}
-use Rattle.ken_drive.specs.Refusals.{HasFailedLast, IsRefused, MayFailAt}
+use Rattle.ken_drive.specs.Refusals.{HasFailedLast, IsRefused}
+use Rattle.ken_drive.specs.Worlds.{MayFailAt}
 use Rattle.ken_drive.proofs.Refusals.{failed-none}
 
 -- a node that was created, or couldn't be, was refused no output
@@ -21,7 +22,7 @@ pub uncreated-unrefused : {D : Type 0} (g : Game) (v : ℕ) (disks : Disks D) (s
 uncreated-unrefused g v disks stage u = ap refusals_in u.stage_is ∙ ap (λ (p : Part). p.refusals) u.first.part
 
 -- whatever its outlet is
-pub first-refused : {D O U : Type 0} (faults : U → ℕ) (fate : U → Option Fate) (terms : Terms) (v : ℕ) (s : Station D O U) → MayFailAt terms.scripted (terms.fails v) (fate s.out) → refusals_in s.node.stage ≡ 0 → IsRefused faults fate terms v s
+pub first-refused : {D O U : Type 0} (faults : U → ℕ) (fate : U → Option Fate) (terms : Terms) (v : ℕ) (s : Station D O U) → MayFailAt terms.scripted v (terms.fails v) (fate s.out) → refusals_in s.node.stage ≡ 0 → IsRefused faults fate terms v s
 first-refused faults fate terms v s may none = record {
   fails = may;
   few = omega (arith, none);

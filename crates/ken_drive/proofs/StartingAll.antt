@@ -19,9 +19,8 @@ use Rattle.ken_script.specs.declared.scripts.Script.{Script}
 use Rattle.ken_drive.specs.declared.station.Station.{Station}
 use Rattle.ken_drive.specs.Accounts.{IsUsedUp, Terms}
 use Rattle.ken_drive.specs.Finishing.{WasKept}
-use Rattle.ken_drive.specs.Starting.{AddsBy, FillsBy, HasFailedAt, FillsAccountsBy, HasModestActs, HasOwn, HaveStarted, IsBorn, IsGivenBack, IsKeptDown, IsLast, IsStarted, Joins, JoinsAccountsBy, JoinsBy, StartsAccountsBy, StartsBy, fails_for}
-use Rattle.ken_drive.specs.Refusals.{MayFailAt}
-use Rattle.ken_drive.specs.Worlds.{HasKeptNothing, IsFatedOutlet}
+use Rattle.ken_drive.specs.Starting.{AddsBy, FillsBy, HasFailedAt, FillsAccountsBy, HasModestActs, HasOwn, HaveStarted, IsBorn, IsGivenBack, IsKeptDown, IsKeptUp, IsLast, IsStarted, Joins, JoinsAccountsBy, JoinsBy, StartsAccountsBy, StartsBy, fails_for}
+use Rattle.ken_drive.specs.Worlds.{HasKeptNothing, MayFailAt}
 use Rattle.ken_drive.proofs.StartingRun.{each-more, new-modest}
 
 -- an error is no Ok
@@ -34,18 +33,12 @@ pub one-of : {X : Type 0} (xs : List X) (v : ℕ) → v < length xs → X
 one-of [] v low = absurd (omega (arith, low))
 one-of (x ∷ xs) v low = x
 
--- what a fated outlet may do
-fated-fails : (scripted : Bool) (fails : List ℕ) (fate : Option ship.Fate) → IsFatedOutlet scripted fails fate → MayFailAt scripted fails fate
-fated-fails scripted fails (Some f) fated = fated.1
-fated-fails true fails None fated = fated
-fated-fails false fails None fated = tt
-
 module _ {D O U : Type 0} (told : Watched D → Option Story) (size : Watched D → ℕ) (took : U → Option (List Out)) (scripted : Bool) (telling : Telling O) (faults : U → ℕ) (fate : U → Option ship.Fate) (script : Script) where
   -- a creation leaves the devices of a node but its disks
   own-still : (v : ℕ) (s last : Station D O U) → last ≡ record s { node = last.node; restarts = last.restarts; lines = last.lines } → HasOwn scripted telling took faults fate script v s → HasOwn scripted telling took faults fate script v last
   own-still v s last is own =
       subst (HasOwn scripted telling took faults fate script v) (sym is)
-      (record { clocks = own.clocks; words = own.words; origin = own.origin; took_none = own.took_none; no_faults = own.no_faults; fated = own.fated; mail = own.mail; acks = own.acks })
+      (record { clocks = own.clocks; words = own.words; oracle = own.oracle; took_none = own.took_none; no_faults = own.no_faults; fated = own.fated; mail = own.mail; acks = own.acks })
 
   pub none-have-started : (r : Run D O U) → IsStarted told size took (game_of script.facts) 0 r → r.restarts ≡ script.restarts → HaveStarted told size took scripted telling faults fate script 0 r
   none-have-started r started most = record { started = started; own = λ v d below. absurd (omega (arith, below)); most = most }
@@ -103,8 +96,8 @@ module _ {D O U : Type 0} (told : Watched D → Option Story) (size : Watched D 
 
   -- ---- the outlets of the nodes that have started
 
-  pub own-fails : (v : ℕ) (s : Station D O U) → HasOwn scripted telling took faults fate script v s → MayFailAt scripted (fails_for v script.outlets) (fate s.out)
-  own-fails v s own = fated-fails scripted (fails_for v script.outlets) (fate s.out) own.fated
+  pub own-fails : (v : ℕ) (s : Station D O U) → HasOwn scripted telling took faults fate script v s → MayFailAt scripted v (fails_for v script.outlets) (fate s.out)
+  own-fails v s own = own.fated.may
 
   -- ---- what a start leaves
 
@@ -139,12 +132,16 @@ module _ {D O U : Type 0} (told : Watched D → Option Story) (count : Watched D
   memory-started (Ok x) kept same = absurd same
   memory-started (Err e) kept same = subst (λ (x : RunFault). StartsAccountsBy told count fate telling terms g (Err x) kept) (sym same) tt
 
-  -- the devices that were kept of a node that went down at the start
+  -- the devices that were kept of a node that went down at the start, and of those before it
   pub kept-down : (v : ℕ) (r : Run D O U) (kept : ℕ → Option (Disks D × O × U)) → IsUsedUp told count fate telling terms g (v + 1) v r → v < length r.stations.items
-      → ((u : ℕ) (d : Station D O U) → u < length r.stations.items → WasKept (slice_index_or r.stations.items u d) (kept u)) → IsKeptDown told count fate telling terms g v (kept v)
+      → ((u : ℕ) (d : Station D O U) → u < length r.stations.items → WasKept (slice_index_or r.stations.items u d) (kept u)) → IsKeptDown told count fate telling terms g v (kept v) × ((u : ℕ) → u < v → IsKeptUp told count fate telling terms g u (kept u))
   kept-down v r kept is low given =
       let d = one-of r.stations.items v low in
-      record { station = slice_index_or r.stations.items v d; held = is.held.held d; none_left = is.none_left d; was = given v d low }
+      (record { station = slice_index_or r.stations.items v d; held = is.held.held d; none_left = is.none_left d; was = given v d low },
+      λ u below.
+      let there : u < length r.stations.items = omega (arith, low, below) in
+      let e = one-of r.stations.items u there in
+      record { station = slice_index_or r.stations.items u e; accounted = is.held.others u e (omega (arith, below)) (λ same. omega (arith, below, same)); was = given u e there })
 
 -- a node that joins and goes down is the next one
 pub down-at : {D O U : Type 0} (told : Watched D → Option Story) (size : Watched D → ℕ) (took : U → Option (List Out)) (g : Game) (made : ℕ) (r : Run D O U) (fault : RunFault) → JoinsBy told size took (Err fault) g made r → (v : ℕ) → fault ≡ Down v → v ≡ made

@@ -29,11 +29,13 @@ use Rattle.ken_node.specs.Synced.{IsSynced}
 use Rattle.ken_app.specs.Oracles.{Telling}
 use Rattle.ken_node.proofs.Fresh.{anew-down, anew-emissions, anew-refusals, anew-up, has-one}
 use Rattle.ken_drive.specs.declared.station.Station.{Station}
-use Rattle.ken_drive.specs.Accounts.{IsAccounted, IsHeld, Terms}
-use Rattle.ken_drive.specs.Starting.{CreatesStation, IsBlank, IsBorn, IsCreatedStation, IsFresh, MayBeBorn, RaisesStation}
+use Rattle.ken_drive.specs.Accounts.{IsAccounted, IsHeld, IsOwnDisk, Terms}
+use Rattle.ken_drive.specs.Starting.{CreatesStation, IsBlank, IsBorn, IsCreatedStation, IsFresh, MayBeBorn, RaisesStation, cuts_for, terms_of}
 use Rattle.ken_drive.specs.Stations.{RestartsStation}
-use Rattle.ken_drive.specs.Worlds.{IsFatedDisk, IsOf}
+use Rattle.ken_drive.specs.Worlds.{IsFatedDisk, IsNewOracle}
 use Rattle.ken_memdisk.specs.declared.cut.Cut.{Cut}
+use Rattle.ken_memdisk.specs.Calls.{origin_of}
+use Rattle.ken_script.specs.declared.scripts.Script.{Script}
 use Rattle.ken_drive.proofs.AccountsFirst.{creation-failed, creation-unfailed, first-accounted, first-held}
 
 -- ---- empty disks
@@ -71,41 +73,53 @@ module _ {D : Type 0} (told : D → Option Story) (disks : Disks D) (log : told 
 -- ---- fresh disks
 
 -- what a fated disk tells
-fated-up : (scripted : Bool) (cuts : List Cut) (fate : Option Fate) (f : Fate) → IsFatedDisk scripted cuts fate → fate ≡ Some f → (f.down ≡ false) × (f.falls ≤ length cuts)
-fated-up scripted cuts (Some x) f fated is = subst (λ (y : Fate). (y.down ≡ false) × (y.falls ≤ length cuts)) (same_Some x f is) fated
-fated-up scripted cuts None f fated is = absurd (cc)
+fated-up : (scripted : Bool) (node which : ℕ) (cuts : List Cut) (fate : Option Fate) (f : Fate) → IsFatedDisk scripted node which cuts fate → fate ≡ Some f → (f.down ≡ false) × (f.falls ≤ length cuts)
+fated-up scripted node which cuts (Some x) f fated is = subst (λ (y : Fate). (y.down ≡ false) × (y.falls ≤ length cuts)) (same_Some x f is) (fated.up, fated.few)
+fated-up scripted node which cuts None f fated is = absurd (cc)
 
 -- and in a scripted world it tells
-fated-tells : (scripted : Bool) (cuts : List Cut) (fate : Option Fate) → scripted ≡ true → IsFatedDisk scripted cuts fate → (f : Fate) × (fate ≡ Some f)
-fated-tells scripted cuts (Some f) tells fated = (f, refl)
-fated-tells true cuts None tells fated = absurd fated
-fated-tells false cuts None tells fated = absurd (cc)
+fated-tells : (scripted : Bool) (node which : ℕ) (cuts : List Cut) (fate : Option Fate) → scripted ≡ true → IsFatedDisk scripted node which cuts fate → (f : Fate) × (fate ≡ Some f)
+fated-tells scripted node which cuts (Some f) tells fated = (f, refl)
+fated-tells true node which cuts None tells fated = absurd fated
+fated-tells false node which cuts None tells fated = absurd (cc)
 
-pub are-fresh : {D : Type 0} (count : D → ℕ) (fate : D → Option Fate) (scripted : Bool) (a b c : List Cut) (disks : Disks D) → (count disks.log ≡ 0) × (count disks.image ≡ 0) × (count disks.second ≡ 0)
-    → IsFatedDisk scripted a (fate disks.log) → IsFatedDisk scripted b (fate disks.image) → IsFatedDisk scripted c (fate disks.second) → IsFresh count fate scripted (length a + length b + length c) disks
-are-fresh count fate scripted a b c disks none log image second = record {
+-- whose it is
+fated-own : (scripted : Bool) (node which : ℕ) (cuts : List Cut) (fate : Option Fate) → IsFatedDisk scripted node which cuts fate → IsOwnDisk scripted (origin_of node which cuts) 0 fate
+fated-own scripted node which cuts (Some f) fated = (fated.origin, ap (λ (picks : List ℕ). length picks) fated.never)
+fated-own true node which cuts None fated = fated
+fated-own false node which cuts None fated = tt
+
+pub are-fresh : {D : Type 0} (count : D → ℕ) (fate : D → Option Fate) (scripted : Bool) (script : Script) (v : ℕ) (disks : Disks D) → (count disks.log ≡ 0) × (count disks.image ≡ 0) × (count disks.second ≡ 0)
+    → IsFatedDisk scripted v 0 (cuts_for v 0 script.cuts) (fate disks.log) → IsFatedDisk scripted v 1 (cuts_for v 1 script.cuts) (fate disks.image) → IsFatedDisk scripted v 2 (cuts_for v 2 script.cuts) (fate disks.second)
+    → IsFresh count fate (terms_of scripted script) v disks
+are-fresh count fate scripted script v disks none log image second = record {
   none = let l = none.0 in let i = none.1 in let s = none.2 in omega (arith, l, i, s);
   fated = record {
     falls = λ l i s lis iis sis.
-        let ll = fated-up scripted a (fate disks.log) l log lis in
-        let ii = fated-up scripted b (fate disks.image) i image iis in
-        let ss = fated-up scripted c (fate disks.second) s second sis in
+        let ll = fated-up scripted v 0 (cuts_for v 0 script.cuts) (fate disks.log) l log lis in
+        let ii = fated-up scripted v 1 (cuts_for v 1 script.cuts) (fate disks.image) i image iis in
+        let ss = fated-up scripted v 2 (cuts_for v 2 script.cuts) (fate disks.second) s second sis in
         let few-l = ll.1 in
         let few-i = ii.1 in
         let few-s = ss.1 in
         (ll.0, ii.0, ss.0, omega (arith, few-l, few-i, few-s));
     tell = λ tells.
-        let l = fated-tells scripted a (fate disks.log) tells log in
-        let i = fated-tells scripted b (fate disks.image) tells image in
-        let s = fated-tells scripted c (fate disks.second) tells second in
+        let l = fated-tells scripted v 0 (cuts_for v 0 script.cuts) (fate disks.log) tells log in
+        let i = fated-tells scripted v 1 (cuts_for v 1 script.cuts) (fate disks.image) tells image in
+        let s = fated-tells scripted v 2 (cuts_for v 2 script.cuts) (fate disks.second) tells second in
         record { log = l.0; image = i.0; second = s.0; log_is = l.1; image_is = i.1; second_is = s.1 };
+  };
+  own = record {
+    log = fated-own scripted v 0 (cuts_for v 0 script.cuts) (fate disks.log) log;
+    image = fated-own scripted v 1 (cuts_for v 1 script.cuts) (fate disks.image) image;
+    second = fated-own scripted v 2 (cuts_for v 2 script.cuts) (fate disks.second) second;
   };
 }
 
 -- the disks of a stage are fresh, whichever way they are named
-pub fresh-blank : {D : Type 0} (told : Watched D → Option Story) (count : Watched D → ℕ) (fate : Watched D → Option Fate) (scripted : Bool) (g : Game) (v cuts : ℕ) (disks : Disks (Watched D)) (stage : Stage (Watched D)) → IsUncreated g v disks stage → IsFresh count fate scripted cuts disks → (b : IsBlank told g v stage) → IsFresh count fate scripted cuts b.disks
-fresh-blank told count fate scripted g v cuts disks stage is fresh b =
-    subst (IsFresh count fate scripted cuts) (has-one disks b.disks stage (subst (HasDisks disks) (sym is.stage_is) refl) (subst (HasDisks b.disks) (sym b.uncreated.stage_is) refl)) fresh
+pub fresh-blank : {D : Type 0} (told : Watched D → Option Story) (count : Watched D → ℕ) (fate : Watched D → Option Fate) (terms : Terms) (g : Game) (v : ℕ) (disks : Disks (Watched D)) (stage : Stage (Watched D)) → IsUncreated g v disks stage → IsFresh count fate terms v disks → (b : IsBlank told g v stage) → IsFresh count fate terms v b.disks
+fresh-blank told count fate terms g v disks stage is fresh b =
+    subst (IsFresh count fate terms v) (has-one disks b.disks stage (subst (HasDisks disks) (sym is.stage_is) refl) (subst (HasDisks b.disks) (sym b.uncreated.stage_is) refl)) fresh
 
 -- ---- a restart of a node that made no turn
 
@@ -183,18 +197,18 @@ module _ {D O U : Type 0} (told : Watched D → Option Story) (size : Watched D 
         (blank-at-rest told born.over.disks born.over.log born.over.image born.over.second) (blank-unformatted told born.over.disks born.over.log born.over.image born.over.second) (blank-are-told told born.over.disks born.over.log born.over.image born.over.second)
 
     -- and either way it is accounted for
-    module _ (telling : Telling O) (terms : Terms) (fresh : IsFresh count fate terms.scripted (terms.cuts v) born.over.disks) (origin : IsOf telling s.luck v terms.seed) (synced : IsSynced told count g v s2.node.stage) where
-      own : IsOf telling s2.luck v terms.seed
-      own = subst (λ (o : O). IsOf telling o v terms.seed) (sym (ap (λ (x : Station D O U). x.luck) rest)) origin
+    module _ (telling : Telling O) (terms : Terms) (fresh : IsFresh count fate terms v born.over.disks) (oracle : IsNewOracle terms.scripted telling s.luck v terms.seed) (synced : IsSynced told count g v s2.node.stage) where
+      own : IsNewOracle terms.scripted telling s2.luck v terms.seed
+      own = subst (λ (o : O). IsNewOracle terms.scripted telling o v terms.seed) (sym (ap (λ (x : Station D O U). x.luck) rest)) oracle
 
       pub accounted-at-once : Creation (Ok tt) → IsAccounted told count fate telling terms g v s2
       accounted-at-once creation =
-          first-accounted told count fate telling terms g v s2 born.over.disks no-line-yet no-restart-yet own synced (none-made-yet (Ok tt) creation) (quiet-after (Ok tt) creation) fresh.none fresh.fated
+          first-accounted told count fate telling terms g v s2 born.over.disks no-line-yet no-restart-yet own synced (none-made-yet (Ok tt) creation) (quiet-after (Ok tt) creation) fresh.none fresh.fated fresh.own
           (creation-unfailed told size count fate g v born.over.disks s2.node.stage tt creation)
 
       pub held-at-once : Creation (Err Disk) → IsHeld told count fate telling terms g v s2
       held-at-once creation =
-          first-held told count fate telling terms g v s2 born.over.disks no-line-yet no-restart-yet own synced (none-made-yet (Err Disk) creation) (quiet-after (Err Disk) creation) fresh.none fresh.fated
+          first-held told count fate telling terms g v s2 born.over.disks no-line-yet no-restart-yet own synced (none-made-yet (Err Disk) creation) (quiet-after (Err Disk) creation) fresh.none fresh.fated fresh.own
           [] (first_node g) (failed-creation creation) (creation-failed told size count fate g v born.over.disks s2.node.stage creation)
 
     -- and is raised

@@ -46,7 +46,8 @@ use Rattle.ken_disk.specs.Fates.{Fate}
 use Rattle.ken_app.specs.Oracles.{Telling}
 use Rattle.std.specs.Prelude.{IfOk}
 use Rattle.ken_drive.specs.Accounts.{AreAccounted, IsAccounted, IsHeld, Terms}
-use Rattle.ken_drive.specs.Refusals.{AreRefused, IsRefused, MayFailAt}
+use Rattle.ken_drive.specs.Refusals.{AreRefused, IsRefused}
+use Rattle.ken_drive.specs.Worlds.{MayFailAt}
 use Rattle.ken_drive.specs.Starting.{AddsBy, AreModestOf, BeginsAccounts, BeginsStation, HasTried, IsCreatedStation, IsLast, IsStarted, Joins, JoinsAccountsBy, JoinsBy}
 use Rattle.ken_drive.specs.Stations.{AreLinksOf, IsStation}
 use Rattle.ken_drive.specs.Worlds.{TellsNothing}
@@ -256,12 +257,12 @@ module _ {D O U : Type 0} (told : Watched D → Option Story) (size : Watched D 
   joins-by (Err (Damaged u disk place)) begins = absurd begins
 
   -- where its outlet and those before it have refused nothing too often
-  pub joins-refused : (faults : U → ℕ) (fate : U → Option ship.Fate) (terms : Terms) (result : Result (Unit {0}) RunFault) → MayFailAt terms.scripted (terms.fails made) (fate s.out) → refusals_in s2.node.stage ≡ 0 → AreRefused faults fate terms made r
+  pub joins-refused : (faults : U → ℕ) (fate : U → Option ship.Fate) (terms : Terms) (result : Result (Unit {0}) RunFault) → MayFailAt terms.scripted made (terms.fails made) (fate s.out) → refusals_in s2.node.stage ≡ 0 → AreRefused faults fate terms made r
       → IfOk result (λ x. AreRefused faults fate terms (made + 1) r2)
   joins-refused faults fate terms (Err e) may none refused = tt
   joins-refused faults fate terms (Ok x) may none refused = record {
     each = each-more (IsRefused faults fate terms) r.stations.items r2.stations.items s2 made joins.started.stands.width stations refused.each
-        (first-refused faults fate terms made s2 (subst (λ (o : U). MayFailAt terms.scripted (terms.fails made) (fate o)) (sym (ap (λ (x : Station D O U). x.out) rest)) may) none);
+        (first-refused faults fate terms made s2 (subst (λ (o : U). MayFailAt terms.scripted made (terms.fails made) (fate o)) (sym (ap (λ (x : Station D O U). x.out) rest)) may) none);
   }
 
 module _ {D O U : Type 0} (told : Watched D → Option Story) (size : Watched D → ℕ) (took : U → Option (List Out)) (s s2 : Station D O U) (r r2 : Run D O U)

@@ -1,9 +1,10 @@
 -- What stops a run, by the devices that are kept and by its script.
-use Rattle.std.proofs.Common.{◌≡◌, ◌∙◌, ℕ, suc, zero, ◌+◌, ◌-◌, ◌^◌, ◌<◌, ◌≤◌, ◌==◌, min, inl, inr, ⊎_elim, ◌⊎◌, Bool, true, false, cond, List, [], ◌∷◌, length, map, filter, slice_index_or, Option, Some, None, Result, Ok, Err, refl, sym, subst, arith}
+use Rattle.std.proofs.Common.{◌≡◌, ◌∙◌, ℕ, suc, zero, ◌+◌, ◌-◌, ◌^◌, ◌<◌, ◌≤◌, ◌==◌, min, inl, inr, ⊎_elim, ◌⊎◌, Bool, true, false, cond, List, [], ◌∷◌, length, map, filter, slice_index_or, Option, Some, None, Result, Ok, Err, refl, sym, ap, subst, arith}
 use Rattle.std.specs.Prelude.{IfErr}
 use Rattle.std.specs.List.{AllByRecursion, Contains}
 use Rattle.std.specs.Result.{IsErrAnd}
 use Rattle.std.proofs.lemmas.Bool.{cases_eq}
+use Rattle.std.proofs.lemmas.Option.{same_Some}
 use Rattle.ken_disk.specs.Fates as disk
 use Rattle.ken_disk.specs.Story.{Story}
 use Rattle.ken_model.specs.declared.messages.Out.{Out}
@@ -22,14 +23,14 @@ use Rattle.ken_drive.specs.declared.faults.RunFault.{RunFault}
 use Rattle.ken_drive.specs.declared.faults.RunFault.TheVariants.{Damaged, Down, Memory}
 use Rattle.ken_drive.specs.declared.run.Run.{Run}
 use Rattle.ken_drive.specs.declared.station.Station.{Station}
-use Rattle.ken_drive.specs.Accounts.{AccountsRunFault, AreAccounted, IsHeld, IsUsedUp, Terms, faults_of}
+use Rattle.ken_drive.specs.Accounts.{AccountsRunFault, AreAccounted, AreOwnDisks, HasBooks, IsHeld, IsUsedUp, Terms, faults_of}
 use Rattle.ken_drive.specs.Driven.{DrivesBy, EndsBy, HasStoppedAt, IsKept, ShowsDown, Views}
 use Rattle.ken_drive.specs.Finishing.{WasKept, unwatched}
-use Rattle.ken_drive.specs.Refusals.{AreRefused, HasFailedLast, IsWornOut, MayFailAt, RefusedRunFault, StopsBy}
+use Rattle.ken_drive.specs.Refusals.{AreRefused, HasFailedLast, IsWornOut, RefusedRunFault, StopsBy}
 use Rattle.ken_drive.specs.Running.{IsRunning, IsStopped, LeavesRunFault}
 use Rattle.ken_drive.specs.Sparing.{FailsInARow, IsLetBy, LetsGoDown}
 use Rattle.ken_drive.specs.Starting.{StartsAccountsBy, StartsBy, fails_for, terms_of}
-use Rattle.ken_drive.specs.Worlds.{IsOf}
+use Rattle.ken_drive.specs.Worlds.{MayFailAt}
 use Rattle.ken_drive.proofs.StartingAll.{one-of}
 
 -- ---- the calls of outlets that a script lets fail
@@ -51,18 +52,18 @@ listed-within : (nodes v : ℕ) (fails : List OutFail) (call : ℕ) → AreOutFa
 listed-within nodes v fails call all found = subst (λ (x : ℕ). x ≤ MAX_COUNT) found.2 (within-at (fails_for v fails) found.0 call (fails-within nodes v fails all) found.1)
 
 -- an outlet that has failed 65 times and tells what may fail has so many of its calls, one after the other, on its list
-row-of : (faults : ℕ) (scripted : Bool) (fails : List ℕ) (fate : Option Fate) → scripted ≡ true → ((call : ℕ) → Contains fails call → call ≤ MAX_COUNT)
-    → ((f : Fate) → fate ≡ Some f → HasFailedLast {U = Unit {0}} (λ x. faults) (λ x. Some f) 65 tt) → MayFailAt scripted fails fate → FailsInARow fails
-row-of faults true fails None tells within last may = absurd may
-row-of faults false fails None tells within last may = absurd (cc)
-row-of faults scripted fails (Some f) tells within last may =
+row-of : (faults : ℕ) (scripted : Bool) (v : ℕ) (fails : List ℕ) (fate : Option Fate) → scripted ≡ true → ((call : ℕ) → Contains fails call → call ≤ MAX_COUNT)
+    → ((f : Fate) → fate ≡ Some f → HasFailedLast {U = Unit {0}} (λ x. faults) (λ x. Some f) 65 tt) → MayFailAt scripted v fails fate → FailsInARow fails
+row-of faults true v fails None tells within last may = absurd may
+row-of faults false v fails None tells within last may = absurd (cc)
+row-of faults scripted v fails (Some f) tells within last may =
     let is = last f refl in
     let late = is.listed (omega arith) f refl in
-    let few : late.call ≤ MAX_COUNT = within late.call (may late.call late.listed) in
+    let few : late.call ≤ MAX_COUNT = within late.call ((may.1 late.call).0 late.listed) in
     let below = late.late in
     let running = is.running f refl (omega (arith, few, below)) in
     let made = running.made in
-    record { first = f.calls - 64; each = λ call low high. may call (running.each call (omega (arith, low, made)) (omega (arith, high, made))) }
+    record { first = f.calls - 64; each = λ call low high. (may.1 call).0 (running.each call (omega (arith, low, made)) (omega (arith, high, made))) }
 
 told-one : {U : Type 0} (faults : U → ℕ) (fate : U → Option Fate) (often : ℕ) (out : U) (f : Fate) → fate out ≡ Some f → HasFailedLast faults fate often out → HasFailedLast {U = Unit {0}} (λ x. faults out) (λ x. Some f) often tt
 told-one faults fate often out f is last = record {
@@ -73,16 +74,34 @@ told-one faults fate often out f is last = record {
 
 -- ---- a node that has gone down
 
-module _ {D O U : Type 0} (views : Views D O U) (falls : Watched D → Option disk.Fate) (calls : U → Option Fate) (script : Script) (scripted : Bool) (rules : KeepsRules script) where
+module _ {D O U : Type 0} (views : Views D O U) (script : Script) (rules : KeepsRules script) where
+  abbrev falls : Watched D → Option disk.Fate
+  falls w = views.fate w.disk
+
+  abbrev calls : U → Option Fate
+  calls = views.calls
+
+  abbrev scripted : Bool
+  scripted = views.scripted
+
+  abbrev terms : Terms
+  terms = terms_of views.scripted script
+
   abbrev Held : ℕ → Station D O U → Type 0
   Held v s = IsHeld (λ w. views.told w.disk) (λ w. views.faults w.disk) falls views.telling (terms_of scripted script) (game_of script.facts) v s
 
+  abbrev Books : ℕ → Station D O U → Type 0
+  Books v s = HasBooks (λ w. views.told w.disk) (λ w. views.faults w.disk) falls views.telling terms (game_of script.facts) v s
+
+  owned : (v : ℕ) (s : Station D O U) (disks : Disks (Watched D)) → HasDisks disks s.node.stage → Books v s → AreOwnDisks views.fate terms.scripted (terms.origins v) s.restarts (unwatched disks)
+  owned v s disks has books = let own = books.own disks has in record { log = own.log; image = own.image; second = own.second }
+
   -- it is down with its restarts used up
-  pub held-gone : (v : ℕ) (s : Station D O U) (kept : Option (Disks D × O × U)) → Held v s → s.restarts ≡ script.restarts → WasKept s kept → ShowsDown views script.restarts kept
+  pub held-gone : (v : ℕ) (s : Station D O U) (kept : Option (Disks D × O × U)) → Held v s → s.restarts ≡ script.restarts → WasKept s kept → ShowsDown views terms v kept
   held-gone v s kept held used was =
       let failed : min (s.restarts + 1) (2 ^ 64 - 1) ≤ faults_of views.faults (unwatched was.disks) = held.causes was.disks was.has in
       let few = rules.restarts in
-      record { disks = unwatched was.disks; luck = s.luck; out = s.out; is = was.is; cause = inl (omega (arith, failed, used, few)) }
+      record { disks = unwatched was.disks; luck = s.luck; out = s.out; is = was.is; cause = inl (omega (arith, failed, used, few), subst (λ (k : ℕ). AreOwnDisks views.fate terms.scripted (terms.origins v) k (unwatched was.disks)) used (owned v s was.disks was.has held.books)) }
 
   pub held-let : (v : ℕ) (s : Station D O U) (disks : Disks (Watched D)) → scripted ≡ true → Held v s → s.restarts ≡ script.restarts → HasDisks disks s.node.stage → LetsGoDown script v
   held-let v s disks tells held used has =
@@ -92,16 +111,29 @@ module _ {D O U : Type 0} (views : Views D O U) (falls : Watched D → Option di
       inl (omega (arith, most, used))
 
   -- or its outlet has failed 65 times
-  pub worn-gone : (s : Station D O U) (kept : Option (Disks D × O × U)) → HasFailedLast views.refused calls 65 s.out → WasKept s kept → ShowsDown views script.restarts kept
-  worn-gone s kept last was = record { disks = unwatched was.disks; luck = s.luck; out = s.out; is = was.is; cause = inr last.counted }
+  pub worn-gone : (v : ℕ) (s : Station D O U) (kept : Option (Disks D × O × U)) → HasFailedLast views.refused calls 65 s.out → WasKept s kept → ShowsDown views terms v kept
+  worn-gone v s kept last was = record { disks = unwatched was.disks; luck = s.luck; out = s.out; is = was.is; cause = inr last.counted }
 
   -- its devices were kept
-  pub is-kept : (v : ℕ) (s : Station D O U) (kept : Option (Disks D × O × U)) → IsOf views.telling s.luck v script.seed → WasKept s kept → IsKept views script.seed v kept
-  is-kept v s kept origin was = record { disks = unwatched was.disks; luck = s.luck; out = s.out; is = was.is; origin = origin }
+  pub is-kept : (v : ℕ) (s : Station D O U) (kept : Option (Disks D × O × U)) → Books v s → MayFailAt scripted v (fails_for v script.outlets) (calls s.out) → WasKept s kept → IsKept views terms v kept
+  is-kept v s kept books may was = record {
+    disks = unwatched was.disks;
+    luck = s.luck;
+    out = s.out;
+    is = was.is;
+    often = s.restarts;
+    own = record { oracle = books.origin; own_disks = owned v s was.disks was.has books; few = books.most; outlet = may };
+  }
 
-  pub worn-let : (v : ℕ) (out : U) → scripted ≡ true → HasFailedLast views.refused calls 65 out → MayFailAt scripted (fails_for v script.outlets) (calls out) → LetsGoDown script v
+  -- its outlet is the one of another station, of which the same was kept
+  other-out : (v : ℕ) (s t : Station D O U) (kept : Option (Disks D × O × U)) → WasKept s kept → WasKept t kept → MayFailAt scripted v (fails_for v script.outlets) (calls t.out) → MayFailAt scripted v (fails_for v script.outlets) (calls s.out)
+  other-out v s t kept was also may =
+      let same : (unwatched also.disks, t.luck, t.out) ≡ (unwatched was.disks, s.luck, s.out) = same_Some (unwatched also.disks, t.luck, t.out) (unwatched was.disks, s.luck, s.out) (sym also.is ∙ was.is) in
+      subst (λ (o : U). MayFailAt scripted v (fails_for v script.outlets) (calls o)) (ap (λ (x : Disks D × O × U). x.2) same) may
+
+  pub worn-let : (v : ℕ) (out : U) → scripted ≡ true → HasFailedLast views.refused calls 65 out → MayFailAt scripted v (fails_for v script.outlets) (calls out) → LetsGoDown script v
   worn-let v out tells last may =
-      inr (row-of (views.refused out) scripted (fails_for v script.outlets) (calls out) tells (λ call found. listed-within script.facts.nodes v script.outlets call rules.outlets found)
+      inr (row-of (views.refused out) scripted v (fails_for v script.outlets) (calls out) tells (λ call found. listed-within script.facts.nodes v script.outlets call rules.outlets found)
       (λ f is. told-one views.refused calls 65 out f is last) may)
 
   -- ---- at the start
@@ -117,8 +149,17 @@ module _ {D O U : Type 0} (views : Views D O U) (falls : Watched D → Option di
       known = omega arith;
       few = omega (arith, starts.0);
       which = inr refl;
-      shows = held-gone v accounts.station (kept v) accounts.held accounts.none_left accounts.was;
-      each = λ u low. let given = starts.1 u (omega (arith, low)) in is-kept u given.station (kept u) given.own.origin given.was;
+      shows = held-gone v accounts.0.station (kept v) accounts.0.held accounts.0.none_left accounts.0.was;
+      each = λ u low.
+          let given = starts.1 u (omega (arith, low)) in
+          ⊎_elim
+          (λ (same : u ≡ v). subst (λ (k : ℕ). IsKept views terms k (kept k)) (sym same)
+          (let mine = starts.1 v (omega arith) in
+          is-kept v accounts.0.station (kept v) accounts.0.held.books (other-out v accounts.0.station mine.station (kept v) accounts.0.was mine.was mine.own.fated.may) accounts.0.was))
+          (λ other.
+          let up = accounts.1 u (omega (arith, low, other)) in
+          is-kept u up.station (kept u) up.accounted.books (other-out u up.station given.station (kept u) up.was given.was given.own.fated.may) up.was)
+          (cases_eq u v);
       others = λ u high. starts.2 u (omega (arith, high));
     })
     start-drives (Err e) Memory same starts accounts = subst (λ (x : RunFault). DrivesBy views script kept (Err x)) (sym same) starts
@@ -129,7 +170,7 @@ module _ {D O U : Type 0} (views : Views D O U) (falls : Watched D → Option di
         → StartsAccountsBy (λ w. views.told w.disk) (λ w. views.faults w.disk) falls views.telling (terms_of scripted script) (game_of script.facts) (Err fault) kept
         → IfErr result (IsLetBy script)
     start-lets (Ok x) fault tells same starts accounts = tt
-    start-lets (Err e) (Down v) tells same starts accounts = subst (IsLetBy script) (sym same) (held-let v accounts.station accounts.was.disks tells accounts.held accounts.none_left accounts.was.has)
+    start-lets (Err e) (Down v) tells same starts accounts = subst (IsLetBy script) (sym same) (held-let v accounts.0.station accounts.0.was.disks tells accounts.0.held accounts.0.none_left accounts.0.was.has)
     start-lets (Err e) Memory tells same starts accounts = subst (IsLetBy script) (sym same) tt
     start-lets (Err e) (Damaged v disk place) tells same starts accounts = absurd starts
 
@@ -142,12 +183,12 @@ module _ {D O U : Type 0} (views : Views D O U) (falls : Watched D → Option di
     abbrev s : Station D O U
     s = let d = one-of r.stations.items v low in slice_index_or r.stations.items v d
 
-    pub stopped-gone : (kept : Option (Disks D × O × U)) → WasKept s kept → ShowsDown views script.restarts kept
+    pub stopped-gone : (kept : Option (Disks D × O × U)) → WasKept s kept → ShowsDown views terms v kept
     stopped-gone kept was =
         let d = one-of r.stations.items v low in
         ⊎_elim
         (λ (used : IsUsedUp (λ w. views.told w.disk) (λ w. views.faults w.disk) falls views.telling (terms_of scripted script) (game_of script.facts) script.facts.nodes v r). held-gone v s kept (used.held.held d) (used.none_left d) was)
-        (λ (worn : IsWornOut views.refused calls (terms_of scripted script) v r). worn-gone s kept (worn d) was)
+        (λ (worn : IsWornOut views.refused calls (terms_of scripted script) v r). worn-gone v s kept (worn d) was)
         stopped.cause
 
     pub stopped-let : (disks : Disks (Watched D)) → HasDisks disks s.node.stage → scripted ≡ true → LetsGoDown script v
@@ -173,7 +214,7 @@ module _ {D O U : Type 0} (views : Views D O U) (falls : Watched D → Option di
           each = λ u below.
               let there : u < length r.stations.items = omega (arith, width, below) in
               let d = one-of r.stations.items u there in
-              is-kept u (slice_index_or r.stations.items u d) (kept u) (stopped.origins u d below) (given u d there);
+              is-kept u (slice_index_or r.stations.items u d) (kept u) (stopped.books u d below) (stopped.refusals.each u d below).fails (given u d there);
           others = λ u high. others u (omega (arith, width, high));
         }
     end-drives others Memory not stopped = absurd (not refl)
@@ -193,16 +234,16 @@ module _ {D O U : Type 0} (told : Watched D → Option Story) (size : Watched D 
   width-of : (v made : ℕ) → LeavesRunFault told size took (Down v) g made r → (v < made) × (length r.stations.items ≡ made)
   width-of v made leaves = ⊎_elim (λ (stopped : IsStopped told size took g made v r). (stopped.known, stopped.stands.width)) (λ (running : (v < made) × IsRunning told size took g made r). (running.0, running.1.stands.width)) leaves
 
-  -- whose the oracles are
-  origins-of : (v made : ℕ) → AccountsRunFault told count falls telling terms g (Down v) made r → (u : ℕ) (d : Station D O U) → u < made → IsOf telling (slice_index_or r.stations.items u d).luck u terms.seed
-  origins-of v made accounts u d low =
+  -- what is kept account of at each
+  books-of : (v made : ℕ) → AccountsRunFault told count falls telling terms g (Down v) made r → (u : ℕ) (d : Station D O U) → u < made → HasBooks told count falls telling terms g u (slice_index_or r.stations.items u d)
+  books-of v made accounts u d low =
       ⊎_elim
       (λ (used : IsUsedUp told count falls telling terms g made v r).
       ⊎_elim
-      (λ (same : u ≡ v). subst (λ (k : ℕ). IsOf telling (slice_index_or r.stations.items k d).luck k terms.seed) (sym same) (used.held.held d).books.origin)
-      (λ other. (used.held.others u d low other).books.origin)
+      (λ (same : u ≡ v). subst (λ (k : ℕ). HasBooks told count falls telling terms g k (slice_index_or r.stations.items k d)) (sym same) (used.held.held d).books)
+      (λ other. (used.held.others u d low other).books)
       (cases_eq u v))
-      (λ (are : AreAccounted told count falls telling terms g made r). (are.each u d low).books.origin)
+      (λ (are : AreAccounted told count falls telling terms g made r). (are.each u d low).books)
       accounts
 
   stopped-at : (v made : ℕ) → made ≡ g.nodes → AccountsRunFault told count falls telling terms g (Down v) made r → LeavesRunFault told size took (Down v) g made r → StopsBy {T = Unit {0}} told count falls telling refused calls terms g (Err (Down v)) made r → RefusedRunFault refused calls terms (Down v) made r → HasStoppedAt told size count falls telling took refused calls terms g v r
@@ -212,7 +253,7 @@ module _ {D O U : Type 0} (told : Watched D → Option Story) (size : Watched D 
         known = subst (λ (k : ℕ). v < k) all at.0;
         width = at.1 ∙ all;
         refusals = subst (λ (k : ℕ). AreRefused refused calls terms k r) all refusals.0;
-        origins = λ u d low. origins-of v made accounts u d (omega (arith, low, all));
+        books = λ u d low. books-of v made accounts u d (omega (arith, low, all));
         cause = subst (λ (k : ℕ). IsUsedUp told count falls telling terms g k v r ⊎ IsWornOut refused calls terms v r) all stops;
       }
 

@@ -1,8 +1,8 @@
 -- What a run keeps account of, for each of its nodes: the syncs of its logs, what its oracle answered, its restarts with their causes, and
 -- what it emitted again.
-use Rattle.std.specs.Prelude.{◌≡◌, ◌≢◌, ℕ, ◌+◌, ◌-◌, ◌^◌, ◌<◌, ◌≤◌, min, ◌⊎◌, List, [], ◌∷◌, ◌++◌, length, map, slice_index_or, Bool, true, false, Option, Some, IfSome, Result, Ok, Err}
+use Rattle.std.specs.Prelude.{◌≡◌, ◌≢◌, ℕ, ◌+◌, ◌-◌, ◌*◌, ◌^◌, ◌<◌, ◌≤◌, min, ◌⊎◌, List, [], ◌∷◌, ◌++◌, length, map, slice_index_or, Bool, true, false, Option, Some, IfSome, Result, Ok, Err}
 use Rattle.std.specs.List.{flat_map}
-use Rattle.ken_disk.specs.Fates.{Fate}
+use Rattle.ken_disk.specs.Fates.{Fate, Origin}
 use Rattle.ken_disk.specs.Story.{Story}
 use Rattle.ken_model.specs.declared.messages.Out.{Out}
 use Rattle.ken_model.specs.declared.reports.Emission.{Emission}
@@ -10,6 +10,7 @@ use Rattle.ken_model.specs.Game.{Game}
 use Rattle.ken_model.specs.Handler.{Handler}
 use Rattle.ken_record.specs.declared.effects.Effects.{Effects}
 use Rattle.ken_app.specs.Oracles.{Telling}
+use Rattle.ken_app.specs.declared.turn.TheConstants.{MAX_DRAWS}
 use Rattle.ken_core.specs.Calls.{Doubt, no_doubt, seal, turnover}
 use Rattle.ken_core.specs.Nodes.{Node}
 use Rattle.ken_core.specs.Packets.{Packet}
@@ -30,15 +31,16 @@ use Rattle.ken_drive.specs.declared.run.Run.{Run}
 use Rattle.ken_drive.specs.declared.station.Station.{Station}
 use Rattle.ken_drive.specs.Running.{IsRunning, IsStopped}
 use Rattle.ken_drive.specs.Sequences.{IsSubsequence, NeverFall, descents}
-use Rattle.ken_drive.specs.Worlds.{IsOf}
+use Rattle.ken_drive.specs.Worlds.{IsOf, IsTold}
 
--- the terms of a run: its seed, how often a node may be restarted, how many cuts were handed to the disks of each node, and at which calls
--- its outlet may fail; in a scripted world disks and outlets tell what becomes of them
+-- the terms of a run: its seed, how often a node may be restarted, how many cuts were handed to the disks of each node, whose each of these
+-- is and with which cuts, and at which calls its outlet may fail; in a scripted world disks and outlets tell what becomes of them
 pub record Terms : Type 0 where
   pub seed : ℕ
   pub most : ℕ
   pub scripted : Bool
   pub cuts : ℕ → ℕ
+  pub origins : ℕ → ℕ → Origin
   pub fails : ℕ → List ℕ
 
 -- ---- of one node
@@ -75,6 +77,20 @@ HasFailedOften {D} count often stage = (disks : Disks D) → HasDisks disks stag
 abbrev pub HasNotFailed : {D : Type 0} → (D → ℕ) → Stage D → Type 0
 HasNotFailed {D} count stage = (disks : Disks D) → HasDisks disks stage → faults_of count disks ≡ 0
 
+-- a disk has this origin and was restarted so often, as far as it tells
+abbrev pub IsOwnDisk : Bool → Origin → ℕ → Option Fate → Type 0
+IsOwnDisk scripted origin often fate = IsTold scripted fate (λ f. (f.origin ≡ origin) × (length f.picks ≡ often))
+
+-- three disks are those with these origins: the log is disk 0, the image disk 1 and the second log disk 2
+pub record AreOwnDisks {D : Type 0} (fate : D → Option Fate) (scripted : Bool) (origins : ℕ → Origin) (often : ℕ) (disks : Disks D) : Type 0 where
+  pub log : IsOwnDisk scripted (origins 0) often (fate disks.log)
+  pub image : IsOwnDisk scripted (origins 1) often (fate disks.image)
+  pub second : IsOwnDisk scripted (origins 2) often (fate disks.second)
+
+-- so of the disks of a stage
+abbrev pub HasOwnDisks : {D : Type 0} → (D → Option Fate) → Bool → (ℕ → Origin) → ℕ → Stage D → Type 0
+HasOwnDisks {D} fate scripted origins often stage = (disks : Disks D) → HasDisks disks stage → AreOwnDisks fate scripted origins often disks
+
 -- three disks tell of their falls
 pub record AreTelling {D : Type 0} (fate : D → Option Fate) (disks : Disks D) : Type 0 where
   pub log : Fate
@@ -106,11 +122,22 @@ pub record HasDrawn {O : Type 0} (telling : Telling O) (h : Handler) (luck : O) 
   pub clocks : IfSome (telling.clocks luck) (IsSubsequence (flat_map h.clocks draws))
   pub words : IfSome (telling.words luck) (IsSubsequence (flat_map h.words draws))
 
+-- an oracle tells all that it has answered, so much at most of each sort
+pub record TellsAtMost {O : Type 0} (telling : Telling O) (luck : O) (most : ℕ) : Type 0 where
+  pub clocks : IsTold true (telling.clocks luck) (λ told. length told ≤ most)
+  pub words : IsTold true (telling.words luck) (λ told. length told ≤ most)
+
+-- in a scripted world an oracle tells all that it has answered as long as so many turns may have been begun, which draw 16 times at most
+abbrev pub TellsAll : {O : Type 0} → Bool → Telling O → O → ℕ → Type 0
+TellsAll scripted telling luck begun = scripted ≡ true → MAX_DRAWS * begun < 2 ^ 64 - 1 → TellsAtMost telling luck (MAX_DRAWS * begun)
+
 module _ {D O U : Type 0} (told : Watched D → Option Story) (count : Watched D → ℕ) (fate : Watched D → Option Fate) (telling : Telling O) (terms : Terms) (g : Game) where
-  -- of node v, up or down: its syncs, whose its oracle is, and with how many turns it went on each time that a restart answered
+  -- of node v, up or down: its syncs, whose its oracle and its disks are, its restarts, which its disks tell too, and with how many turns it
+  -- went on each time that one answered
   pub record HasBooks (v : ℕ) (s : Station D O U) : Type 0 where
     pub synced : IsSynced told count g v s.node.stage
-    pub origin : IsOf telling s.luck v terms.seed
+    pub own : HasOwnDisks fate terms.scripted (terms.origins v) s.restarts s.node.stage
+    pub origin : IsOf terms.scripted telling s.luck v terms.seed
     pub lines : NeverFall 0 s.lines.items (length (turns_in s.node.stage))
     pub few : length s.lines.items ≤ s.restarts
     pub most : s.restarts ≤ terms.most
@@ -120,6 +147,7 @@ module _ {D O U : Type 0} (told : Watched D → Option Story) (count : Watched D
   pub record IsAccounted (v : ℕ) (s : Station D O U) : Type 0 where
     pub books : HasBooks v s
     pub drew : HasDrawn telling g.handler s.luck (draws_of (turns_in s.node.stage))
+    pub tells : TellsAll terms.scripted telling s.luck (length (turns_in s.node.stage) + s.restarts)
     pub causes : HasFailedOften count s.restarts s.node.stage
     pub fates : HasFates fate terms.scripted (AreRaised (terms.cuts v) s.restarts) s.node.stage
     pub calm : s.lines.items ≡ [] → HasNotFailed count s.node.stage
@@ -133,6 +161,7 @@ module _ {D O U : Type 0} (told : Watched D → Option Story) (count : Watched D
     pub doubt : Doubt
     pub down : IsDown told g v given stood_for doubt s.node.stage
     pub drew : HasDrawn telling g.handler s.luck (draws_of (turns_in s.node.stage) ++ doubted doubt)
+    pub tells : TellsAll terms.scripted telling s.luck (length (turns_in s.node.stage) + s.restarts + 1)
     pub causes : HasFailedOften count (s.restarts + 1) s.node.stage
     pub fates : HasFates fate terms.scripted (HaveFallen (terms.cuts v) (s.restarts + 1)) s.node.stage
     pub again : descents 0 (numbers_of (emissions_in s.node.stage)) ≤ length s.lines.items

@@ -1,5 +1,5 @@
 -- What a whole run leaves: what its world keeps of each node, beside the lines of its report.
-use Rattle.std.specs.Prelude.{◌≡◌, ◌⊎◌, ℕ, ◌+◌, ◌<◌, ◌≤◌, ◌==◌, List, [], length, map, filter, slice_index_or, Option, Some, None, IfSome, Result, Ok, Err}
+use Rattle.std.specs.Prelude.{◌≡◌, ◌⊎◌, ℕ, ◌+◌, ◌<◌, ◌≤◌, ◌==◌, List, [], length, map, filter, slice_index_or, Bool, Option, Some, None, IfSome, Result, Ok, Err}
 use Rattle.std.specs.List.{flat_map}
 use Rattle.ken_disk.specs.Story.{Story}
 use Rattle.ken_model.specs.declared.messages.Out.{Out}
@@ -24,22 +24,26 @@ use Rattle.ken_drive.specs.declared.faults.RunFault.TheVariants.{Down}
 use Rattle.ken_drive.specs.declared.faults.RunFault.TheVariants as run_faults
 use Rattle.ken_drive.specs.declared.run.Run.{Run}
 use Rattle.ken_drive.specs.declared.station.Station.{Station}
-use Rattle.ken_drive.specs.Accounts.{AreAccounted, IsUsedUp, Terms, faults_of}
+use Rattle.ken_drive.specs.Accounts.{AreAccounted, AreOwnDisks, HasBooks, IsUsedUp, Terms, faults_of}
 use Rattle.ken_drive.specs.Ended.{IsEnded, IsReportOf, IsRunOf}
 use Rattle.ken_drive.specs.Finishing.{WasKept}
 use Rattle.ken_drive.specs.Recovering.{RecoversAt}
 use Rattle.ken_drive.specs.Refusals.{AreRefused, IsWornOut}
 use Rattle.ken_drive.specs.Sequences.{IsSubsequence, NeverFall, descents}
-use Rattle.ken_drive.specs.Worlds.{HasKeptNothing, IsOf}
+use Rattle.ken_drive.specs.Starting.{terms_of}
+use Rattle.ken_drive.specs.Worlds.{HasKeptNothing, IsOf, IsTold, MayFailAt}
 
--- what contracts see of a node's devices: the stories of its disks, with their faults; what its oracle tells; what its outlet took, with
--- its faults
+-- what contracts see of a node's devices: the stories of its disks, with their faults and fates; what its oracle tells; what its outlet
+-- took, with its faults and its fate; and whether it is a scripted world's, whose devices tell whose they are
 pub record Views (D O U : Type 0) : Type 0 where
   pub told : D → Option Story
   pub faults : D → ℕ
+  pub fate : D → Option Fate
   pub telling : Telling O
   pub took : U → Option (List Out)
   pub refused : U → ℕ
+  pub calls : U → Option ship.Fate
+  pub scripted : Bool
 
 -- the steps of node v
 abbrev pub steps_at : ℕ → List Step → List Step
@@ -60,19 +64,27 @@ restarts_of v lines = map (λ (l : RestartLine). l.turns) (filter (λ (l : Resta
 abbrev pub out_numbers : List Out → List ℕ
 out_numbers outs = map (λ (o : Out). o.number) outs
 
--- the restarts of a node have their causes, and they alone are a cause to emit an output again: there are some exactly where calls of its
--- disks failed, at most so many, and the turns that they went on with never fall
-pub record HaveCauses (faults most turns : ℕ) (restarts numbers : List ℕ) : Type 0 where
+-- a node was restarted so often, with a cause each time, and went on so often with these turns, which never fall; there are such restarts
+-- exactly where calls of its disks failed, and they alone are a cause to emit an output again
+pub record HaveCauses (faults often turns : ℕ) (restarts numbers : List ℕ) : Type 0 where
   pub rise : NeverFall 0 restarts turns
-  pub few : length restarts ≤ most
-  pub causes : length restarts ≤ faults
+  pub few : length restarts ≤ often
+  pub causes : often ≤ faults
   pub none : restarts ≡ [] → faults ≡ 0
   pub again : descents 0 numbers ≤ length restarts
+
+-- devices that are kept are those of node v, as far as they tell: its own oracle; its own disks, each where it belongs and with just the cuts
+-- that it was handed, restarted so often; and its own outlet, with just the calls that it was handed
+pub record AreOwnDevices {D O U : Type 0} (views : Views D O U) (terms : Terms) (v often : ℕ) (disks : Disks D) (luck : O) (out : U) : Type 0 where
+  pub oracle : IsOf terms.scripted views.telling luck v terms.seed
+  pub own_disks : AreOwnDisks views.fate terms.scripted (terms.origins v) often disks
+  pub few : often ≤ terms.most
+  pub outlet : MayFailAt terms.scripted v (terms.fails v) (views.calls out)
 
 -- what is kept of node v after a run with this schedule, these emissions and restarts: whatever a crash leaves of its disks recovers to its
 -- place in the abstract network; its outlet took what it emitted; what its turns drew is among what its oracle answered, in order; and its
 -- logs were synced for each turn
-pub record KeepsNode {D O U : Type 0} (views : Views D O U) (g : Game) (seed most v : ℕ) (schedule : List Step) (emissions : List Emission) (restarts : List RestartLine) (kept : Option (Disks D × O × U)) : Type 0 where
+pub record KeepsNode {D O U : Type 0} (views : Views D O U) (g : Game) (terms : Terms) (v : ℕ) (schedule : List Step) (emissions : List Emission) (restarts : List RestartLine) (kept : Option (Disks D × O × U)) : Type 0 where
   pub disks : Disks D
   pub luck : O
   pub out : U
@@ -80,41 +92,44 @@ pub record KeepsNode {D O U : Type 0} (views : Views D O U) (g : Game) (seed mos
   pub recovers : RecoversAt views.told g v (play g schedule) disks
   pub synced : HasSynced views.told views.faults ((play g schedule).place v).turns disks
   pub took : IfSome (views.took out) (λ told. told ≡ emitted_by v emissions)
-  pub origin : IsOf views.telling luck v seed
-  pub clocks : IfSome (views.telling.clocks luck) (IsSubsequence (clocks_of g.handler (steps_at v schedule)))
-  pub words : IfSome (views.telling.words luck) (IsSubsequence (words_of g.handler (steps_at v schedule)))
-  pub causes : HaveCauses (faults_of views.faults disks) most ((play g schedule).place v).turns (restarts_of v restarts) (out_numbers (emitted_by v emissions))
+  pub often : ℕ
+  pub own : AreOwnDevices views terms v often disks luck out
+  pub clocks : IsTold terms.scripted (views.telling.clocks luck) (IsSubsequence (clocks_of g.handler (steps_at v schedule)))
+  pub words : IsTold terms.scripted (views.telling.words luck) (IsSubsequence (words_of g.handler (steps_at v schedule)))
+  pub causes : HaveCauses (faults_of views.faults disks) often ((play g schedule).place v).turns (restarts_of v restarts) (out_numbers (emitted_by v emissions))
 
 -- of each node of the run, and of no other
-pub record KeepsRun {D O U : Type 0} (views : Views D O U) (g : Game) (seed most : ℕ) (schedule : List Step) (emissions : List Emission) (restarts : List RestartLine) (kept : ℕ → Option (Disks D × O × U)) : Type 0 where
-  pub each : (v : ℕ) → v < g.nodes → KeepsNode views g seed most v schedule emissions restarts (kept v)
+pub record KeepsRun {D O U : Type 0} (views : Views D O U) (g : Game) (terms : Terms) (schedule : List Step) (emissions : List Emission) (restarts : List RestartLine) (kept : ℕ → Option (Disks D × O × U)) : Type 0 where
+  pub each : (v : ℕ) → v < g.nodes → KeepsNode views g terms v schedule emissions restarts (kept v)
   pub others : (v : ℕ) → g.nodes ≤ v → kept v ≡ None
 
--- devices of node v are kept, its own oracle among them
-pub record IsKept {D O U : Type 0} (views : Views D O U) (seed v : ℕ) (kept : Option (Disks D × O × U)) : Type 0 where
+-- devices of node v are kept, its own
+pub record IsKept {D O U : Type 0} (views : Views D O U) (terms : Terms) (v : ℕ) (kept : Option (Disks D × O × U)) : Type 0 where
   pub disks : Disks D
   pub luck : O
   pub out : U
   pub is : kept ≡ Some (disks, luck, out)
-  pub origin : IsOf views.telling luck v seed
+  pub often : ℕ
+  pub own : AreOwnDevices views terms v often disks luck out
 
--- what is kept of a node shows why it is down: calls of its disks failed more often than it may be restarted, or its outlet refused often
-pub record ShowsDown {D O U : Type 0} (views : Views D O U) (most : ℕ) (kept : Option (Disks D × O × U)) : Type 0 where
+-- what is kept of node v shows why it is down: its disks were restarted as often as it may be, and calls of them failed more often; or its
+-- outlet refused often
+pub record ShowsDown {D O U : Type 0} (views : Views D O U) (terms : Terms) (v : ℕ) (kept : Option (Disks D × O × U)) : Type 0 where
   pub disks : Disks D
   pub luck : O
   pub out : U
   pub is : kept ≡ Some (disks, luck, out)
-  pub cause : (most < faults_of views.faults disks) ⊎ (65 ≤ views.refused out)
+  pub cause : ((terms.most < faults_of views.faults disks) × AreOwnDisks views.fate terms.scripted (terms.origins v) terms.most disks) ⊎ (65 ≤ views.refused out)
 
 -- node v has gone down, as its devices show. Those of each node that was made are kept, and no others: all nodes were made, or v was the
 -- last one
-pub record HasGoneDown {D O U : Type 0} (views : Views D O U) (g : Game) (seed most v : ℕ) (kept : ℕ → Option (Disks D × O × U)) : Type 0 where
+pub record HasGoneDown {D O U : Type 0} (views : Views D O U) (g : Game) (terms : Terms) (v : ℕ) (kept : ℕ → Option (Disks D × O × U)) : Type 0 where
   pub made : ℕ
   pub known : v < made
   pub few : made ≤ g.nodes
   pub which : (made ≡ g.nodes) ⊎ (made ≡ v + 1)
-  pub shows : ShowsDown views most (kept v)
-  pub each : (u : ℕ) → u < made → IsKept views seed u (kept u)
+  pub shows : ShowsDown views terms v (kept v)
+  pub each : (u : ℕ) → u < made → IsKept views terms u (kept u)
   pub others : (u : ℕ) → made ≤ u → kept u ≡ None
 
 -- what a run leaves that was drained and then told what it says, by the answer: it has ended, with a report and its accounts; or a node has
@@ -124,12 +139,13 @@ module _ {D O U : Type 0} (told : Watched D → Option Story) (size : Watched D 
     pub ended : IsEnded told size took g r
     pub report : IsReportOf told size took g r ended l
     pub accounts : AreAccounted told count fate telling terms g ended.made r
+    pub refusals : AreRefused refused calls terms ended.made r
 
   pub record HasStoppedAt (v : ℕ) (r : Run D O U) : Type 0 where
     pub known : v < g.nodes
     pub width : length r.stations.items ≡ g.nodes
     pub refusals : AreRefused refused calls terms g.nodes r
-    pub origins : (u : ℕ) (d : Station D O U) → u < g.nodes → IsOf telling (slice_index_or r.stations.items u d).luck u terms.seed
+    pub books : (u : ℕ) (d : Station D O U) → u < g.nodes → HasBooks told count fate telling terms g u (slice_index_or r.stations.items u d)
     pub cause : IsUsedUp told count fate telling terms g g.nodes v r ⊎ IsWornOut refused calls terms v r
 
   abbrev pub EndsBy : Result Lines RunFault → Run D O U → Type 0
@@ -143,21 +159,23 @@ module _ {D O U : Type 0} (told : Watched D → Option Story) (size : Watched D 
 module _ {D O U : Type 0} (views : Views D O U) (script : Script) (kept : ℕ → Option (Disks D × O × U)) where
   pub record HasDriven (l : Lines) : Type 0 where
     pub run : IsRunOf (game_of script.facts) l
-    pub keeps : KeepsRun views (game_of script.facts) script.seed script.restarts (steps_of l.turns) l.emissions l.restarts kept
+    pub keeps : KeepsRun views (game_of script.facts) (terms_of views.scripted script) (steps_of l.turns) l.emissions l.restarts kept
 
   abbrev pub DrivesBy : Result Lines RunFault → Type 0
   DrivesBy (Ok l) = HasDriven l
-  DrivesBy (Err (Down v)) = HasGoneDown views (game_of script.facts) script.seed script.restarts v kept
+  DrivesBy (Err (Down v)) = HasGoneDown views (game_of script.facts) (terms_of views.scripted script) v kept
   DrivesBy (Err run_faults.Memory) = HasKeptNothing kept
   DrivesBy (Err (run_faults.Damaged v disk place)) = ⊥
 
 -- ---- how they follow
 
 -- a run that has ended and is accounted for leaves them, where its devices are kept
-abbrev pub EndedRunsKeep : {D O U : Type 0} → Views D O U → (D → ℕ) → (Watched D → Option Fate) → Type 0
-EndedRunsKeep {D} {O} {U} views size fate =
+abbrev pub EndedRunsKeep : {D O U : Type 0} → Views D O U → (D → ℕ) → Type 0
+EndedRunsKeep {D} {O} {U} views size =
     (g : Game) (r : Run D O U) (terms : Terms) (l : Lines) (ended : IsEnded (λ w. views.told w.disk) (λ w. size w.disk) views.took g r)
     → IsReportOf (λ w. views.told w.disk) (λ w. size w.disk) views.took g r ended l
-    → AreAccounted (λ w. views.told w.disk) (λ w. views.faults w.disk) fate views.telling terms g ended.made r → terms.most ≤ 1000
+    → AreAccounted (λ w. views.told w.disk) (λ w. views.faults w.disk) (λ w. views.fate w.disk) views.telling terms g ended.made r
+    → AreRefused views.refused views.calls terms ended.made r
+    → terms.most ≤ 1000
     → (kept : ℕ → Option (Disks D × O × U)) → ((v : ℕ) (d : Station D O U) → v < length r.stations.items → WasKept (slice_index_or r.stations.items v d) (kept v)) → ((v : ℕ) → length r.stations.items ≤ v → kept v ≡ None)
-    → KeepsRun views g terms.seed terms.most (steps_of l.turns) l.emissions l.restarts kept
+    → KeepsRun views g terms (steps_of l.turns) l.emissions l.restarts kept

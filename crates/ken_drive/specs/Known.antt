@@ -19,7 +19,7 @@ use Rattle.ken_drive.specs.Worlds.{IsOf}
 pub record HasAccount {D O U : Type 0} (told : Watched D → Option Story) (count : Watched D → ℕ) (fate : Watched D → Option Fate) (telling : Telling O) (terms : Terms) (g : Game) (v : ℕ) (n : Node) (outs : List Out) (s : Station D O U) : Type 0 where
   pub synced : (disks : Disks (Watched D)) → HasDisks disks s.node.stage → HasSynced told count (length n.turning.turns) disks
   pub drew : HasDrawn telling g.handler s.luck (draws_of n.turning.turns)
-  pub origin : IsOf telling s.luck v terms.seed
+  pub origin : IsOf terms.scripted telling s.luck v terms.seed
   pub lines : NeverFall 0 s.lines.items (length n.turning.turns)
   pub few : length s.lines.items ≤ s.restarts
   pub most : s.restarts ≤ terms.most

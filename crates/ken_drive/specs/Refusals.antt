@@ -16,6 +16,7 @@ use Rattle.ken_drive.specs.declared.faults.RunFault.TheVariants.{Down}
 use Rattle.ken_drive.specs.declared.faults.RunFault.TheVariants as run_faults
 use Rattle.ken_drive.specs.declared.run.Run.{Run}
 use Rattle.ken_drive.specs.declared.station.Station.{Station}
+use Rattle.ken_drive.specs.Worlds.{MayFailAt}
 
 -- so many calls were made, and the numbers of the last ones are among those that may fail
 pub record LastFail (often : ℕ) (f : Fate) : Type 0 where
@@ -35,12 +36,6 @@ pub record HasFailedLast {U : Type 0} (faults : U → ℕ) (fate : U → Option 
   pub running : (f : Fate) → fate out ≡ Some f → f.calls < 2 ^ 64 - 1 → LastFail often f
   pub listed : 0 < often → (f : Fate) → fate out ≡ Some f → IsListedLate f
 
--- an outlet may fail at these calls and at no other, as far as it tells; in a scripted world it does
-abbrev pub MayFailAt : Bool → List ℕ → Option Fate → Type 0
-MayFailAt scripted fails (Some f) = (call : ℕ) → Contains f.fails call → Contains fails call
-MayFailAt true fails None = ⊥
-MayFailAt false fails None = ⊤
-
 -- node v was restarted as often as it may be
 abbrev pub IsUsedUpOf : {D O U : Type 0} → ℕ → Run D O U → Type 0
 IsUsedUpOf {D} {O} {U} v r = (d : Station D O U) → r.restarts ≤ (slice_index_or r.stations.items v d).restarts
@@ -50,7 +45,7 @@ module _ {D O U : Type 0} (faults : U → ℕ) (fate : U → Option Fate) (terms
   pub record IsRefused (v : ℕ) (s : Station D O U) : Type 0 where
     pub few : refusals_in s.node.stage ≤ 64
     pub failed : HasFailedLast faults fate (refusals_in s.node.stage) s.out
-    pub fails : MayFailAt terms.scripted (terms.fails v) (fate s.out)
+    pub fails : MayFailAt terms.scripted v (terms.fails v) (fate s.out)
 
   -- so of each node that was made, up or down
   pub record AreRefused (made : ℕ) (r : Run D O U) : Type 0 where

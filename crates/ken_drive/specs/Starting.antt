@@ -3,6 +3,7 @@ use Rattle.std.specs.Prelude.{◌≡◌, ◌⊎◌, ℕ, ◌+◌, ◌-◌, ◌^�
 use Rattle.ken_disk.specs.Fates.{Fate}
 use Rattle.ken_disk.specs.Story.{Story, blank}
 use Rattle.ken_memdisk.specs.declared.cut.Cut.{Cut}
+use Rattle.ken_memdisk.specs.Calls.{origin_of}
 use Rattle.ken_model.specs.declared.messages.Out.{Out}
 use Rattle.ken_model.specs.Game.{Game, game_of}
 use Rattle.ken_net.specs.declared.act.Act.TheVariants.{Hold}
@@ -31,11 +32,11 @@ use Rattle.ken_script.specs.declared.scripts.DiskCut.{DiskCut}
 use Rattle.ken_script.specs.declared.scripts.OutFail.{OutFail}
 use Rattle.ken_script.specs.declared.scripts.Script.{Script}
 use Rattle.ken_drive.specs.declared.station.Station.{Station}
-use Rattle.ken_drive.specs.Accounts.{AreAccounted, AreFated, AreRaised, IsAccounted, IsHeld, IsUsedUp, Terms, faults_of}
+use Rattle.ken_drive.specs.Accounts.{AreAccounted, AreFated, AreOwnDisks, AreRaised, IsAccounted, IsHeld, IsUsedUp, Terms, faults_of}
 use Rattle.ken_drive.specs.Ends.{AreModest}
 use Rattle.ken_drive.specs.Finishing.{WasKept}
 use Rattle.ken_drive.specs.Running.{IsRunning, StandsFor}
-use Rattle.ken_drive.specs.Worlds.{HasKeptNothing, IsFatedOutlet, IsOf, TellsNothing}
+use Rattle.ken_drive.specs.Worlds.{HasKeptNothing, IsFatedOutlet, IsNewOracle, TellsNothing}
 
 -- ---- what a script lets fail at one node
 
@@ -66,10 +67,10 @@ module _ {D O U : Type 0} (scripted : Bool) (telling : Telling O) (took : U → 
   pub record HasOwn (script : Script) (v : ℕ) (s : Station D O U) : Type 0 where
     pub clocks : HasTold telling.always (telling.clocks s.luck) []
     pub words : HasTold telling.always (telling.words s.luck) []
-    pub origin : IsOf telling s.luck v script.seed
+    pub oracle : IsNewOracle scripted telling s.luck v script.seed
     pub took_none : TellsNothing (took s.out)
     pub no_faults : faults s.out ≡ 0
-    pub fated : IsFatedOutlet scripted (fails_for v script.outlets) (fate s.out)
+    pub fated : IsFatedOutlet scripted v (fails_for v script.outlets) (fate s.out)
     pub mail : AreNew v script.facts.nodes script.mail s.mail
     pub acks : AreNew v script.facts.nodes script.acks s.acks
 
@@ -135,10 +136,12 @@ module _ {D : Type 0} (told : Watched D → Option Story) where
     BeginsStation (Err run_faults.Memory) g v number most s = Unit {0}
     BeginsStation (Err (run_faults.Damaged u disk place)) g v number most s = ⊥
 
--- its disks counted no fault, and none is down, with at most so many falls, as far as they tell; in a scripted world they do
-pub record IsFresh {D : Type 0} (count : D → ℕ) (fate : D → Option Fate) (scripted : Bool) (cuts : ℕ) (disks : Disks D) : Type 0 where
+-- the disks of node v counted no fault, and none is down, with at most so many falls as it has cuts, as far as they tell; in a scripted world
+-- they do. They are its own, and none was restarted
+pub record IsFresh {D : Type 0} (count : D → ℕ) (fate : D → Option Fate) (terms : Terms) (v : ℕ) (disks : Disks D) : Type 0 where
   pub none : faults_of count disks ≡ 0
-  pub fated : AreFated fate scripted (AreRaised cuts 0) disks
+  pub fated : AreFated fate terms.scripted (AreRaised (terms.cuts v) 0) disks
+  pub own : AreOwnDisks fate terms.scripted (terms.origins v) 0 disks
 
 -- how many cuts a script has for the disks of node v
 abbrev pub cut_count : ℕ → Script → ℕ
@@ -146,7 +149,14 @@ cut_count v script = length (cuts_for v 0 script.cuts) + length (cuts_for v 1 sc
 
 -- the terms of a script's run
 abbrev pub terms_of : Bool → Script → Terms
-terms_of scripted script = record { seed = script.seed; most = script.restarts; scripted = scripted; cuts = λ v. cut_count v script; fails = λ v. fails_for v script.outlets }
+terms_of scripted script = record {
+  seed = script.seed;
+  most = script.restarts;
+  scripted = scripted;
+  cuts = λ v. cut_count v script;
+  origins = λ v which. origin_of v which (cuts_for v which script.cuts);
+  fails = λ v. fails_for v script.outlets;
+}
 
 module _ {D O U : Type 0} (told : Watched D → Option Story) (count : Watched D → ℕ) (fate : Watched D → Option Fate) (telling : Telling O) (terms : Terms) (g : Game) where
   -- what the creation of node v leaves of its accounts, by the answer: it is accounted for, or down with its restarts used up
@@ -170,7 +180,13 @@ module _ {D O U : Type 0} (told : Watched D → Option Story) (count : Watched D
   FillsAccountsBy (Err run_faults.Memory) r = Unit {0}
   FillsAccountsBy (Err (run_faults.Damaged v disk place)) r = Unit {0}
 
-  -- the devices that were kept are those of node v, which is down with its restarts used up
+  -- the devices that were kept are those of node v, which is accounted for
+  pub record IsKeptUp (v : ℕ) (kept : Option (Disks D × O × U)) : Type 0 where
+    pub station : Station D O U
+    pub accounted : IsAccounted told count fate telling terms g v station
+    pub was : WasKept station kept
+
+  -- or which is down with its restarts used up
   pub record IsKeptDown (v : ℕ) (kept : Option (Disks D × O × U)) : Type 0 where
     pub station : Station D O U
     pub held : IsHeld told count fate telling terms g v station
@@ -179,7 +195,7 @@ module _ {D O U : Type 0} (told : Watched D → Option Story) (count : Watched D
 
   abbrev pub StartsAccountsBy : Result (Run D O U) RunFault → (ℕ → Option (Disks D × O × U)) → Type 0
   StartsAccountsBy (Ok r) kept = AreAccounted told count fate telling terms g g.nodes r
-  StartsAccountsBy (Err (Down v)) kept = IsKeptDown v (kept v)
+  StartsAccountsBy (Err (Down v)) kept = IsKeptDown v (kept v) × ((u : ℕ) → u < v → IsKeptUp u (kept u))
   StartsAccountsBy (Err run_faults.Memory) kept = Unit {0}
   StartsAccountsBy (Err (run_faults.Damaged v disk place)) kept = Unit {0}
 

@@ -8,7 +8,7 @@ ghost use Rattle.ken_node.specs.Down.{IsDown, MayRestart};
 ghost use Rattle.ken_node.specs.Stages.{emissions_in, refusals_in};
 ghost use Rattle.ken_drive.specs.Accounts.{AccountsStation, IsHeld, Terms};
 ghost use Rattle.ken_drive.specs.Starting.{BeginsAccounts, BeginsStation, CreatesStation, IsBorn, IsFresh, MayBeBorn, RaisesStation};
-ghost use Rattle.ken_drive.specs.Worlds.{IsOf};
+ghost use Rattle.ken_drive.specs.Worlds.{IsNewOracle};
 
 use crate::faults::RunFault;
 use crate::station::Station;
@@ -45,7 +45,7 @@ impl<D: Disk, O: Oracle, U: Outlet> Station<D, O, U> {
     pub(crate) fn create(&mut self, most: u64) -> Result<(), NodeFault>
         requires { MayBeBorn ⟦<Watched<D> as Disk>⟧.told self.old }
         ensures creates { (g : Game) (v : ℕ) → IsBorn ⟦<Watched<D> as Disk>⟧.told g v self.old → CreatesStation ⟦<Watched<D> as Disk>⟧.told ⟦<Watched<D> as Disk>⟧.size result g v most self.new }
-        ensures accounts { (terms : Terms) (g : Game) (v : ℕ) (born : IsBorn ⟦<Watched<D> as Disk>⟧.told g v self.old) → IsFresh ⟦<Watched<D> as Disk>⟧.faults ⟦<Watched<D> as Disk>⟧.fate terms.scripted (terms.cuts v) born.over.disks → IsOf O.telling self.old.luck v terms.seed → most ≡ terms.most → AccountsStation ⟦<Watched<D> as Disk>⟧.told ⟦<Watched<D> as Disk>⟧.faults ⟦<Watched<D> as Disk>⟧.fate O.telling terms g result v self.new }
+        ensures accounts { (terms : Terms) (g : Game) (v : ℕ) (born : IsBorn ⟦<Watched<D> as Disk>⟧.told g v self.old) → IsFresh ⟦<Watched<D> as Disk>⟧.faults ⟦<Watched<D> as Disk>⟧.fate terms v born.over.disks → IsNewOracle terms.scripted O.telling self.old.luck v terms.seed → most ≡ terms.most → AccountsStation ⟦<Watched<D> as Disk>⟧.told ⟦<Watched<D> as Disk>⟧.faults ⟦<Watched<D> as Disk>⟧.fate O.telling terms g result v self.new }
         ensures refusals { (g : Game) (v : ℕ) → IsBorn ⟦<Watched<D> as Disk>⟧.told g v self.old → refusals_in self.new.node.stage ≡ 0 }
         ensures rest { self.new ≡ record self.old { node = self.new.node; restarts = self.new.restarts; lines = self.new.lines } }
     {
@@ -60,7 +60,7 @@ impl<D: Disk, O: Oracle, U: Outlet> Station<D, O, U> {
     pub(crate) fn start(&mut self, node: u8, most: u64) -> Result<(), RunFault>
         requires { MayBeBorn ⟦<Watched<D> as Disk>⟧.told self.old }
         ensures creates { (g : Game) (v : ℕ) → IsBorn ⟦<Watched<D> as Disk>⟧.told g v self.old → BeginsStation ⟦<Watched<D> as Disk>⟧.told ⟦<Watched<D> as Disk>⟧.size result g v node most self.new }
-        ensures accounts { (terms : Terms) (g : Game) (v : ℕ) (born : IsBorn ⟦<Watched<D> as Disk>⟧.told g v self.old) → IsFresh ⟦<Watched<D> as Disk>⟧.faults ⟦<Watched<D> as Disk>⟧.fate terms.scripted (terms.cuts v) born.over.disks → IsOf O.telling self.old.luck v terms.seed → most ≡ terms.most → BeginsAccounts ⟦<Watched<D> as Disk>⟧.told ⟦<Watched<D> as Disk>⟧.faults ⟦<Watched<D> as Disk>⟧.fate O.telling terms g result v self.new }
+        ensures accounts { (terms : Terms) (g : Game) (v : ℕ) (born : IsBorn ⟦<Watched<D> as Disk>⟧.told g v self.old) → IsFresh ⟦<Watched<D> as Disk>⟧.faults ⟦<Watched<D> as Disk>⟧.fate terms v born.over.disks → IsNewOracle terms.scripted O.telling self.old.luck v terms.seed → most ≡ terms.most → BeginsAccounts ⟦<Watched<D> as Disk>⟧.told ⟦<Watched<D> as Disk>⟧.faults ⟦<Watched<D> as Disk>⟧.fate O.telling terms g result v self.new }
         ensures refusals { (g : Game) (v : ℕ) → IsBorn ⟦<Watched<D> as Disk>⟧.told g v self.old → refusals_in self.new.node.stage ≡ 0 }
         ensures rest { self.new ≡ record self.old { node = self.new.node; restarts = self.new.restarts; lines = self.new.lines } }
     {

@@ -5,7 +5,7 @@ ghost use Rattle.ken_model.specs.declared.facts.TheConstants.{MAX_NODES};
 ghost use Rattle.ken_model.specs.Game.{game_of};
 ghost use Rattle.ken_model.specs.Limits.{IsWithinLimits};
 ghost use Rattle.ken_drive.specs.declared.world.TheConstants.{DISKS};
-ghost use Rattle.ken_drive.specs.Starting.{HasOwn, IsBlank, IsBorn, IsFresh, cut_count, cuts_for, fails_for};
+ghost use Rattle.ken_drive.specs.Starting.{HasOwn, IsBlank, IsBorn, IsFresh, cuts_for, fails_for, terms_of};
 ghost use Rattle.ken_drive.specs.Worlds.{IsFatedDisk, IsFatedOutlet, TellsNothing};
 
 use crate::station::Station;
@@ -54,7 +54,7 @@ fn disk<W: World>(
     requires which { which < DISKS }
     ensures told { IfOk result (λ d. W.Dev.told d.disk ≡ Some blank) }
     ensures faults { IfOk result (λ d. W.Dev.faults d.disk ≡ 0) }
-    ensures fate { IfOk result (λ d. IsFatedDisk W.scripted (cuts_for node which script.now.cuts) (W.Dev.fate d.disk)) }
+    ensures fate { IfOk result (λ d. IsFatedDisk W.scripted node which (cuts_for node which script.now.cuts) (W.Dev.fate d.disk)) }
     ensures kept { (v : ℕ) → W.kept world.new v ≡ W.kept world.old v }
 {
     let cuts = cuts_of(alloc, script.cuts.as_slice(), node, which)?;
@@ -69,7 +69,7 @@ fn disks<W: World>(
     world: &mut W,
 ) -> Result<Disks<Watched<W::Dev>>, AllocError>
     requires { node < MAX_NODES }
-    ensures fresh { IfOk result (λ d. IsFresh ⟦<Watched<W::Dev> as Disk>⟧.faults ⟦<Watched<W::Dev> as Disk>⟧.fate W.scripted (cut_count node script.now) d) }
+    ensures fresh { IfOk result (λ d. IsFresh ⟦<Watched<W::Dev> as Disk>⟧.faults ⟦<Watched<W::Dev> as Disk>⟧.fate (terms_of W.scripted script.now) node d) }
     ensures log { IfOk result (λ d. W.Dev.told d.log.disk ≡ Some blank) }
     ensures image { IfOk result (λ d. W.Dev.told d.image.disk ≡ Some blank) }
     ensures second { IfOk result (λ d. W.Dev.told d.second.disk ≡ Some blank) }
@@ -92,7 +92,7 @@ fn uncreated<W: World>(
     requires limits { IsWithinLimits (game_of script.now.facts) }
     requires known { node < script.now.facts.nodes }
     ensures blank { IfOk result (λ n. IsBlank ⟦<Watched<W::Dev> as Disk>⟧.told (game_of script.now.facts) node n.stage) }
-    ensures fresh { IfOk result (λ n. (b : IsBlank ⟦<Watched<W::Dev> as Disk>⟧.told (game_of script.now.facts) node n.stage) → IsFresh ⟦<Watched<W::Dev> as Disk>⟧.faults ⟦<Watched<W::Dev> as Disk>⟧.fate W.scripted (cut_count node script.now) b.disks) }
+    ensures fresh { IfOk result (λ n. (b : IsBlank ⟦<Watched<W::Dev> as Disk>⟧.told (game_of script.now.facts) node n.stage) → IsFresh ⟦<Watched<W::Dev> as Disk>⟧.faults ⟦<Watched<W::Dev> as Disk>⟧.fate (terms_of W.scripted script.now) node b.disks) }
     ensures kept { (v : ℕ) → W.kept world.new v ≡ W.kept world.old v }
 {
     let disks = disks(alloc, script, node, world)?;
@@ -112,7 +112,7 @@ fn outlet<W: World>(
     requires { node < MAX_NODES }
     ensures took { IfOk result (λ o. TellsNothing (W.Out.took o)) }
     ensures faults { IfOk result (λ o. W.Out.faults o ≡ 0) }
-    ensures fate { IfOk result (λ o. IsFatedOutlet W.scripted (fails_for node script.now.outlets) (W.Out.fate o)) }
+    ensures fate { IfOk result (λ o. IsFatedOutlet W.scripted node (fails_for node script.now.outlets) (W.Out.fate o)) }
     ensures kept { (v : ℕ) → W.kept world.new v ≡ W.kept world.old v }
 {
     let fails = fails_of(alloc, script.outlets.as_slice(), node)?;
@@ -129,7 +129,7 @@ pub(crate) fn station<W: World>(
     requires limits { IsWithinLimits (game_of script.now.facts) }
     requires known { node < script.now.facts.nodes }
     ensures born { IfOk result (λ s. IsBorn ⟦<Watched<W::Dev> as Disk>⟧.told (game_of script.now.facts) node s) }
-    ensures fresh { IfOk result (λ s. (b : IsBorn ⟦<Watched<W::Dev> as Disk>⟧.told (game_of script.now.facts) node s) → IsFresh ⟦<Watched<W::Dev> as Disk>⟧.faults ⟦<Watched<W::Dev> as Disk>⟧.fate W.scripted (cut_count node script.now) b.over.disks) }
+    ensures fresh { IfOk result (λ s. (b : IsBorn ⟦<Watched<W::Dev> as Disk>⟧.told (game_of script.now.facts) node s) → IsFresh ⟦<Watched<W::Dev> as Disk>⟧.faults ⟦<Watched<W::Dev> as Disk>⟧.fate (terms_of W.scripted script.now) node b.over.disks) }
     ensures own { IfOk result (λ s. HasOwn W.scripted W.Luck.telling W.Out.took W.Out.faults W.Out.fate script.now node s) }
     ensures kept { (v : ℕ) → W.kept world.new v ≡ W.kept world.old v }
 {

@@ -42,7 +42,7 @@ impl<D: Disk, O: Oracle, U: Outlet> Run<D, O, U> {
 pub fn drive<W: World>(alloc: Global, script: &Script, world: &mut W) -> Result<Lines, RunFault>
     requires rules { KeepsRules script.now }
     requires none { HasKeptNothing (W.kept world.old) }
-    ensures drives { DrivesBy (record { told = W.Dev.told; faults = W.Dev.faults; telling = W.Luck.telling; took = W.Out.took; refused = W.Out.faults }) script.now (W.kept world.new) result }
+    ensures drives { DrivesBy (record { told = W.Dev.told; faults = W.Dev.faults; fate = W.Dev.fate; telling = W.Luck.telling; took = W.Out.took; refused = W.Out.faults; calls = W.Out.fate; scripted = W.scripted }) script.now (W.kept world.new) result }
     ensures lets { W.scripted ≡ true → IfErr result (IsLetBy script.now) }
 {
     let mut run = start(alloc, script, world)?;

@@ -1,4 +1,5 @@
 // What holds of the nodes of a run. Each law is the contract of a function that does nothing.
+ghost use Rattle.std.specs.Prelude.{Bool};
 ghost use Rattle.ken_drive.specs.Driven.{EndedRunsKeep};
 ghost use Rattle.ken_drive.specs.Recovering.{UpRecovers};
 
@@ -16,7 +17,7 @@ pub fn a_node_is_recovered<D: Disk>()
 
 /// What a run that has ended leaves with its world, where its devices are kept.
 pub fn ended_runs_keep<D: Disk, O: Oracle, U: Outlet>()
-    ensures { EndedRunsKeep (record { told = D.told; faults = D.faults; telling = O.telling; took = U.took; refused = U.faults }) D.size ⟦<Watched<D> as Disk>⟧.fate }
+    ensures { (scripted : Bool) → EndedRunsKeep (record { told = D.told; faults = D.faults; fate = D.fate; telling = O.telling; took = U.took; refused = U.faults; calls = U.fate; scripted = scripted }) D.size }
 {
     ken_store::apart_recovers::<Watched<D>>();
     ken_node::a_node_has_synced::<Watched<D>>();

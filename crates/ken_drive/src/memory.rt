@@ -78,14 +78,14 @@ impl World for MemWorld {
 
     ghost scripted = { true };
 
-    /// A disk that fails at the cuts, as `MemDisk::new` makes it.
-    fn disk(&mut self, _node: u8, _which: u8, cuts: &[Cut]) -> Result<MemDisk, AllocError>
+    /// The disk of a node that fails at the cuts, as `MemDisk::of_node` makes it.
+    fn disk(&mut self, node: u8, which: u8, cuts: &[Cut]) -> Result<MemDisk, AllocError>
         ensures story { IfOk result (λ d. d.held.story ≡ blank) }
-        ensures calls { IfOk result (λ d. d.calls ≡ no_calls cuts.now) }
+        ensures calls { IfOk result (λ d. d.calls ≡ no_calls node which cuts.now) }
         ensures falls { IfOk result (λ d. (fate_of d.calls).falls ≤ length cuts.now) }
         ensures kept { self.new ≡ self.old }
     {
-        MemDisk::new(self.alloc, cuts)
+        MemDisk::of_node(self.alloc, node, which, cuts)
     }
 
     fn oracle(&mut self, node: u8, seed: u64) -> MemOracle
@@ -95,13 +95,13 @@ impl World for MemWorld {
         MemOracle::new(node, seed)
     }
 
-    /// An outlet that fails at the calls, as `MemOutlet::new` makes it.
-    fn outlet(&mut self, _node: u8, fails: &[u64]) -> Result<MemOutlet, AllocError>
-        ensures untaken { IfOk result (λ o. o ≡ untaken o.fails) }
+    /// The outlet of a node that fails at the calls, as `MemOutlet::new` makes it.
+    fn outlet(&mut self, node: u8, fails: &[u64]) -> Result<MemOutlet, AllocError>
+        ensures untaken { IfOk result (λ o. o ≡ untaken node o.fails) }
         ensures fails { IfOk result (λ o. (call : ℕ) → Contains o.fails call ↔ Contains fails.now call) }
         ensures kept { self.new ≡ self.old }
     {
-        MemOutlet::new(self.alloc, fails)
+        MemOutlet::new(self.alloc, node, fails)
     }
 
     fn keep(&mut self, node: u8, disks: Disks<MemDisk>, luck: MemOracle, out: MemOutlet)

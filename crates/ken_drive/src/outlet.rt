@@ -8,10 +8,12 @@ use std::alloc::{AllocError, Global};
 use std::collections::BTreeSet;
 use std::marker::Model;
 
-/// An outlet in memory. It fails at the calls that it is told to, and at no other, and tells what it took.
+/// An outlet in memory. It fails at the calls that it is told to, and at no other, and tells what it took and whose it is.
 #[derive(Debug, Drop)]
 pub struct MemOutlet {
     alloc: Global,
+    // The node that emits to it.
+    node: u8,
     // The calls that fail, from 1.
     fails: BTreeSet<u64>,
     calls: u64,
@@ -24,7 +26,7 @@ impl Model for MemOutlet {
 
     ghost Value = { Taken };
 
-    ghost view = { λ o. record { outs = o.took.items; calls = o.calls; faults = o.faults; fails = o.fails.keys } };
+    ghost view = { λ o. record { node = o.node; outs = o.took.items; calls = o.calls; faults = o.faults; fails = o.fails.keys } };
 }
 
 // The numbers on a list, each once.
@@ -39,14 +41,15 @@ impl MemOutlet {
     ghost use Rattle.std.specs.List.{Contains};
     ghost use Rattle.ken_drive.specs.Outlets.{untaken, IsToFail};
 
-    /// An outlet of which no call was made, and which fails at these calls. They are counted from 1; a call that wants memory
-    /// doesn't count. The error is want of memory.
-    pub fn new(alloc: Global, fails: &[u64]) -> Result<Self, AllocError>
-        ensures untaken { IfOk result (λ o. o ≡ untaken o.fails) }
+    /// The outlet of a node, of which no call was made, and which fails at these calls. They are counted from 1; a call that wants
+    /// memory doesn't count. The error is want of memory.
+    pub fn new(alloc: Global, node: u8, fails: &[u64]) -> Result<Self, AllocError>
+        ensures untaken { IfOk result (λ o. o ≡ untaken node o.fails) }
         ensures fails { IfOk result (λ o. (call : ℕ) → Contains o.fails call ↔ Contains fails.now call) }
     {
         Ok(MemOutlet {
             alloc,
+            node,
             fails: numbers(alloc, fails)?,
             calls: 0,
             faults: 0,

@@ -3,9 +3,9 @@ ghost use Rattle.std.specs.Prelude.{◌+◌, ◌≡◌, ◌<◌, ◌≤◌, ℕ,
 ghost use Rattle.ken_model.specs.Game.{Game, game_of};
 ghost use Rattle.ken_model.specs.Limits.{IsWithinLimits};
 ghost use Rattle.ken_drive.specs.Accounts.{AreAccounted, Terms};
-ghost use Rattle.ken_drive.specs.Refusals.{AreRefused, MayFailAt};
+ghost use Rattle.ken_drive.specs.Refusals.{AreRefused};
 ghost use Rattle.ken_drive.specs.Starting.{AddsBy, FillsAccountsBy, FillsBy, HasModestActs, IsFresh, IsStarted, Joins, JoinsAccountsBy, JoinsBy, MayJoin, StartsAccountsBy, StartsBy, terms_of};
-ghost use Rattle.ken_drive.specs.Worlds.{HasKeptNothing, IsOf};
+ghost use Rattle.ken_drive.specs.Worlds.{HasKeptNothing, IsNewOracle, MayFailAt};
 
 use crate::devices::station;
 use crate::faults::RunFault;
@@ -49,8 +49,8 @@ impl<D: Disk + Drop, O: Oracle + Drop, U: Outlet + Drop> Run<D, O, U> {
         requires { MayJoin ⟦<Watched<D> as Disk>⟧.told ⟦<Watched<D> as Disk>⟧.size U.took station self.old }
         ensures joins { (g : Game) (made : ℕ) → Joins ⟦<Watched<D> as Disk>⟧.told ⟦<Watched<D> as Disk>⟧.size U.took g made station self.old → JoinsBy ⟦<Watched<D> as Disk>⟧.told ⟦<Watched<D> as Disk>⟧.size U.took result g made self.new }
         ensures adds { AddsBy ⟦<Watched<D> as Disk>⟧.told ⟦<Watched<D> as Disk>⟧.size U.took result station self.old self.new }
-        ensures accounts { (terms : Terms) (g : Game) (made : ℕ) (joins : Joins ⟦<Watched<D> as Disk>⟧.told ⟦<Watched<D> as Disk>⟧.size U.took g made station self.old) → IsFresh ⟦<Watched<D> as Disk>⟧.faults ⟦<Watched<D> as Disk>⟧.fate terms.scripted (terms.cuts made) joins.born.over.disks → IsOf O.telling station.luck made terms.seed → AreAccounted ⟦<Watched<D> as Disk>⟧.told ⟦<Watched<D> as Disk>⟧.faults ⟦<Watched<D> as Disk>⟧.fate O.telling terms g made self.old → JoinsAccountsBy ⟦<Watched<D> as Disk>⟧.told ⟦<Watched<D> as Disk>⟧.faults ⟦<Watched<D> as Disk>⟧.fate O.telling terms g result made self.new }
-        ensures refused { (terms : Terms) (g : Game) (made : ℕ) → Joins ⟦<Watched<D> as Disk>⟧.told ⟦<Watched<D> as Disk>⟧.size U.took g made station self.old → MayFailAt terms.scripted (terms.fails made) (U.fate station.out) → AreRefused U.faults U.fate terms made self.old → IfOk result (λ x. AreRefused U.faults U.fate terms (made + 1) self.new) }
+        ensures accounts { (terms : Terms) (g : Game) (made : ℕ) (joins : Joins ⟦<Watched<D> as Disk>⟧.told ⟦<Watched<D> as Disk>⟧.size U.took g made station self.old) → IsFresh ⟦<Watched<D> as Disk>⟧.faults ⟦<Watched<D> as Disk>⟧.fate terms made joins.born.over.disks → IsNewOracle terms.scripted O.telling station.luck made terms.seed → AreAccounted ⟦<Watched<D> as Disk>⟧.told ⟦<Watched<D> as Disk>⟧.faults ⟦<Watched<D> as Disk>⟧.fate O.telling terms g made self.old → JoinsAccountsBy ⟦<Watched<D> as Disk>⟧.told ⟦<Watched<D> as Disk>⟧.faults ⟦<Watched<D> as Disk>⟧.fate O.telling terms g result made self.new }
+        ensures refused { (terms : Terms) (g : Game) (made : ℕ) → Joins ⟦<Watched<D> as Disk>⟧.told ⟦<Watched<D> as Disk>⟧.size U.took g made station self.old → MayFailAt terms.scripted made (terms.fails made) (U.fate station.out) → AreRefused U.faults U.fate terms made self.old → IfOk result (λ x. AreRefused U.faults U.fate terms (made + 1) self.new) }
         ensures most { self.new.restarts ≡ self.old.restarts }
     {
         self.stations.reserve(1)?;

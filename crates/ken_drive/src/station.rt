@@ -1,5 +1,5 @@
 // A node of a run with all that is its own.
-ghost use Rattle.std.specs.Prelude.{◌≡◌, ◌<◌, ◌≤◌, ◌+◌, ◌^◌, ℕ, [], List, length, OnOk};
+ghost use Rattle.std.specs.Prelude.{◌≡◌, ◌<◌, ◌≤◌, ◌+◌, ◌^◌, ◌⊎◌, ℕ, [], List, length, IfOk, OnOk};
 ghost use Rattle.ken_app.specs.Oracles.{Answers, HasAnswered};
 ghost use Rattle.ken_model.specs.declared.messages.Out.{Out};
 ghost use Rattle.ken_model.specs.Game.{Game};
@@ -61,6 +61,7 @@ impl<D: Disk, O: Oracle, U: Outlet> Station<D, O, U> {
         ensures clocks_go_on { HasAnswered (O.telling.clocks self.old.luck) (O.telling.clocks self.new.luck) }
         ensures words_go_on { HasAnswered (O.telling.words self.old.luck) (O.telling.words self.new.luck) }
         ensures origin { O.telling.origin self.new.luck ≡ O.telling.origin self.old.luck }
+        ensures undrawn { IfOk result (λ took. (took ≡ Took.Turn) ⊎ (self.new.luck ≡ self.old.luck)) }
         ensures refusals { refusals_in self.new.node.stage ≡ refusals_in self.old.node.stage }
         ensures rest { self.new ≡ record self.old { node = self.new.node; luck = self.new.luck; acks = self.new.acks } }
     {

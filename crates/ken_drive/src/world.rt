@@ -4,7 +4,7 @@ ghost use Rattle.ken_disk.specs.Story.{blank};
 ghost use Rattle.ken_model.specs.declared.facts.TheConstants.{MAX_NODES};
 ghost use Rattle.ken_app.specs.Oracles.{HasTold};
 ghost use Rattle.ken_store.specs.declared.disks.Disks.{Disks};
-ghost use Rattle.ken_drive.specs.Worlds.{IsFatedDisk, IsFatedOutlet, IsOf, TellsNothing};
+ghost use Rattle.ken_drive.specs.Worlds.{IsFatedDisk, IsFatedOutlet, IsNewOracle, TellsNothing};
 
 use ken_app::Oracle;
 use ken_disk::Disk;
@@ -28,18 +28,19 @@ pub trait World {
     /// The disks, the oracle and the outlet of each node that were given to `keep` last.
     ghost kept: { Self → ℕ → Option (Disks Self.Dev × Self.Luck × Self.Out) };
 
-    /// Whether its disks fail only at the cuts, and its outlets only at the calls, that it was handed, and tell it.
+    /// Whether its disks fail only at the cuts, and its outlets only at the calls, that it was handed, and tell it, and whose they
+    /// and its oracles are.
     ghost scripted: { Bool };
 
     /// An empty disk, with nothing pending, no sync and no fault, for a node below `MAX_NODES` and a disk below `DISKS`. It is to
-    /// fail at these cuts. The error is want of memory.
+    /// fail at these cuts, and tells that, and whose it is, where it tells anything of its falls. The error is want of memory.
     fn disk(&mut self, node: u8, which: u8, cuts: &[Cut]) -> Result<Self::Dev, AllocError>
         requires node { node < MAX_NODES }
         requires which { which < DISKS }
         ensures told { IfOk result (λ d. Self.Dev.told d ≡ Some blank) }
         ensures size { IfOk result (λ d. Self.Dev.size d ≡ 0) }
         ensures faults { IfOk result (λ d. Self.Dev.faults d ≡ 0) }
-        ensures fate { IfOk result (λ d. IsFatedDisk scripted cuts.now (Self.Dev.fate d)) }
+        ensures fate { IfOk result (λ d. IsFatedDisk scripted node which cuts.now (Self.Dev.fate d)) }
         ensures kept { (v : ℕ) → kept self.new v ≡ kept self.old v };
 
     /// An oracle for a node below `MAX_NODES` of a run with that seed, which has answered nothing.
@@ -47,16 +48,16 @@ pub trait World {
         requires { node < MAX_NODES }
         ensures clocks { HasTold Self.Luck.telling.always (Self.Luck.telling.clocks result) [] }
         ensures words { HasTold Self.Luck.telling.always (Self.Luck.telling.words result) [] }
-        ensures origin { IsOf Self.Luck.telling result node seed }
+        ensures new { IsNewOracle scripted Self.Luck.telling result node seed }
         ensures kept { (v : ℕ) → kept self.new v ≡ kept self.old v };
 
     /// An outlet for a node below `MAX_NODES`, which has taken nothing and has no fault. It is to fail at these calls, which are
-    /// counted from 1. The error is want of memory.
+    /// counted from 1, and tells just these where it tells its calls. The error is want of memory.
     fn outlet(&mut self, node: u8, fails: &[u64]) -> Result<Self::Out, AllocError>
         requires { node < MAX_NODES }
         ensures took { IfOk result (λ o. TellsNothing (Self.Out.took o)) }
         ensures faults { IfOk result (λ o. Self.Out.faults o ≡ 0) }
-        ensures fate { IfOk result (λ o. IsFatedOutlet scripted fails.now (Self.Out.fate o)) }
+        ensures fate { IfOk result (λ o. IsFatedOutlet scripted node fails.now (Self.Out.fate o)) }
         ensures kept { (v : ℕ) → kept self.new v ≡ kept self.old v };
 
     /// Takes the disks, the oracle and the outlet of a node below `MAX_NODES` back, at the end of a run.

@@ -23,6 +23,7 @@ use Rattle.ken_drive.specs.declared.faults.RunFault.{RunFault}
 use Rattle.ken_drive.specs.declared.faults.RunFault.TheVariants as running
 use Rattle.ken_drive.specs.Driven.{DrivesBy, HasDriven, KeepsRun, Views}
 use Rattle.ken_drive.specs.Ended.{AreRestartsByNode, IsRunOf}
+use Rattle.ken_drive.specs.Starting.{terms_of}
 use Rattle.ken_drive.specs.Sparing.{IsLetBy}
 use Rattle.ken_drive.specs.Worlds.{HasKeptNothing}
 use Rattle.ken_top.specs.declared.status.Status.{Status}
@@ -39,7 +40,7 @@ record IsReportOf {D O U : Type 0} (views : Views D O U) (kept : ℕ → Option 
   by_node : AreByNode 0 run.emissions
   restarts : AreRestartsByNode script.facts.nodes 0 run.restarts
   ends : Ends (game_of script.facts) (play (game_of script.facts) run.schedule) run.emissions ending
-  keeps : KeepsRun views (game_of script.facts) script.seed script.restarts run.schedule run.emissions run.restarts kept
+  keeps : KeepsRun views (game_of script.facts) (terms_of views.scripted script) run.schedule run.emissions run.restarts kept
 
 -- the bytes that a source tells, or those that were read where it doesn't
 pub record IsTold (left : Option (List ℕ)) (read : List ℕ) : Type 0 where
@@ -58,7 +59,7 @@ told_by (Some xs) read front = record {
 }
 
 module _ {D O U : Type 0} (views : Views D O U) (kept : ℕ → Option (Disks D × O × U)) where
-  pub report_of-run : (b : List ℕ) (script : Script) (l : Lines) → Says b script → IsRunOf (game_of script.facts) l → KeepsRun views (game_of script.facts) script.seed script.restarts (steps_of l.turns) l.emissions l.restarts kept → IsReport views kept b l.ending (text l)
+  pub report_of-run : (b : List ℕ) (script : Script) (l : Lines) → Says b script → IsRunOf (game_of script.facts) l → KeepsRun views (game_of script.facts) (terms_of views.scripted script) (steps_of l.turns) l.emissions l.restarts kept → IsReport views kept b l.ending (text l)
   report_of-run b script l says run keeps =
       let told : Spelling = record { schedule = steps_of l.turns; emissions = l.emissions; restarts = l.restarts } in
       let spelled : spell (text l) ≡ told = report_spells_its_run l run.printable in

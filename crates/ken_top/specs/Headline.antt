@@ -18,6 +18,7 @@ use Rattle.ken_store.specs.declared.disks.Disks.{Disks}
 use Rattle.ken_drive.specs.Ended.{AreRestartsByNode}
 use Rattle.ken_drive.specs.Driven.{HasDriven, HasGoneDown, KeepsRun, Views}
 use Rattle.ken_drive.specs.Sparing.{IsSpared, LetsGoDown}
+use Rattle.ken_drive.specs.Starting.{terms_of}
 use Rattle.ken_drive.specs.Worlds.{HasKeptNothing}
 use Rattle.ken_top.specs.declared.status.Status.{Status}
 use Rattle.ken_top.specs.declared.status.Status.TheVariants as status
@@ -45,7 +46,7 @@ module _ {D O U : Type 0} (views : Views D O U) (kept : ℕ → Option (Disks D 
     pub by_node : AreByNode 0 (spell w).emissions
     pub restarts : AreRestartsByNode script.facts.nodes 0 (spell w).restarts
     pub ends : Ends (game_of script.facts) (play (game_of script.facts) (spell w).schedule) (spell w).emissions ending
-    pub keeps : KeepsRun views (game_of script.facts) script.seed script.restarts (spell w).schedule (spell w).emissions (spell w).restarts kept
+    pub keeps : KeepsRun views (game_of script.facts) (terms_of views.scripted script) (spell w).schedule (spell w).emissions (spell w).restarts kept
 
   -- w is a front of such a report
   pub record IsFront (b w : List ℕ) : Type 0 where
@@ -57,7 +58,7 @@ module _ {D O U : Type 0} (views : Views D O U) (kept : ℕ → Option (Disks D 
   pub record IsDown (b : List ℕ) (v : ℕ) : Type 0 where
     pub script : Script
     pub says : Says b script
-    pub down : HasGoneDown views (game_of script.facts) script.seed script.restarts v kept
+    pub down : HasGoneDown views (game_of script.facts) (terms_of views.scripted script) v kept
 
   -- what each status says of the bytes that were read, of those that were written, and of the devices that were kept. The disks of a
   -- world keep the model of a disk, so none is ever damaged

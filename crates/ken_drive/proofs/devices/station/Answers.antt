@@ -10,7 +10,7 @@ pub returns-clause-own : goal.returns-clause-own
 returns-clause-own g c = record {
   clocks = c.oracle-luck.ensures.clocks;
   words = c.oracle-luck.ensures.words;
-  origin = c.oracle-luck.ensures.origin;
+  oracle = c.oracle-luck.ensures.new;
   took_none = c.in_ok-out.ensures.took;
   no_faults = c.in_ok-out.ensures.faults;
   fated = c.in_ok-out.ensures.fate;

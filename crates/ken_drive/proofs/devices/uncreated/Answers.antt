@@ -1,6 +1,6 @@
 -- A node that isn't created yet, over empty disks.
 use Rattle.ken_model.specs.Game.{game_of}
-use Rattle.ken_drive.specs.Starting.{cut_count}
+use Rattle.ken_drive.specs.Starting.{terms_of}
 use Rattle.ken_drive.proofs.StartingNode.{fresh-blank}
 use Rattle.ken_drive.proofs.devices.uncreated.Goals as goal
 
@@ -15,4 +15,4 @@ returns-in-Ok-clause-blank g c = record {
 
 pub returns-in-Ok-clause-fresh : goal.returns-in-Ok-clause-fresh
 returns-in-Ok-clause-fresh g c =
-    fresh-blank (λ w. g.W.Dev.Disk.told w.disk) (λ w. g.W.Dev.Disk.faults w.disk) (λ w. g.W.Dev.Disk.fate w.disk) g.W.World.scripted (game_of c.args.script.now.facts) c.args.node (cut_count c.args.node c.args.script.now) c.in_ok-disks.disks c.in-Ok.uncreated.stage c.in-Ok.ensures.ok c.in_ok-disks.ensures.fresh
+    fresh-blank (λ w. g.W.Dev.Disk.told w.disk) (λ w. g.W.Dev.Disk.faults w.disk) (λ w. g.W.Dev.Disk.fate w.disk) (terms_of g.W.World.scripted c.args.script.now) (game_of c.args.script.now.facts) c.args.node c.in_ok-disks.disks c.in-Ok.uncreated.stage c.in-Ok.ensures.ok c.in_ok-disks.ensures.fresh

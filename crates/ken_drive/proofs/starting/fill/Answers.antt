@@ -26,7 +26,7 @@ loop-node-preserved g c = (
   next-joined (λ w. g.W.Dev.Disk.told w.disk) (λ w. g.W.Dev.Disk.size w.disk) g.W.Out.Outlet.took g.W.World.scripted g.W.Luck.Oracle.telling g.W.Out.Outlet.faults g.W.Out.Outlet.fate c.args.script.now c.loop-node.node c.in_ok-station.field-0 c.loop-node.run c.loop-node.invariant.0 c.loop-node-test.true c.in_ok-station.ensures.own c.join.new.self c.in_ok-join.ensures.most c.in_ok-join.ensures.adds
       (c.in_ok-join.ensures.joins (game_of c.args.script.now.facts) c.loop-node.node (next-joins (λ w. g.W.Dev.Disk.told w.disk) (λ w. g.W.Dev.Disk.size w.disk) g.W.Out.Outlet.took g.W.World.scripted g.W.Luck.Oracle.telling g.W.Out.Outlet.faults g.W.Out.Outlet.fate c.args.script.now c.loop-node.node c.in_ok-station.field-0 c.loop-node.run c.loop-node.invariant.0 c.loop-node-test.true c.in_ok-station.ensures.own c.requires.modest c.in_ok-station.ensures.born)),
   λ v. c.in_ok-station.ensures.kept v ∙ c.loop-node.invariant.1 v,
-  c.in_ok-join.ensures.accounts (terms_of g.W.World.scripted c.args.script.now) (game_of c.args.script.now.facts) c.loop-node.node (next-joins (λ w. g.W.Dev.Disk.told w.disk) (λ w. g.W.Dev.Disk.size w.disk) g.W.Out.Outlet.took g.W.World.scripted g.W.Luck.Oracle.telling g.W.Out.Outlet.faults g.W.Out.Outlet.fate c.args.script.now c.loop-node.node c.in_ok-station.field-0 c.loop-node.run c.loop-node.invariant.0 c.loop-node-test.true c.in_ok-station.ensures.own c.requires.modest c.in_ok-station.ensures.born) (c.in_ok-station.ensures.fresh (next-joins (λ w. g.W.Dev.Disk.told w.disk) (λ w. g.W.Dev.Disk.size w.disk) g.W.Out.Outlet.took g.W.World.scripted g.W.Luck.Oracle.telling g.W.Out.Outlet.faults g.W.Out.Outlet.fate c.args.script.now c.loop-node.node c.in_ok-station.field-0 c.loop-node.run c.loop-node.invariant.0 c.loop-node-test.true c.in_ok-station.ensures.own c.requires.modest c.in_ok-station.ensures.born).born) c.in_ok-station.ensures.own.origin c.loop-node.invariant.2,
+  c.in_ok-join.ensures.accounts (terms_of g.W.World.scripted c.args.script.now) (game_of c.args.script.now.facts) c.loop-node.node (next-joins (λ w. g.W.Dev.Disk.told w.disk) (λ w. g.W.Dev.Disk.size w.disk) g.W.Out.Outlet.took g.W.World.scripted g.W.Luck.Oracle.telling g.W.Out.Outlet.faults g.W.Out.Outlet.fate c.args.script.now c.loop-node.node c.in_ok-station.field-0 c.loop-node.run c.loop-node.invariant.0 c.loop-node-test.true c.in_ok-station.ensures.own c.requires.modest c.in_ok-station.ensures.born) (c.in_ok-station.ensures.fresh (next-joins (λ w. g.W.Dev.Disk.told w.disk) (λ w. g.W.Dev.Disk.size w.disk) g.W.Out.Outlet.took g.W.World.scripted g.W.Luck.Oracle.telling g.W.Out.Outlet.faults g.W.Out.Outlet.fate c.args.script.now c.loop-node.node c.in_ok-station.field-0 c.loop-node.run c.loop-node.invariant.0 c.loop-node-test.true c.in_ok-station.ensures.own c.requires.modest c.in_ok-station.ensures.born).born) c.in_ok-station.ensures.own.oracle c.loop-node.invariant.2,
   c.in_ok-join.ensures.refused (terms_of g.W.World.scripted c.args.script.now) (game_of c.args.script.now.facts) c.loop-node.node (next-joins (λ w. g.W.Dev.Disk.told w.disk) (λ w. g.W.Dev.Disk.size w.disk) g.W.Out.Outlet.took g.W.World.scripted g.W.Luck.Oracle.telling g.W.Out.Outlet.faults g.W.Out.Outlet.fate c.args.script.now c.loop-node.node c.in_ok-station.field-0 c.loop-node.run c.loop-node.invariant.0 c.loop-node-test.true c.in_ok-station.ensures.own c.requires.modest c.in_ok-station.ensures.born) (own-fails (λ w. g.W.Dev.Disk.told w.disk) (λ w. g.W.Dev.Disk.size w.disk) g.W.Out.Outlet.took g.W.World.scripted g.W.Luck.Oracle.telling g.W.Out.Outlet.faults g.W.Out.Outlet.fate c.args.script.now c.loop-node.node c.in_ok-station.field-0 c.in_ok-station.ensures.own) c.loop-node.invariant.3,
 )
 
@@ -48,7 +48,7 @@ returns-in_err-join g c = record {
       accounts-filled (λ w. g.W.Dev.Disk.told w.disk) (λ w. g.W.Dev.Disk.faults w.disk) (λ w. g.W.Dev.Disk.fate w.disk) g.W.Luck.Oracle.telling (terms_of g.W.World.scripted c.args.script.now) (game_of c.args.script.now.facts) c.from_residual-in_err-join.result c.in_err-join.field-0.0 c.join.new.self c.from_residual-in_err-join.ensures.1
       (next-accounts (λ w. g.W.Dev.Disk.told w.disk) (λ w. g.W.Dev.Disk.faults w.disk) (λ w. g.W.Dev.Disk.fate w.disk) g.W.Luck.Oracle.telling (terms_of g.W.World.scripted c.args.script.now) (game_of c.args.script.now.facts) c.loop-node.node c.join.new.self c.in_err-join.field-0.0
       (down-at (λ w. g.W.Dev.Disk.told w.disk) (λ w. g.W.Dev.Disk.size w.disk) g.W.Out.Outlet.took (game_of c.args.script.now.facts) c.loop-node.node c.join.new.self c.in_err-join.field-0.0 (c.in_err-join.ensures.joins (game_of c.args.script.now.facts) c.loop-node.node (next-joins (λ w. g.W.Dev.Disk.told w.disk) (λ w. g.W.Dev.Disk.size w.disk) g.W.Out.Outlet.took g.W.World.scripted g.W.Luck.Oracle.telling g.W.Out.Outlet.faults g.W.Out.Outlet.fate c.args.script.now c.loop-node.node c.in_ok-station.field-0 c.loop-node.run c.loop-node.invariant.0 c.loop-node-test.true c.in_ok-station.ensures.own c.requires.modest c.in_ok-station.ensures.born)))
-      (c.in_err-join.ensures.accounts (terms_of g.W.World.scripted c.args.script.now) (game_of c.args.script.now.facts) c.loop-node.node (next-joins (λ w. g.W.Dev.Disk.told w.disk) (λ w. g.W.Dev.Disk.size w.disk) g.W.Out.Outlet.took g.W.World.scripted g.W.Luck.Oracle.telling g.W.Out.Outlet.faults g.W.Out.Outlet.fate c.args.script.now c.loop-node.node c.in_ok-station.field-0 c.loop-node.run c.loop-node.invariant.0 c.loop-node-test.true c.in_ok-station.ensures.own c.requires.modest c.in_ok-station.ensures.born) (c.in_ok-station.ensures.fresh (next-joins (λ w. g.W.Dev.Disk.told w.disk) (λ w. g.W.Dev.Disk.size w.disk) g.W.Out.Outlet.took g.W.World.scripted g.W.Luck.Oracle.telling g.W.Out.Outlet.faults g.W.Out.Outlet.fate c.args.script.now c.loop-node.node c.in_ok-station.field-0 c.loop-node.run c.loop-node.invariant.0 c.loop-node-test.true c.in_ok-station.ensures.own c.requires.modest c.in_ok-station.ensures.born).born) c.in_ok-station.ensures.own.origin c.loop-node.invariant.2));
+      (c.in_err-join.ensures.accounts (terms_of g.W.World.scripted c.args.script.now) (game_of c.args.script.now.facts) c.loop-node.node (next-joins (λ w. g.W.Dev.Disk.told w.disk) (λ w. g.W.Dev.Disk.size w.disk) g.W.Out.Outlet.took g.W.World.scripted g.W.Luck.Oracle.telling g.W.Out.Outlet.faults g.W.Out.Outlet.fate c.args.script.now c.loop-node.node c.in_ok-station.field-0 c.loop-node.run c.loop-node.invariant.0 c.loop-node-test.true c.in_ok-station.ensures.own c.requires.modest c.in_ok-station.ensures.born) (c.in_ok-station.ensures.fresh (next-joins (λ w. g.W.Dev.Disk.told w.disk) (λ w. g.W.Dev.Disk.size w.disk) g.W.Out.Outlet.took g.W.World.scripted g.W.Luck.Oracle.telling g.W.Out.Outlet.faults g.W.Out.Outlet.fate c.args.script.now c.loop-node.node c.in_ok-station.field-0 c.loop-node.run c.loop-node.invariant.0 c.loop-node-test.true c.in_ok-station.ensures.own c.requires.modest c.in_ok-station.ensures.born).born) c.in_ok-station.ensures.own.oracle c.loop-node.invariant.2));
   refused = failed-not-ok _ _ c.from_residual-in_err-join.result c.from_residual-in_err-join.ensures.1;
   kept = λ v. c.in_ok-station.ensures.kept v ∙ c.loop-node.invariant.1 v;
 }

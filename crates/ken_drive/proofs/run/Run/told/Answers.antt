@@ -13,7 +13,7 @@ pub returns : goal.returns
 returns g c = λ terms game made running all accounted are plain.
     let has = c.in_ok-drain.ensures.drains game made running all in
     let ended : IsEnded (λ w. g.D.Disk.told w.disk) (λ w. g.D.Disk.size w.disk) g.U.Outlet.took game c.drain.new.self = record { made = made; running = has.0; all = all; ended = has.1 } in
-    record { ended = ended; report = c.in_ok-lines.ensures game ended plain; accounts = c.in_ok-drain.ensures.accounts terms game made running all accounted }
+    record { ended = ended; report = c.in_ok-lines.ensures game ended plain; accounts = c.in_ok-drain.ensures.accounts terms game made running all accounted; refusals = c.in_ok-drain.ensures.refused terms game made running all are }
 
 pub returns-in_err-drain : goal.returns-in_err-drain
 returns-in_err-drain g c = λ terms game made running all accounted are plain.

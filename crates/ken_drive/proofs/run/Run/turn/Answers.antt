@@ -46,7 +46,7 @@ returns-clause-accounts g c = λ terms game made running low accounted.
     turn-accounts (λ w. g.D.Disk.told w.disk) (λ w. g.D.Disk.size w.disk) (λ w. g.D.Disk.faults w.disk) (λ w. g.D.Disk.fate w.disk) g.O.Oracle.telling terms game made c.args.self.now (record c.args.self.now { stations = with_item c.args.self.now.stations c.from.result c.turn.new.self; waiting = c.turn.new.waiting }) c.args.node c.index_mut.result.now c.turn.new.self
     (running.nodes c.args.node) up running.stands.width low is (ap (λ k. slice_set c.args.self.now.stations.items k c.turn.new.self) c.from.ensures) refl accounted
     (ap (λ x. x.lines.items) c.turn.ensures.rest) (ap (λ x. x.restarts) c.turn.ensures.rest) c.turn.ensures.origin c.turn.ensures.clocks_go_on c.turn.ensures.words_go_on c.turn.ensures.emissions _ running.stands.handler _ _ 0 steps.0 up.handler c.turn.result steps.1
-    c.turn.ensures.disks (c.turn.ensures.synced game c.args.node (running.nodes c.args.node) up running.stands.handler was.books.synced)
+    c.turn.ensures.disks (c.turn.ensures.synced game c.args.node (running.nodes c.args.node) up running.stands.handler was.books.synced) c.turn.ensures.undrawn
 
 pub returns-clause-moves : goal.returns-clause-moves
 returns-clause-moves g c =
