@@ -48,8 +48,8 @@ use Rattle.ken_drive.proofs.Fewer.{few-turns, outputs-fewer, pages-fewer, turns-
 use Rattle.ken_drive.proofs.Lifted.{accord-after, with-here}
 use Rattle.ken_drive.proofs.Quiet.{IsQuiet, idle-quiet, run-quiet, sends-quiet, turn-quiet}
 
--- a measure of the node that was called is less
-left-is : {D O U : Type 0} (left : Stage (Watched D) → ℕ) (items : List (Station D O U)) (v : ℕ) (d : Station D O U) → v < length items → left_at left items v ≡ left (slice_index_or items v d).node.stage
+-- a measure of a node is that of its station
+pub left-is : {D O U : Type 0} (left : Stage (Watched D) → ℕ) (items : List (Station D O U)) (v : ℕ) (d : Station D O U) → v < length items → left_at left items v ≡ left (slice_index_or items v d).node.stage
 left-is left [] v d low = absurd (omega (arith, low))
 left-is left (s ∷ ss) zero d low = refl
 left-is left (s ∷ ss) (suc v) d low = left-is left ss v d (omega (arith, low))

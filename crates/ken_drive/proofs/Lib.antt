@@ -29,12 +29,14 @@ pub mod Sums
 pub mod Within
 pub mod Posting
 pub mod Hearing
+pub mod Patched
 pub mod Moves
 pub mod Moving
 pub mod Visits
 pub mod Restarting
 pub mod Opening
 pub mod Draining
+pub mod Drained
 pub mod Turning
 pub mod AtEnd
 pub mod Refusals

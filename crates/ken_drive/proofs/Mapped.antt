@@ -27,6 +27,8 @@ module _ {D : Type 0} (told : D → Option Story) (size : D → ℕ) (g : Game) 
     turn = s.turn;
     last = s.last;
     drawn = s.drawn;
+    first = s.first;
+    again = s.again;
   }
   turn-mapped (Ok Idle) s = record {
     call = record { given = s.call.given; was_given = given s.call.given s.call.was_given; puts = s.call.puts; were_put = puts s.call.puts s.call.were_put; out = s.call.out; steps = s.call.steps };

@@ -1,7 +1,8 @@
 -- How a call of a node's handler moves the flow of its run.
 use Rattle.std.proofs.Common.{◌≡◌, ℕ, ◌+◌, ◌*◌, ◌^◌, ◌<◌, ◌≤◌, ◌⊎◌, inl, inr, ⊎_elim, List, [], ◌∷◌, length, map, Contains, slice_index_or, slice_set, Option, Result, Ok, Err, refl, sym, ap, subst, ◌∙◌, arith}
-use Rattle.std.specs.Prelude.{IsErrOf, OnOk}
+use Rattle.std.specs.Prelude.{IfOk, IsErrOf, OnOk}
 use Rattle.std.specs.List.{AllByRecursion}
+use Rattle.std.proofs.lemmas.List.{length-set}
 use Rattle.std.proofs.lemmas.List.Elements.{All-contains, All-from_recursion}
 use Rattle.ken_disk.specs.Story.{Story}
 use Rattle.ken_model.specs.declared.messages.Out.{Out}
@@ -26,6 +27,7 @@ use Rattle.ken_node.specs.NodeTurns.{CappedSteps, IdleSteps, IsNotNext, SealFail
 use Rattle.ken_node.specs.Remaining.{turns_to_make}
 use Rattle.ken_node.specs.Sealing.{is_full}
 use Rattle.ken_node.specs.Stages.{emissions_in, refusals_in}
+use Rattle.ken_node.specs.Up.{IsUp}
 use Rattle.ken_flow.specs.Groups.{with_node}
 use Rattle.ken_flow.specs.Standstill.{IsAnswered, IsIdle, IsOver, Rested}
 use Rattle.ken_flow.proofs.Stamps.{stamps_are_low}
@@ -33,12 +35,15 @@ use Rattle.ken_drive.specs.declared.run.Run.{Run}
 use Rattle.ken_drive.specs.declared.station.Station.{Station}
 use Rattle.ken_drive.specs.Ends.{WereGiven, WerePut}
 use Rattle.ken_drive.specs.Flowing.{Moved, flow_of, work_left}
+use Rattle.ken_drive.specs.Left.{left_at, turns_left}
+use Rattle.ken_drive.specs.Patched.{HasNoInput, MakesNone}
 use Rattle.ken_drive.specs.Running.{IsRunning}
 use Rattle.ken_drive.proofs.Calls.{handler-stands, mail-were}
 use Rattle.ken_drive.proofs.Fewer.{turns-left-are}
-use Rattle.ken_drive.proofs.Leaving.{turn-fewer}
+use Rattle.ken_drive.proofs.Leaving.{left-is, turn-fewer}
 use Rattle.ken_drive.proofs.Moves.{work-turn}
 use Rattle.ken_drive.proofs.Moving.{emptied-box, less-down, moves-by, moves-turn, no-turn, none-taken, one-changed, own-up, placed, same-all, same-flow, sending-kept, to-make-is, was-own}
+use Rattle.ken_drive.proofs.Patched.{station-now, up-no-input}
 use Rattle.ken_drive.proofs.Quiet.{idle-quiet, run-quiet, turn-quiet}
 use Rattle.ken_node.proofs.Quietly.{idle_keeps_turns, none_keeps}
 use Rattle.ken_drive.proofs.Within.{puts-within}
@@ -142,7 +147,7 @@ module _ {D O U : Type 0} (told : Watched D → Option Story) (size : Watched D 
       })
 
   -- a turn was made
-  turned-moves : TurnSteps told size g v (running.nodes v) Gave WasPutBy drew handler s2.node.stage → turns_to_make s2.node.stage < turns_to_make s.node.stage → Moved told size took (Rested g v) g made r r2 running
+  turned-moves : TurnSteps told size g v (running.nodes v) Gave WasPutBy drew 0 nones handler s2.node.stage → turns_to_make s2.node.stage < turns_to_make s.node.stage → Moved told size took (Rested g v) g made r r2 running
   turned-moves t fewer =
       let call = t.call.steps.call in
       let packets = packets_from g.nodes t.call.given in
@@ -151,7 +156,7 @@ module _ {D O U : Type 0} (told : Watched D → Option Story) (size : Watched D 
       t.call.was_given t.call.were_put call.run t.call.steps.spelled (run-quiet g _ v (running.nodes v) call.events t.call.out t.call.steps.after (turn-quiet v (is_full handler.side) call.events call.which) call.run) kept rest in
       moves-turn told size took g made r r2 v s s2 running low is same stations most packets call.events t.call.out t.call.steps.after were call.run stands2 t.call.steps.up (Rested g v) tries fewer
 
-  fewer-to-make : TurnSteps told size g v (running.nodes v) Gave WasPutBy drew handler s2.node.stage → turns_to_make s2.node.stage < turns_to_make s.node.stage
+  fewer-to-make : TurnSteps told size g v (running.nodes v) Gave WasPutBy drew 0 nones handler s2.node.stage → turns_to_make s2.node.stage < turns_to_make s.node.stage
   fewer-to-make t =
       let less = turn-fewer told size took g made r r2 v s s2 running low is same stations nones drew handler kept rest (Ok Turn) refl t in
       let own = own-up told size took g made r r2 v s s2 running low is same stations most in
@@ -186,3 +191,27 @@ module _ {D O U : Type 0} (told : Watched D → Option Story) (size : Watched D 
   turn-less (Err Memory) was t = absurd (cc)
   turn-less (Err Outlet) was t = absurd (cc)
   turn-less (Err (Damaged disk place)) was t = absurd (cc)
+
+  -- ---- a call that made no turn: none can be made now
+
+  own-now : (d : Station D O U) → slice_index_or r2.stations.items v d ≡ s2
+  own-now d = station-now v v r r2 s s2 refl (placed told size took g made r r2 v s s2 running low is same stations most) is stations d
+
+  made-none : (after : Node) → IsUp told size g v after s2.node.stage → g.turns ≤ length after.turning.turns → left_at turns_left r2.stations.items v ≡ 0
+  made-none after up over =
+      let low2 : v < length r2.stations.items = subst (λ (k : ℕ). v < k) (sym (ap length stations ∙ length-set r.stations.items v s2)) (placed told size took g made r r2 v s s2 running low is same stations most) in
+      let left = left-is turns_left r2.stations.items v s low2 ∙ ap (λ (x : Station D O U). turns_left x.node.stage) (own-now s) ∙ turns-left-are told size g v after s2.node.stage up in
+      omega (arith, left, over)
+
+  pub turn-rests : (result : Result Took NodeFault) → TurnStepsBy told size g v (running.nodes v) Gave WasPutBy result drew 0 nones handler s2.node.stage → IfOk result (λ took. (took ≡ Turn) ⊎ MakesNone v r2)
+  turn-rests (Ok Turn) t = inl refl
+  turn-rests (Ok Idle) t =
+      inr (inr (
+        emptied-box v nones r.waiting.mail r2.waiting.mail t.call.given running.stands.short.0 t.call.was_given t.until,
+        (λ d. subst (λ (x : Station D O U). HasNoInput x.node.stage) (sym (own-now d)) (up-no-input told size g v t.call.steps.after s2.node.stage t.call.steps.up t.no_input)),
+      ))
+  turn-rests (Ok Capped) t =
+      let over = over-turns t.over in
+      let kept : length t.steps.after.turning.turns ≡ length (running.nodes v).turning.turns = ap (λ (x : Node). length x.turning.turns) t.same in
+      inr (inl (made-none t.steps.after t.steps.up (omega (arith, over, kept))))
+  turn-rests (Err fault) t = tt

@@ -11,8 +11,10 @@ pub mod Sequences
 pub mod Accounts
 pub mod Known
 pub mod Flowing
+pub mod Patched
 pub mod Open
 pub mod Draining
+pub mod Drained
 pub mod Endings
 pub mod Refusals
 pub mod Finishing

@@ -1,5 +1,5 @@
 // A run of nodes: one after the other on one thread.
-ghost use Rattle.std.specs.Prelude.{◌≡◌, ◌<◌, ◌≤◌, ◌+◌, ℕ, true, length, IsErrOf, OnOk};
+ghost use Rattle.std.specs.Prelude.{◌≡◌, ◌⊎◌, ◌<◌, ◌≤◌, ◌+◌, ℕ, false, true, length, IfOk, IsErrOf, OnOk};
 ghost use Rattle.ken_model.specs.Game.{Game};
 ghost use Rattle.ken_ship.specs.declared.emit.Emit.TheVariants.{Done};
 ghost use Rattle.ken_drive.specs.Accounts.{AccountsBy, AccountsRunBy, AreAccounted, OneIsHeld, Terms};
@@ -7,6 +7,7 @@ ghost use Rattle.ken_node.specs.NodeCalls.{UnlessMemory};
 ghost use Rattle.ken_flow.specs.Standstill.{Emits, Heard, Passed, Posted, Rested, Visited, Written};
 ghost use Rattle.ken_drive.specs.Flowing.{AllMoved, Moves, work_left};
 ghost use Rattle.ken_drive.specs.Left.{left_at, outputs_left, pages_left, tries_at, turns_left};
+ghost use Rattle.ken_drive.specs.Patched.{AllVisited, Changes, HasPatched, HasSettled, IsCall, IsPatchedAt, IsSettledSince, KeepsImage, MakesNone, MaySync, TriesBy, WasRestarted, WasVisited};
 ghost use Rattle.ken_drive.specs.Refusals.{AreRefused, RefusedBy, RefusedRunBy, StopsBy};
 ghost use Rattle.ken_drive.specs.Running.{IsRunning, IsStopped, LeavesBy, LeavesRunBy, MayBeRestarted, MayGoOn, MayWork};
 
@@ -43,6 +44,8 @@ impl<D: Disk, O: Oracle, U: Outlet> Run<D, O, U> {
         ensures moves { OnOk result (Moves ⟦<Watched<D> as Disk>⟧.told ⟦<Watched<D> as Disk>⟧.size U.took (λ g. Rested g node) node self.old self.new) }
         ensures worked { result ≡ Ok Took.Turn → work_left self.new < work_left self.old }
         ensures less { IsErrOf result NodeFault.Disk → work_left self.new ≤ work_left self.old }
+        ensures called { IsCall result (MaySync ⟦<Watched<D> as Disk>⟧.told) node self.old self.new }
+        ensures rests { IfOk result (λ took. (took ≡ Took.Turn) ⊎ MakesNone node self.new) }
     {
         self.stations[usize::from(node)].turn(self.alloc, &self.app, &mut self.waiting)
     }
@@ -56,6 +59,8 @@ impl<D: Disk, O: Oracle, U: Outlet> Run<D, O, U> {
         ensures fewer { result ≡ Ok true → left_at pages_left self.new.stations.items node < left_at pages_left self.old.stations.items node }
         ensures moves { OnOk result (Moves ⟦<Watched<D> as Disk>⟧.told ⟦<Watched<D> as Disk>⟧.size U.took (λ g. Written node) node self.old self.new) }
         ensures less { IsErrOf result NodeFault.Disk → work_left self.new ≤ work_left self.old }
+        ensures called { IsCall result (MaySync ⟦<Watched<D> as Disk>⟧.told) node self.old self.new }
+        ensures patched { result ≡ Ok false → IsPatchedAt node self.new }
     {
         self.stations[usize::from(node)].node.patch()
     }
@@ -68,6 +73,7 @@ impl<D: Disk, O: Oracle, U: Outlet> Run<D, O, U> {
         ensures moves { OnOk result (Moves ⟦<Watched<D> as Disk>⟧.told ⟦<Watched<D> as Disk>⟧.size U.took (λ g. Written node) node self.old self.new) }
         ensures less { IsErrOf result NodeFault.Disk → work_left self.new ≤ work_left self.old }
         ensures refused { (terms : Terms) (made : ℕ) → node < made → AreRefused U.faults U.fate terms made self.old → RefusedBy U.faults U.fate terms result made node self.new }
+        ensures called { IsCall result (HasSettled ⟦<Watched<D> as Disk>⟧.told) node self.old self.new }
     {
         self.stations[usize::from(node)].node.settle()
     }
@@ -80,6 +86,7 @@ impl<D: Disk, O: Oracle, U: Outlet> Run<D, O, U> {
         ensures moves { OnOk result (Moves ⟦<Watched<D> as Disk>⟧.told ⟦<Watched<D> as Disk>⟧.size U.took (λ g. Posted g node) node self.old self.new) }
         ensures less { IsErrOf result NodeFault.Disk → work_left self.new ≤ work_left self.old }
         ensures refused { (terms : Terms) (made : ℕ) → node < made → AreRefused U.faults U.fate terms made self.old → RefusedBy U.faults U.fate terms result made node self.new }
+        ensures called { IsCall result (KeepsImage ⟦<Watched<D> as Disk>⟧.told) node self.old self.new }
     {
         self.stations[usize::from(node)].send(self.alloc, &mut self.waiting)?;
         Ok(())
@@ -93,6 +100,7 @@ impl<D: Disk, O: Oracle, U: Outlet> Run<D, O, U> {
         ensures moves { OnOk result (Moves ⟦<Watched<D> as Disk>⟧.told ⟦<Watched<D> as Disk>⟧.size U.took (λ g. Heard g node) node self.old self.new) }
         ensures less { IsErrOf result NodeFault.Disk → work_left self.new ≤ work_left self.old }
         ensures refused { (terms : Terms) (made : ℕ) → node < made → AreRefused U.faults U.fate terms made self.old → RefusedBy U.faults U.fate terms result made node self.new }
+        ensures called { IsCall result (KeepsImage ⟦<Watched<D> as Disk>⟧.told) node self.old self.new }
     {
         self.stations[usize::from(node)].hear(self.alloc, &mut self.waiting)?;
         Ok(())
@@ -107,6 +115,7 @@ impl<D: Disk, O: Oracle, U: Outlet> Run<D, O, U> {
         ensures fewer { (number : ℕ) → result ≡ Ok (Done number) → left_at outputs_left self.new.stations.items node < left_at outputs_left self.old.stations.items node }
         ensures moves { OnOk result (Moves ⟦<Watched<D> as Disk>⟧.told ⟦<Watched<D> as Disk>⟧.size U.took (λ g. Emits node) node self.old self.new) }
         ensures less { IsErrOf result NodeFault.Disk → work_left self.new ≤ work_left self.old }
+        ensures called { IsCall result (KeepsImage ⟦<Watched<D> as Disk>⟧.told) node self.old self.new }
     {
         self.stations[usize::from(node)].emit()
     }
@@ -119,6 +128,8 @@ impl<D: Disk, O: Oracle, U: Outlet> Run<D, O, U> {
         ensures moves { OnOk result (Moves ⟦<Watched<D> as Disk>⟧.told ⟦<Watched<D> as Disk>⟧.size U.took (λ g. Rested g node) node self.old self.new) }
         ensures less { IsErrOf result NodeFault.Disk → work_left self.new ≤ work_left self.old }
         ensures refused { (terms : Terms) (made : ℕ) → node < made → AreRefused U.faults U.fate terms made self.old → RefusedBy U.faults U.fate terms result made node self.new }
+        ensures called { IsCall result (MaySync ⟦<Watched<D> as Disk>⟧.told) node self.old self.new }
+        ensures rests { OnOk result (MakesNone node self.new) }
     {
         'turns: while let Took::Turn = self.turn(node)? {}
         Ok(())
@@ -132,6 +143,7 @@ impl<D: Disk, O: Oracle, U: Outlet> Run<D, O, U> {
         ensures moves { OnOk result (Moves ⟦<Watched<D> as Disk>⟧.told ⟦<Watched<D> as Disk>⟧.size U.took (λ g. Written node) node self.old self.new) }
         ensures less { IsErrOf result NodeFault.Disk → work_left self.new ≤ work_left self.old }
         ensures refused { (terms : Terms) (made : ℕ) → node < made → AreRefused U.faults U.fate terms made self.old → RefusedBy U.faults U.fate terms result made node self.new }
+        ensures called { IsCall result (HasPatched ⟦<Watched<D> as Disk>⟧.told) node self.old self.new }
     {
         'pages: while self.patch(node)? {}
         Ok(())
@@ -145,6 +157,7 @@ impl<D: Disk, O: Oracle, U: Outlet> Run<D, O, U> {
         ensures moves { OnOk result (Moves ⟦<Watched<D> as Disk>⟧.told ⟦<Watched<D> as Disk>⟧.size U.took (λ g. Emits node) node self.old self.new) }
         ensures less { IsErrOf result NodeFault.Disk → work_left self.new ≤ work_left self.old }
         ensures refused { (terms : Terms) (made : ℕ) → node < made → AreRefused U.faults U.fate terms made self.old → RefusedBy U.faults U.fate terms result made node self.new }
+        ensures called { IsCall result (KeepsImage ⟦<Watched<D> as Disk>⟧.told) node self.old self.new }
     {
         'outputs: while let Emit::Done(_) = self.emit(node)? {}
         Ok(())
@@ -158,6 +171,7 @@ impl<D: Disk, O: Oracle, U: Outlet> Run<D, O, U> {
         ensures moves { OnOk result (Moves ⟦<Watched<D> as Disk>⟧.told ⟦<Watched<D> as Disk>⟧.size U.took (λ g. Visited g node) node self.old self.new) }
         ensures less { IsErrOf result NodeFault.Disk → work_left self.new ≤ work_left self.old }
         ensures refused { (terms : Terms) (made : ℕ) → node < made → AreRefused U.faults U.fate terms made self.old → RefusedBy U.faults U.fate terms result made node self.new }
+        ensures called { IsCall result (IsSettledSince ⟦<Watched<D> as Disk>⟧.told) node self.old self.new }
     {
         self.turns(node)?;
         self.pages(node)?;
@@ -177,6 +191,7 @@ impl<D: Disk, O: Oracle, U: Outlet> Run<D, O, U> {
         ensures tried { IsErrOf result NodeFault.Disk → tries_at self.new.stations.items node ≡ tries_at self.old.stations.items node + 1 }
         ensures same { self.new.restarts ≡ self.old.restarts }
         ensures worked { most ≤ self.old.restarts → UnlessMemory result (work_left self.new < work_left self.old) }
+        ensures restarted { Changes (TriesBy result) node self.old self.new }
     {
         self.stations[usize::from(node)].restart()
     }
@@ -197,6 +212,7 @@ impl<D: Disk, O: Oracle, U: Outlet> Run<D, O, U> {
         ensures worked { OnOk result (work_left self.new < work_left self.old) }
         ensures refused { (terms : Terms) (made : ℕ) → node < made → AreRefused U.faults U.fate terms made self.old → RefusedRunBy U.faults U.fate terms result made self.new }
         ensures stops { (terms : Terms) (g : Game) (made : ℕ) → IsStopped ⟦<Watched<D> as Disk>⟧.told ⟦<Watched<D> as Disk>⟧.size U.took g made node self.old → OneIsHeld ⟦<Watched<D> as Disk>⟧.told ⟦<Watched<D> as Disk>⟧.faults ⟦<Watched<D> as Disk>⟧.fate O.telling terms g made node self.old → StopsBy ⟦<Watched<D> as Disk>⟧.told ⟦<Watched<D> as Disk>⟧.faults ⟦<Watched<D> as Disk>⟧.fate O.telling U.faults U.fate terms g result made self.new }
+        ensures restarted { OnOk result (Changes WasRestarted node self.old self.new) }
     {
         let most = self.restarts;
         'tries: while self.tries(node) < most {
@@ -220,6 +236,7 @@ impl<D: Disk, O: Oracle, U: Outlet> Run<D, O, U> {
         ensures moves { OnOk result (Moves ⟦<Watched<D> as Disk>⟧.told ⟦<Watched<D> as Disk>⟧.size U.took (λ g. Visited g node) node self.old self.new) }
         ensures refused { (terms : Terms) (made : ℕ) → node < made → AreRefused U.faults U.fate terms made self.old → RefusedRunBy U.faults U.fate terms result made self.new }
         ensures stops { (terms : Terms) (g : Game) (made : ℕ) → IsRunning ⟦<Watched<D> as Disk>⟧.told ⟦<Watched<D> as Disk>⟧.size U.took g made self.old → node < made → AreAccounted ⟦<Watched<D> as Disk>⟧.told ⟦<Watched<D> as Disk>⟧.faults ⟦<Watched<D> as Disk>⟧.fate O.telling terms g made self.old → AreRefused U.faults U.fate terms made self.old → StopsBy ⟦<Watched<D> as Disk>⟧.told ⟦<Watched<D> as Disk>⟧.faults ⟦<Watched<D> as Disk>⟧.fate O.telling U.faults U.fate terms g result made self.new }
+        ensures visited { OnOk result (Changes (WasVisited ⟦<Watched<D> as Disk>⟧.told) node self.old self.new) }
     {
         match self.work(node) {
             Ok(()) => Ok(()),
@@ -241,6 +258,7 @@ impl<D: Disk, O: Oracle, U: Outlet> Run<D, O, U> {
         ensures moves { OnOk result (AllMoved ⟦<Watched<D> as Disk>⟧.told ⟦<Watched<D> as Disk>⟧.size U.took Passed self.old self.new) }
         ensures refused { (terms : Terms) (made : ℕ) → self.old.nodes ≤ made → AreRefused U.faults U.fate terms made self.old → RefusedRunBy U.faults U.fate terms result made self.new }
         ensures stops { (terms : Terms) (g : Game) (made : ℕ) → IsRunning ⟦<Watched<D> as Disk>⟧.told ⟦<Watched<D> as Disk>⟧.size U.took g made self.old → AreAccounted ⟦<Watched<D> as Disk>⟧.told ⟦<Watched<D> as Disk>⟧.faults ⟦<Watched<D> as Disk>⟧.fate O.telling terms g made self.old → AreRefused U.faults U.fate terms made self.old → StopsBy ⟦<Watched<D> as Disk>⟧.told ⟦<Watched<D> as Disk>⟧.faults ⟦<Watched<D> as Disk>⟧.fate O.telling U.faults U.fate terms g result made self.new }
+        ensures visited { OnOk result (AllVisited ⟦<Watched<D> as Disk>⟧.told self.old self.new) }
     {
         for node in 0..self.nodes {
             self.visit(node)?;

@@ -15,7 +15,7 @@ ghost use Rattle.ken_node.specs.Down.{IsDown, MayRestart};
 ghost use Rattle.ken_node.specs.NodeCalls.{DisksFailBy, EmitStepsBy, HearSteps, SendSteps, UnlessMemory};
 ghost use Rattle.ken_node.specs.NodeTurns.{TurnStepsBy};
 ghost use Rattle.ken_node.specs.Synced.{IsSynced};
-ghost use Rattle.ken_node.specs.Stages.{HasDisks, emissions_in, refusals_in};
+ghost use Rattle.ken_node.specs.Stages.{HasDisks, emissions_in, image_told, refusals_in};
 ghost use Rattle.ken_node.specs.Up.{IsUp, MayBeCalled, MayBeCalledOn, MayTakeTurns};
 ghost use Rattle.ken_drive.specs.Accounts.{AccountsStation, IsHeld, Terms};
 ghost use Rattle.ken_drive.specs.Ends.{WereGiven, WerePut};
@@ -63,6 +63,7 @@ impl<D: Disk, O: Oracle, U: Outlet> Station<D, O, U> {
         ensures origin { O.telling.origin self.new.luck ≡ O.telling.origin self.old.luck }
         ensures undrawn { IfOk result (λ took. (took ≡ Took.Turn) ⊎ (self.new.luck ≡ self.old.luck)) }
         ensures refusals { refusals_in self.new.node.stage ≡ refusals_in self.old.node.stage }
+        ensures image { image_told ⟦<Watched<D> as Disk>⟧.told self.new.node.stage ≡ image_told ⟦<Watched<D> as Disk>⟧.told self.old.node.stage }
         ensures rest { self.new ≡ record self.old { node = self.new.node; luck = self.new.luck; acks = self.new.acks } }
     {
         let mut end = end_of(alloc, &mut self.acks, &mut waiting.mail, &mut waiting.acks);

@@ -8,6 +8,9 @@ use Rattle.ken_drive.proofs.Refusals.{emit-refused}
 use Rattle.ken_drive.proofs.run.Run.emit.Goals as goal
 use Rattle.ken_flow.specs.Standstill.{Emits}
 use Rattle.ken_drive.proofs.Moves.{moves-from}
+use Rattle.std.specs.Prelude.{OnOk}
+use Rattle.ken_drive.specs.Patched.{IsNotRestarted, KeepsImage}
+use Rattle.ken_drive.proofs.Patched.{changes-at, emit-keeps}
 use Rattle.ken_drive.proofs.Moving.{emit-less, emit-moves}
 
 pub emit-requires : goal.emit-requires
@@ -66,3 +69,10 @@ returns-clause-refused g c = λ terms made low are.
     let is : slice_index_or c.args.self.now.stations.items c.args.node c.index_mut.result.now ≡ c.index_mut.result.now = sym (c.index_mut.ensures.value ∙ ap (λ k. slice_index_or c.args.self.now.stations.items k c.index_mut.result.now) c.from.ensures) in
     let up = up-before (λ w. g.D.Disk.told w.disk) (λ w. g.D.Disk.size w.disk) g.U.Outlet.took c.requires.game c.requires.made c.args.self.now c.args.node c.index_mut.result.now c.requires.running c.requires.known is in
     emit-refused g.U.Outlet.faults g.U.Outlet.fate terms made c.args.self.now (record c.args.self.now { stations = with_item c.args.self.now.stations c.from.result c.emit.new.self }) c.args.node c.index_mut.result.now c.emit.new.self low (subst (λ n. c.args.node < n) (sym c.requires.running.stands.width) c.requires.known) is (ap (λ k. slice_set c.args.self.now.stations.items k c.emit.new.self) c.from.ensures) are (λ w. g.D.Disk.told w.disk) (λ w. g.D.Disk.size w.disk) c.requires.game (c.requires.running.nodes c.args.node) _ c.emit.result (c.emit.ensures.steps c.requires.game c.args.node (c.requires.running.nodes c.args.node) up) c.emit.ensures.cause c.emit.ensures.fate
+
+pub returns-clause-called : goal.returns-clause-called
+returns-clause-called g c =
+    let is : slice_index_or c.args.self.now.stations.items c.args.node c.index_mut.result.now ≡ c.index_mut.result.now = sym (c.index_mut.ensures.value ∙ ap (λ k. slice_index_or c.args.self.now.stations.items k c.index_mut.result.now) c.from.ensures) in
+    let up = up-before (λ w. g.D.Disk.told w.disk) (λ w. g.D.Disk.size w.disk) g.U.Outlet.took c.requires.game c.requires.made c.args.self.now c.args.node c.index_mut.result.now c.requires.running c.requires.known is in
+    changes-at c.args.node c.from.result c.args.self.now (record c.args.self.now { stations = with_item c.args.self.now.stations c.from.result c.emit.new.self }) c.index_mut.result.now c.emit.new.self c.from.ensures (subst (λ n. c.args.node < n) (sym c.requires.running.stands.width) c.requires.known) is refl (λ a b. IsNotRestarted a b × OnOk c.emit.result (KeepsImage (λ w. g.D.Disk.told w.disk) a b))
+    (record { tries = ap (λ x. x.restarts) c.emit.ensures.rest; lines = ap (λ x. x.lines.items) c.emit.ensures.rest }, emit-keeps (λ w. g.D.Disk.told w.disk) (λ w. g.D.Disk.size w.disk) c.requires.game c.args.node (c.requires.running.nodes c.args.node) c.index_mut.result.now c.emit.new.self up _ c.emit.result c.emit.ensures.disks (c.emit.ensures.steps c.requires.game c.args.node (c.requires.running.nodes c.args.node) up))

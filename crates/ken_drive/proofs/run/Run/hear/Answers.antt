@@ -5,6 +5,9 @@ use Rattle.ken_drive.proofs.Leaving.{may-call-on, hear-leaves, own-station, up-b
 use Rattle.ken_drive.proofs.AccountsCalls.{heard-no-further, hear-accounts, own-accounts}
 use Rattle.ken_drive.proofs.Refusals.{still-refused}
 use Rattle.ken_drive.proofs.run.Run.hear.Goals as goal
+use Rattle.ken_drive.specs.Patched.{IsNotRestarted, KeepsImage}
+use Rattle.ken_drive.proofs.Patched.{changes-at, hear-keeps, call-broken}
+use Rattle.ken_ship.specs.Laws.{packets_from}
 use Rattle.ken_drive.proofs.Moving.{hear-moves}
 
 pub hear-requires-clause-may : goal.hear-requires-clause-may
@@ -47,3 +50,18 @@ returns-clause-refused g c = λ terms made low are.
     let is : slice_index_or c.args.self.now.stations.items c.args.node c.index_mut.result.now ≡ c.index_mut.result.now = sym (c.index_mut.ensures.value ∙ ap (λ k. slice_index_or c.args.self.now.stations.items k c.index_mut.result.now) c.from.ensures) in
     let same = c.in_ok-hear.ensures.refusals in
     still-refused g.U.Outlet.faults g.U.Outlet.fate terms made c.args.self.now (record c.args.self.now { stations = with_item c.args.self.now.stations c.from.result c.hear.new.self; waiting = c.hear.new.waiting }) c.args.node c.index_mut.result.now c.hear.new.self low (subst (λ n. c.args.node < n) (sym c.requires.running.stands.width) c.requires.known) is (ap (λ k. slice_set c.args.self.now.stations.items k c.hear.new.self) c.from.ensures) are (omega (arith, same)) (ap (λ x. x.out) c.in_ok-hear.ensures.rest)
+
+pub returns-clause-called : goal.returns-clause-called
+returns-clause-called g c =
+    let is : slice_index_or c.args.self.now.stations.items c.args.node c.index_mut.result.now ≡ c.index_mut.result.now = sym (c.index_mut.ensures.value ∙ ap (λ k. slice_index_or c.args.self.now.stations.items k c.index_mut.result.now) c.from.ensures) in
+    let own = own-station (λ w. g.D.Disk.told w.disk) (λ w. g.D.Disk.size w.disk) g.U.Outlet.took c.requires.game c.requires.made c.args.self.now c.args.node c.index_mut.result.now c.requires.running c.requires.known is in
+    let up = up-before (λ w. g.D.Disk.told w.disk) (λ w. g.D.Disk.size w.disk) g.U.Outlet.took c.requires.game c.requires.made c.args.self.now c.args.node c.index_mut.result.now c.requires.running c.requires.known is in
+    let steps = c.in_ok-hear.ensures.steps c.requires.game c.args.node (c.requires.running.nodes c.args.node) up (sym own.mail.from) in
+    changes-at c.args.node c.from.result c.args.self.now (record c.args.self.now { stations = with_item c.args.self.now.stations c.from.result c.hear.new.self; waiting = c.hear.new.waiting }) c.index_mut.result.now c.hear.new.self c.from.ensures (subst (λ n. c.args.node < n) (sym c.requires.running.stands.width) c.requires.known) is refl (λ a b. IsNotRestarted a b × KeepsImage (λ w. g.D.Disk.told w.disk) a b)
+    (record { tries = ap (λ x. x.restarts) c.in_ok-hear.ensures.rest; lines = ap (λ x. x.lines.items) c.in_ok-hear.ensures.rest }, hear-keeps (λ w. g.D.Disk.told w.disk) (λ w. g.D.Disk.size w.disk) c.requires.game c.args.node (c.requires.running.nodes c.args.node) c.index_mut.result.now c.hear.new.self up steps.1.given (packets_from c.requires.game.nodes steps.1.given) c.in_ok-hear.ensures.disks (steps.1.steps (heard-no-further (λ w. g.D.Disk.told w.disk) (λ w. g.D.Disk.size w.disk) g.U.Outlet.took c.requires.game c.requires.made c.args.self.now c.args.node c.requires.running c.requires.known c.hear.new.waiting.acks steps.0 0 c.hear.new.self.node.stage steps.1)))
+
+pub returns-in_err-hear-clause-called : goal.returns-in_err-hear-clause-called
+returns-in_err-hear-clause-called g c =
+    let is : slice_index_or c.args.self.now.stations.items c.args.node c.index_mut.result.now ≡ c.index_mut.result.now = sym (c.index_mut.ensures.value ∙ ap (λ k. slice_index_or c.args.self.now.stations.items k c.index_mut.result.now) c.from.ensures) in
+    call-broken c.from_residual.result (KeepsImage (λ w. g.D.Disk.told w.disk)) c.args.node c.args.self.now (record c.args.self.now { stations = with_item c.args.self.now.stations c.from.result c.hear.new.self; waiting = c.hear.new.waiting }) c.from_residual.ensures.1
+    (changes-at c.args.node c.from.result c.args.self.now (record c.args.self.now { stations = with_item c.args.self.now.stations c.from.result c.hear.new.self; waiting = c.hear.new.waiting }) c.index_mut.result.now c.hear.new.self c.from.ensures (subst (λ n. c.args.node < n) (sym c.requires.running.stands.width) c.requires.known) is refl IsNotRestarted (record { tries = ap (λ x. x.restarts) c.in_err-hear.ensures.rest; lines = ap (λ x. x.lines.items) c.in_err-hear.ensures.rest }))

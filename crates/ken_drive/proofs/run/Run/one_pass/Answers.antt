@@ -4,6 +4,7 @@ use Rattle.ken_drive.specs.Draining.{PassedIdly}
 use Rattle.ken_drive.proofs.Draining.{outcome-failed, few-stations, may-go-on, may-still, passed-ended, passed-idly, passed-same, passed-whole}
 use Rattle.ken_drive.proofs.AccountsRestarts.{run-accounts-handed-on}
 use Rattle.ken_drive.proofs.Refusals.{run-refused-handed-on, stops-handed-on}
+use Rattle.ken_drive.proofs.Drained.{outcome-broken, pass-first, pass-last}
 use Rattle.ken_drive.proofs.run.Run.one_pass.Goals as goal
 
 pub pass-requires : goal.pass-requires
@@ -66,3 +67,15 @@ returns-clause-refused g c = λ terms game made running all are. let count = run
 pub returns-in_err-pass-clause-stops : goal.returns-in_err-pass-clause-stops
 returns-in_err-pass-clause-stops g c = λ terms game made running all accounted are.
     stops-handed-on (λ w. g.D.Disk.told w.disk) (λ w. g.D.Disk.faults w.disk) (λ w. g.D.Disk.fate w.disk) g.O.Oracle.telling g.U.Outlet.faults g.U.Outlet.fate terms game made c.pass.new.self c.from_residual.result c.in_err-pass.field-0.0 c.from_residual.ensures.1 (c.in_err-pass.ensures.stops terms game made running accounted are)
+
+pub returns-in_err-pass-clause-passes : goal.returns-in_err-pass-clause-passes
+returns-in_err-pass-clause-passes g c = outcome-broken (λ w. g.D.Disk.told w.disk) (λ w. g.D.Disk.size w.disk) g.U.Outlet.took c.args.self.now c.pass.new.self c.from_residual.result c.in_err-pass.field-0.0 c.from_residual.ensures.1
+
+pub returns-then-has_ended-clause-passes : goal.returns-then-has_ended-clause-passes
+returns-then-has_ended-clause-passes g c = pass-last (λ w. g.D.Disk.told w.disk) (λ w. g.D.Disk.size w.disk) g.U.Outlet.took c.args.self.now c.pass.new.self c.in_ok-pass.ensures.visited
+
+pub returns-then-left-clause-passes : goal.returns-then-left-clause-passes
+returns-then-left-clause-passes g c = pass-first (λ w. g.D.Disk.told w.disk) (λ w. g.D.Disk.size w.disk) g.U.Outlet.took c.args.self.now c.pass.new.self c.in_ok-pass.ensures.visited (c.has_ended.ensures.goes_on c.if-has_ended.false)
+
+pub returns-clause-passes : goal.returns-clause-passes
+returns-clause-passes g c = pass-first (λ w. g.D.Disk.told w.disk) (λ w. g.D.Disk.size w.disk) g.U.Outlet.took c.args.self.now c.pass.new.self c.in_ok-pass.ensures.visited (c.has_ended.ensures.goes_on c.if-has_ended.false)

@@ -6,6 +6,8 @@ use Rattle.ken_drive.proofs.run.Run.outputs.Goals as goal
 use Rattle.std.proofs.Common.{inl, inr, refl}
 use Rattle.ken_flow.specs.Standstill.{Emits}
 use Rattle.ken_drive.proofs.Moves.{moves-none, moves-then}
+use Rattle.ken_drive.specs.Patched.{IsNotRestarted, KeepsImage}
+use Rattle.ken_drive.proofs.Patched.{call-broken, changes-none, err-still, not-restarted, ok-still, still-then, keeps-image, keeps-image-then, went-then}
 use Rattle.ken_drive.proofs.Visits.{MayEmit, less-then, may-emit-then}
 
 pub emit-requires : goal.emit-requires
@@ -17,6 +19,7 @@ outputs-init g c = record {
   moved = moves-none (λ w. g.D.Disk.told w.disk) (λ w. g.D.Disk.size w.disk) g.U.Outlet.took (λ game. MayEmit c.args.node) c.args.node c.args.self.now (λ game f. inl refl);
   accounts = λ terms game made running low accounted. accounted;
   refused = λ terms made low are. are;
+  called = changes-none (λ a b. IsNotRestarted a b × KeepsImage (λ w. g.D.Disk.told w.disk) a b) c.args.node c.args.self.now (λ a. (not-restarted a, keeps-image (λ w. g.D.Disk.told w.disk) a));
 }
 
 pub returns-in_err-emit-clause-leaves : goal.returns-in_err-emit-clause-leaves
@@ -38,6 +41,7 @@ outputs-preserved g c = record {
   moved = moves-then (λ w. g.D.Disk.told w.disk) (λ w. g.D.Disk.size w.disk) g.U.Outlet.took (λ game. MayEmit c.args.node) (λ game. Emits c.args.node) (λ game. MayEmit c.args.node) c.args.node c.args.self.now c.outputs.self c.emit.new.self (λ game f f2 f3 a b. inr (may-emit-then c.args.node f f2 f3 a b)) c.outputs.invariant.moved c.in_ok-emit.ensures.moves;
   accounts = λ terms game made running low accounted. c.in_ok-emit.ensures.accounts terms game made (c.outputs.invariant.up game made running low) low (c.outputs.invariant.accounts terms game made running low accounted);
   refused = λ terms made low are. c.in_ok-emit.ensures.refused terms made low (c.outputs.invariant.refused terms made low are);
+  called = went-then (λ w. g.D.Disk.told w.disk) (KeepsImage (λ w. g.D.Disk.told w.disk)) (KeepsImage (λ w. g.D.Disk.told w.disk)) (KeepsImage (λ w. g.D.Disk.told w.disk)) c.args.node c.args.self.now c.outputs.self c.emit.new.self (keeps-image-then (λ w. g.D.Disk.told w.disk)) c.outputs.invariant.called c.in_ok-emit.ensures.called;
 }
 
 pub returns-clause-leaves : goal.returns-clause-leaves
@@ -55,3 +59,11 @@ returns-in_err-emit-clause-refused g c = λ terms made low are.
 
 pub returns-clause-refused : goal.returns-clause-refused
 returns-clause-refused g c = λ terms made low are. c.in_ok-emit.ensures.refused terms made low (c.outputs.invariant.refused terms made low are)
+
+pub returns-clause-called : goal.returns-clause-called
+returns-clause-called g c = went-then (λ w. g.D.Disk.told w.disk) (KeepsImage (λ w. g.D.Disk.told w.disk)) (KeepsImage (λ w. g.D.Disk.told w.disk)) (KeepsImage (λ w. g.D.Disk.told w.disk)) c.args.node c.args.self.now c.outputs.self c.emit.new.self (keeps-image-then (λ w. g.D.Disk.told w.disk)) c.outputs.invariant.called c.in_ok-emit.ensures.called
+
+pub returns-in_err-emit-clause-called : goal.returns-in_err-emit-clause-called
+returns-in_err-emit-clause-called g c =
+    call-broken c.from_residual.result (KeepsImage (λ w. g.D.Disk.told w.disk)) c.args.node c.args.self.now c.emit.new.self c.from_residual.ensures.1
+    (still-then c.args.node c.args.self.now c.outputs.self c.emit.new.self (ok-still (KeepsImage (λ w. g.D.Disk.told w.disk)) c.args.node c.args.self.now c.outputs.self c.outputs.invariant.called) (err-still c.args.node c.outputs.self c.emit.new.self c.in_err-emit.ensures.called))

@@ -4,10 +4,11 @@ use Rattle.ken_drive.proofs.AccountsRestarts.{run-accounts-handed-on}
 use Rattle.ken_drive.proofs.Leaving.{run-handed-on}
 use Rattle.ken_drive.proofs.Refusals.{run-refused-handed-on, stops-handed-on}
 use Rattle.ken_drive.proofs.run.Run.pass.Goals as goal
+use Rattle.ken_drive.proofs.Patched.{visited-all, visited-more, visited-none}
 use Rattle.ken_drive.proofs.Visits.{pass-all, pass-more, pass-none}
 
 pub loop-node-init : goal.loop-node-init
-loop-node-init g c = record { refused = λ terms made most are. are; accounts = λ terms game made running accounted. accounted; up = λ game made running. running; moved = pass-none (λ w. g.D.Disk.told w.disk) (λ w. g.D.Disk.size w.disk) g.U.Outlet.took c.args.self.now }
+loop-node-init g c = record { visited = visited-none (λ w. g.D.Disk.told w.disk) c.args.self.now; refused = λ terms made most are. are; accounts = λ terms game made running accounted. accounted; up = λ game made running. running; moved = pass-none (λ w. g.D.Disk.told w.disk) (λ w. g.D.Disk.size w.disk) g.U.Outlet.took c.args.self.now }
 
 pub visit-requires : goal.visit-requires
 visit-requires g c = record {
@@ -33,6 +34,7 @@ loop-node-preserved g c = record {
   moved = pass-more (λ w. g.D.Disk.told w.disk) (λ w. g.D.Disk.size w.disk) g.U.Outlet.took c.loop-node.node c.args.self.now c.loop-node.self c.visit.new.self c.loop-node.invariant.moved c.in_ok-visit.ensures.moves
       (λ game made running. subst (λ n. c.loop-node.node < n) running.stands.count c.loop-node-test.true);
   accounts = λ terms game made running accounted. c.in_ok-visit.ensures.accounts terms game made (c.loop-node.invariant.up game made running) (subst (λ n. c.loop-node.node < n) running.stands.count c.loop-node-test.true) (c.loop-node.invariant.accounts terms game made running accounted);
+  visited = visited-more (λ w. g.D.Disk.told w.disk) c.loop-node.node c.args.self.now c.loop-node.self c.visit.new.self c.loop-node.invariant.visited c.in_ok-visit.ensures.visited;
   refused = λ terms made most are. c.in_ok-visit.ensures.refused terms made (omega (arith, c.loop-node-test.true, most)) (c.loop-node.invariant.refused terms made most are);
 }
 
@@ -52,3 +54,11 @@ returns-in_err-visit-clause-stops g c = λ terms game made running accounted are
     let count = running.stands.count in
     stops-handed-on (λ w. g.D.Disk.told w.disk) (λ w. g.D.Disk.faults w.disk) (λ w. g.D.Disk.fate w.disk) g.O.Oracle.telling g.U.Outlet.faults g.U.Outlet.fate terms game made c.visit.new.self c.from_residual.result c.in_err-visit.field-0.0 c.from_residual.ensures.1
     (c.in_err-visit.ensures.stops terms game made (c.loop-node.invariant.up game made running) low (c.loop-node.invariant.accounts terms game made running accounted) (c.loop-node.invariant.refused terms made (omega (arith, count)) are))
+
+pub returns-clause-visited : goal.returns-clause-visited
+returns-clause-visited g c =
+    let count = c.requires.running.stands.count in
+    let width = c.requires.running.stands.width in
+    let past = c.loop-node-test.false in
+    let within = c.loop-node.auto.node-end in
+    visited-all (λ w. g.D.Disk.told w.disk) c.loop-node.node c.args.self.now c.loop-node.self c.loop-node.invariant.visited (omega (arith, count, width, past, within))

@@ -8,6 +8,9 @@ use Rattle.ken_drive.proofs.Refusals.{call-refused, patch-tells-none}
 use Rattle.ken_drive.proofs.run.Run.patch.Goals as goal
 use Rattle.ken_flow.specs.Standstill.{Written}
 use Rattle.ken_drive.proofs.Moves.{moves-from}
+use Rattle.std.specs.Prelude.{OnOk}
+use Rattle.ken_drive.specs.Patched.{IsNotRestarted, MaySync, IsPatched}
+use Rattle.ken_drive.proofs.Patched.{changes-at, on-ok-all, patch-patched, station-now}
 use Rattle.ken_drive.proofs.Moving.{patch-less, patch-moves}
 
 pub patch-requires : goal.patch-requires
@@ -69,3 +72,16 @@ returns-clause-refused g c = λ terms made low are.
     let same = c.patch.ensures.refusals in
     call-refused g.U.Outlet.faults g.U.Outlet.fate terms made c.args.self.now (record c.args.self.now { stations = with_item c.args.self.now.stations c.from.result (record c.index_mut.result.now { node = c.patch.new.self }) }) c.args.node c.index_mut.result.now (record c.index_mut.result.now { node = c.patch.new.self }) low (subst (λ n. c.args.node < n) (sym c.requires.running.stands.width) c.requires.known) is (ap (λ k. slice_set c.args.self.now.stations.items k (record c.index_mut.result.now { node = c.patch.new.self })) c.from.ensures) are c.patch.result
     (patch-tells-none (λ w. g.D.Disk.told w.disk) (λ w. g.D.Disk.size w.disk) c.requires.game c.args.node (c.requires.running.nodes c.args.node) c.patch.new.self.stage c.patch.result (c.patch.ensures.steps c.requires.game c.args.node (c.requires.running.nodes c.args.node) up)) (omega (arith, same)) refl
+
+pub returns-clause-called : goal.returns-clause-called
+returns-clause-called g c =
+    let is : slice_index_or c.args.self.now.stations.items c.args.node c.index_mut.result.now ≡ c.index_mut.result.now = sym (c.index_mut.ensures.value ∙ ap (λ k. slice_index_or c.args.self.now.stations.items k c.index_mut.result.now) c.from.ensures) in
+    changes-at c.args.node c.from.result c.args.self.now (record c.args.self.now { stations = with_item c.args.self.now.stations c.from.result (record c.index_mut.result.now { node = c.patch.new.self }) }) c.index_mut.result.now (record c.index_mut.result.now { node = c.patch.new.self }) c.from.ensures (subst (λ n. c.args.node < n) (sym c.requires.running.stands.width) c.requires.known) is refl (λ a b. IsNotRestarted a b × OnOk c.patch.result (MaySync (λ w. g.D.Disk.told w.disk) a b))
+    (record { tries = refl; lines = refl }, on-ok-all c.patch.result c.patch.ensures.image)
+
+pub returns-clause-patched : goal.returns-clause-patched
+returns-clause-patched g c = λ was d.
+    let is : slice_index_or c.args.self.now.stations.items c.args.node c.index_mut.result.now ≡ c.index_mut.result.now = sym (c.index_mut.ensures.value ∙ ap (λ k. slice_index_or c.args.self.now.stations.items k c.index_mut.result.now) c.from.ensures) in
+    let up = up-before (λ w. g.D.Disk.told w.disk) (λ w. g.D.Disk.size w.disk) g.U.Outlet.took c.requires.game c.requires.made c.args.self.now c.args.node c.index_mut.result.now c.requires.running c.requires.known is in
+    subst (λ x. IsPatched x.node.stage) (sym (station-now c.args.node c.from.result c.args.self.now (record c.args.self.now { stations = with_item c.args.self.now.stations c.from.result (record c.index_mut.result.now { node = c.patch.new.self }) }) c.index_mut.result.now (record c.index_mut.result.now { node = c.patch.new.self }) c.from.ensures (subst (λ n. c.args.node < n) (sym c.requires.running.stands.width) c.requires.known) is refl d))
+    (patch-patched (λ w. g.D.Disk.told w.disk) (λ w. g.D.Disk.size w.disk) c.requires.game c.args.node (c.requires.running.nodes c.args.node) c.index_mut.result.now (record c.index_mut.result.now { node = c.patch.new.self }) up c.patch.result was (c.patch.ensures.steps c.requires.game c.args.node (c.requires.running.nodes c.args.node) up))

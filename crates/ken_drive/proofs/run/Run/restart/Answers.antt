@@ -8,10 +8,13 @@ use Rattle.ken_drive.proofs.Refusals.{used-up-of}
 use Rattle.ken_drive.proofs.run.Run.restart.Goals as goal
 use Rattle.ken_ship.specs.declared.faults.NodeFault.{NodeFault}
 use Rattle.ken_node.specs.NodeCalls.{UnlessMemory}
+use Rattle.ken_ship.specs.declared.faults.NodeFault.TheVariants.{Disk}
+use Rattle.ken_drive.specs.Patched.{Changes, TriesBy, WasRestarted}
+use Rattle.ken_drive.proofs.Patched.{MayHaveTried, changes-none, changes-then, none-tried, tried-last, tried-more}
 use Rattle.ken_drive.specs.Flowing.{work_left}
 
 pub tries-init : goal.tries-init
-tries-init g c = record { refused = λ terms made low are. are; most_was = refl; accounts = λ terms game made stopped held. held; down = λ game made stopped. stopped; less = omega arith; most_is = refl }
+tries-init g c = record { tried = changes-none MayHaveTried c.args.node c.args.self.now none-tried; refused = λ terms made low are. are; most_was = refl; accounts = λ terms game made stopped held. held; down = λ game made stopped. stopped; less = omega arith; most_is = refl }
 
 pub tries-requires : goal.tries-requires
 tries-requires g c = let stopped = c.tries.invariant.down c.requires.game c.requires.made c.requires.stopped in subst (λ n. c.args.node < n) (sym stopped.stands.width) stopped.known
@@ -47,6 +50,8 @@ tries-preserved g c = record {
       subst (λ x. AccountsFault (λ w. g.D.Disk.told w.disk) (λ w. g.D.Disk.faults w.disk) (λ w. g.D.Disk.fate w.disk) g.O.Oracle.telling terms game x made c.args.node c.restart_once.new.self) c.in-Err-Disk.field-0-is (c.in-Err-Disk.ensures.accounts terms game made (c.tries.invariant.down game made stopped) held.most (c.tries.invariant.accounts terms game made stopped held));
   refused = λ terms made low are.
       subst (λ x. RefusedFault g.U.Outlet.faults g.U.Outlet.fate terms x made c.args.node c.restart_once.new.self) c.in-Err-Disk.field-0-is (c.in-Err-Disk.ensures.refused terms made low (c.tries.invariant.refused terms made low are));
+  tried = changes-then MayHaveTried (TriesBy (Err Disk)) MayHaveTried c.args.node c.args.self.now c.tries.self c.restart_once.new.self tried-more c.tries.invariant.tried
+      (subst (λ (x : NodeFault). Changes (TriesBy (Err x)) c.args.node c.tries.self c.restart_once.new.self) c.in-Err-Disk.field-0-is c.in-Err-Disk.ensures.restarted);
   most_was = c.in-Err-Disk.ensures.same ∙ c.tries.invariant.most_was;
 }
 
@@ -75,3 +80,6 @@ returns-clause-stops g c = λ terms game made stopped held.
 pub returns-in-Err-Damaged-clause-leaves : goal.returns-in-Err-Damaged-clause-leaves
 returns-in-Err-Damaged-clause-leaves g c = λ game made stopped.
     subst (λ x. LeavesFault (λ w. g.D.Disk.told w.disk) (λ w. g.D.Disk.size w.disk) g.U.Outlet.took x game made c.args.node c.restart_once.new.self) c.in-Err-Damaged.field-0-is (c.in-Err-Damaged.ensures.leaves game made (c.tries.invariant.down game made stopped))
+
+pub returns-in-Ok-clause-restarted : goal.returns-in-Ok-clause-restarted
+returns-in-Ok-clause-restarted g c = changes-then MayHaveTried WasRestarted WasRestarted c.args.node c.args.self.now c.tries.self c.restart_once.new.self tried-last c.tries.invariant.tried c.in-Ok.ensures.restarted

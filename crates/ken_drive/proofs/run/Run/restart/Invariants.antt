@@ -1,7 +1,9 @@
 use Rattle.std.proofs.Common.{◌≡◌, ◌-◌, ◌≤◌}
 use Rattle.ken_drive.specs.Accounts.{StaysHeld}
 use Rattle.ken_drive.specs.Left.{tries_at}
+use Rattle.ken_drive.specs.Patched.{Changes}
 use Rattle.ken_drive.specs.Refusals.{StaysRefused}
+use Rattle.ken_drive.proofs.Patched.{MayHaveTried}
 use Rattle.ken_drive.specs.Running.{StaysDown}
 use Rattle.ken_drive.proofs.run.Run.restart.Given as goal
 use Rattle.ken_drive.specs.Flowing.{work_left}
@@ -13,6 +15,7 @@ invariant-tries g l = record {
   most_is : l.most ≡ l.self.restarts;
   accounts : StaysHeld (λ w. g.D.Disk.told w.disk) (λ w. g.D.Disk.size w.disk) g.U.Outlet.took (λ w. g.D.Disk.faults w.disk) (λ w. g.D.Disk.fate w.disk) g.O.Oracle.telling l.node l.fn.self l.self;
   refused : StaysRefused g.U.Outlet.faults g.U.Outlet.fate l.node l.fn.self l.self;
+  tried : Changes MayHaveTried l.node l.fn.self l.self;
   most_was : l.self.restarts ≡ l.fn.self.restarts;
 }
 

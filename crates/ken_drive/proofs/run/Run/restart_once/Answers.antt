@@ -6,6 +6,8 @@ use Rattle.ken_drive.proofs.AccountsRestarts.{held-before, restart-accounts}
 use Rattle.ken_drive.proofs.Leaving.{restart-leaves, restart-tried, tries-after, tries-is}
 use Rattle.ken_drive.proofs.Refusals.{call-refused, restart-tells-none}
 use Rattle.ken_drive.proofs.run.Run.restart_once.Goals as goal
+use Rattle.ken_drive.specs.Patched.{TriesBy}
+use Rattle.ken_drive.proofs.Patched.{changes-at, tries-by}
 use Rattle.ken_drive.proofs.Restarting.{restart-worked}
 
 pub restart-requires-clause-may : goal.restart-requires-clause-may
@@ -70,3 +72,11 @@ returns-clause-refused g c = λ terms made low are.
     (restart-tells-none (λ w. g.D.Disk.told w.disk) (λ w. g.D.Disk.size w.disk) c.requires.may.game c.args.node stopped.given (stopped.nodes c.args.node) stopped.doubt c.index_mut.result.now c.restart.new.self c.restart.result
     (c.restart.ensures.back c.requires.may.game c.args.node stopped.given (stopped.nodes c.args.node) stopped.doubt (subst (λ x. IsDown (λ w. g.D.Disk.told w.disk) c.requires.may.game c.args.node stopped.given (stopped.nodes c.args.node) stopped.doubt x.node.stage) is (stopped.down c.index_mut.result.now))))
     c.restart.ensures.refusals (ap (λ x. x.out) c.restart.ensures.rest)
+
+pub returns-clause-restarted : goal.returns-clause-restarted
+returns-clause-restarted g c =
+    let stopped = c.requires.may.stopped in
+    let is : slice_index_or c.args.self.now.stations.items c.args.node c.index_mut.result.now ≡ c.index_mut.result.now = sym (c.index_mut.ensures.value ∙ ap (λ k. slice_index_or c.args.self.now.stations.items k c.index_mut.result.now) c.from.ensures) in
+    changes-at c.args.node c.from.result c.args.self.now (record c.args.self.now { stations = with_item c.args.self.now.stations c.from.result c.restart.new.self }) c.index_mut.result.now c.restart.new.self c.from.ensures (subst (λ n. c.args.node < n) (sym stopped.stands.width) stopped.known) is refl (TriesBy c.restart.result)
+    (tries-by (λ w. g.D.Disk.told w.disk) (λ w. g.D.Disk.size w.disk) c.requires.may.game c.args.node stopped.given (stopped.nodes c.args.node) stopped.doubt c.index_mut.result.now c.restart.new.self c.restart.result
+    (c.restart.ensures.back c.requires.may.game c.args.node stopped.given (stopped.nodes c.args.node) stopped.doubt (subst (λ x. IsDown (λ w. g.D.Disk.told w.disk) c.requires.may.game c.args.node stopped.given (stopped.nodes c.args.node) stopped.doubt x.node.stage) is (stopped.down c.index_mut.result.now))))

@@ -7,6 +7,9 @@ use Rattle.ken_drive.proofs.Refusals.{call-refused, settle-tells-none}
 use Rattle.ken_drive.proofs.run.Run.settle.Goals as goal
 use Rattle.ken_flow.specs.Standstill.{Written}
 use Rattle.ken_drive.proofs.Moves.{moves-from}
+use Rattle.std.specs.Prelude.{OnOk}
+use Rattle.ken_drive.specs.Patched.{IsNotRestarted, HasSettled}
+use Rattle.ken_drive.proofs.Patched.{changes-at, settle-settled}
 use Rattle.ken_drive.proofs.Moving.{settle-less, settle-moves}
 
 pub settle-requires : goal.settle-requires
@@ -57,3 +60,10 @@ returns-clause-refused g c = λ terms made low are.
     let same = c.settle.ensures.refusals in
     call-refused g.U.Outlet.faults g.U.Outlet.fate terms made c.args.self.now (record c.args.self.now { stations = with_item c.args.self.now.stations c.from.result (record c.index_mut.result.now { node = c.settle.new.self }) }) c.args.node c.index_mut.result.now (record c.index_mut.result.now { node = c.settle.new.self }) low (subst (λ n. c.args.node < n) (sym c.requires.running.stands.width) c.requires.known) is (ap (λ k. slice_set c.args.self.now.stations.items k (record c.index_mut.result.now { node = c.settle.new.self })) c.from.ensures) are c.settle.result
     (settle-tells-none (λ w. g.D.Disk.told w.disk) (λ w. g.D.Disk.size w.disk) c.requires.game c.args.node (c.requires.running.nodes c.args.node) c.settle.new.self.stage c.settle.result (c.settle.ensures.steps c.requires.game c.args.node (c.requires.running.nodes c.args.node) up)) (omega (arith, same)) refl
+
+pub returns-clause-called : goal.returns-clause-called
+returns-clause-called g c =
+    let is : slice_index_or c.args.self.now.stations.items c.args.node c.index_mut.result.now ≡ c.index_mut.result.now = sym (c.index_mut.ensures.value ∙ ap (λ k. slice_index_or c.args.self.now.stations.items k c.index_mut.result.now) c.from.ensures) in
+    let up = up-before (λ w. g.D.Disk.told w.disk) (λ w. g.D.Disk.size w.disk) g.U.Outlet.took c.requires.game c.requires.made c.args.self.now c.args.node c.index_mut.result.now c.requires.running c.requires.known is in
+    changes-at c.args.node c.from.result c.args.self.now (record c.args.self.now { stations = with_item c.args.self.now.stations c.from.result (record c.index_mut.result.now { node = c.settle.new.self }) }) c.index_mut.result.now (record c.index_mut.result.now { node = c.settle.new.self }) c.from.ensures (subst (λ n. c.args.node < n) (sym c.requires.running.stands.width) c.requires.known) is refl (λ a b. IsNotRestarted a b × OnOk c.settle.result (HasSettled (λ w. g.D.Disk.told w.disk) a b))
+    (record { tries = refl; lines = refl }, settle-settled (λ w. g.D.Disk.told w.disk) (λ w. g.D.Disk.size w.disk) c.requires.game c.args.node (c.requires.running.nodes c.args.node) c.index_mut.result.now (record c.index_mut.result.now { node = c.settle.new.self }) up c.settle.result (c.settle.ensures.steps c.requires.game c.args.node (c.requires.running.nodes c.args.node) up) c.settle.ensures.image)

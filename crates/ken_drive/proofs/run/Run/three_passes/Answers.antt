@@ -5,6 +5,7 @@ use Rattle.ken_drive.specs.Draining.{LessIsOpen, PassedIdly}
 use Rattle.ken_drive.proofs.Draining.{outcome-done, outcome-is, outcome-then, may-still, stays-then, three-less}
 use Rattle.ken_drive.proofs.AccountsRestarts.{run-accounts-handed-on}
 use Rattle.ken_drive.proofs.Refusals.{run-refused-handed-on, stops-handed-on}
+use Rattle.ken_drive.proofs.Drained.{outcome-after, outcome-broken, outcome-to, passes-then}
 use Rattle.ken_drive.proofs.run.Run.three_passes.Goals as goal
 
 pub one_pass-requires-2-clause-may : goal.one_pass-requires-2-clause-may
@@ -85,3 +86,17 @@ returns-clause-stops g c = λ terms game made running all accounted are.
 pub returns-in_err-outcome-clause-stops : goal.returns-in_err-outcome-clause-stops
 returns-in_err-outcome-clause-stops g c = λ terms game made running all accounted are.
     stops-handed-on (λ w. g.D.Disk.told w.disk) (λ w. g.D.Disk.faults w.disk) (λ w. g.D.Disk.fate w.disk) g.O.Oracle.telling g.U.Outlet.faults g.U.Outlet.fate terms game made c.one_pass.new.self c.from_residual.result c.in_err-outcome.field-0.0 c.from_residual.ensures.1 (c.in_err-outcome.ensures.stops terms game made running all accounted are)
+
+pub returns-in_err-outcome-clause-passes : goal.returns-in_err-outcome-clause-passes
+returns-in_err-outcome-clause-passes g c = outcome-broken (λ w. g.D.Disk.told w.disk) (λ w. g.D.Disk.size w.disk) g.U.Outlet.took c.args.self.now c.one_pass.new.self c.from_residual.result c.in_err-outcome.field-0.0 c.from_residual.ensures.1
+
+pub returns-in_err-outcome-2-clause-passes : goal.returns-in_err-outcome-2-clause-passes
+returns-in_err-outcome-2-clause-passes g c = outcome-broken (λ w. g.D.Disk.told w.disk) (λ w. g.D.Disk.size w.disk) g.U.Outlet.took c.args.self.now c.one_pass-2.new.self c.from_residual-in_err-outcome-2.result c.in_err-outcome-2.field-0.0 c.from_residual-in_err-outcome-2.ensures.1
+
+pub returns-in_default-2-clause-passes : goal.returns-in_default-2-clause-passes
+returns-in_default-2-clause-passes g c = outcome-after (λ w. g.D.Disk.told w.disk) (λ w. g.D.Disk.size w.disk) g.U.Outlet.took c.args.self.now c.one_pass.new.self c.one_pass-2.new.self (Ok c.in_ok-outcome-2.outcome) (outcome-to (λ w. g.D.Disk.told w.disk) (λ w. g.D.Disk.size w.disk) g.U.Outlet.took c.args.self.now c.one_pass.new.self c.in_ok-outcome.outcome Idle c.in-Idle.is c.in_ok-outcome.ensures.passes) c.in_ok-outcome-2.ensures.passes
+
+pub returns-clause-passes : goal.returns-clause-passes
+returns-clause-passes g c =
+    outcome-after (λ w. g.D.Disk.told w.disk) (λ w. g.D.Disk.size w.disk) g.U.Outlet.took c.args.self.now c.one_pass-2.new.self c.one_pass-3.new.self c.one_pass-3.result
+    (passes-then (λ w. g.D.Disk.told w.disk) (λ w. g.D.Disk.size w.disk) g.U.Outlet.took c.args.self.now c.one_pass.new.self c.one_pass-2.new.self (outcome-to (λ w. g.D.Disk.told w.disk) (λ w. g.D.Disk.size w.disk) g.U.Outlet.took c.args.self.now c.one_pass.new.self c.in_ok-outcome.outcome Idle c.in-Idle.is c.in_ok-outcome.ensures.passes) (outcome-to (λ w. g.D.Disk.told w.disk) (λ w. g.D.Disk.size w.disk) g.U.Outlet.took c.one_pass.new.self c.one_pass-2.new.self c.in_ok-outcome-2.outcome Idle c.in-Idle-2.is c.in_ok-outcome-2.ensures.passes)) c.one_pass-3.ensures.passes

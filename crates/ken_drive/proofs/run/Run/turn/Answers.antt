@@ -8,7 +8,10 @@ use Rattle.ken_drive.proofs.Refusals.{call-refused, turn-tells-none}
 use Rattle.ken_drive.proofs.run.Run.turn.Goals as goal
 use Rattle.ken_flow.specs.Standstill.{Rested}
 use Rattle.ken_drive.proofs.Moves.{moves-from}
-use Rattle.ken_drive.proofs.Turning.{turn-less, turn-moves, turn-worked}
+use Rattle.std.specs.Prelude.{OnOk}
+use Rattle.ken_drive.specs.Patched.{IsNotRestarted, MaySync}
+use Rattle.ken_drive.proofs.Patched.{changes-at, on-ok-all, same-may-sync}
+use Rattle.ken_drive.proofs.Turning.{turn-less, turn-moves, turn-worked, turn-rests}
 
 pub turn-requires-clause-may : goal.turn-requires-clause-may
 turn-requires-clause-may g c =
@@ -94,3 +97,18 @@ returns-clause-refused g c = λ terms made low are.
     let same = c.turn.ensures.refusals in
     call-refused g.U.Outlet.faults g.U.Outlet.fate terms made c.args.self.now (record c.args.self.now { stations = with_item c.args.self.now.stations c.from.result c.turn.new.self; waiting = c.turn.new.waiting }) c.args.node c.index_mut.result.now c.turn.new.self low (subst (λ n. c.args.node < n) (sym c.requires.running.stands.width) c.requires.known) is (ap (λ k. slice_set c.args.self.now.stations.items k c.turn.new.self) c.from.ensures) are c.turn.result
     (turn-tells-none (λ w. g.D.Disk.told w.disk) (λ w. g.D.Disk.size w.disk) c.requires.game c.args.node (c.requires.running.nodes c.args.node) _ _ _ 0 steps.0 up.handler c.turn.new.self.node.stage c.turn.result steps.1) (omega (arith, same)) (ap (λ x. x.out) c.turn.ensures.rest)
+
+pub returns-clause-called : goal.returns-clause-called
+returns-clause-called g c =
+    let is : slice_index_or c.args.self.now.stations.items c.args.node c.index_mut.result.now ≡ c.index_mut.result.now = sym (c.index_mut.ensures.value ∙ ap (λ k. slice_index_or c.args.self.now.stations.items k c.index_mut.result.now) c.from.ensures) in
+    changes-at c.args.node c.from.result c.args.self.now (record c.args.self.now { stations = with_item c.args.self.now.stations c.from.result c.turn.new.self; waiting = c.turn.new.waiting }) c.index_mut.result.now c.turn.new.self c.from.ensures (subst (λ n. c.args.node < n) (sym c.requires.running.stands.width) c.requires.known) is refl (λ a b. IsNotRestarted a b × OnOk c.turn.result (MaySync (λ w. g.D.Disk.told w.disk) a b))
+    (record { tries = ap (λ x. x.restarts) c.turn.ensures.rest; lines = ap (λ x. x.lines.items) c.turn.ensures.rest }, on-ok-all c.turn.result (same-may-sync (λ w. g.D.Disk.told w.disk) c.index_mut.result.now c.turn.new.self c.turn.ensures.image))
+
+pub returns-clause-rests : goal.returns-clause-rests
+returns-clause-rests g c =
+    let is : slice_index_or c.args.self.now.stations.items c.args.node c.index_mut.result.now ≡ c.index_mut.result.now = sym (c.index_mut.ensures.value ∙ ap (λ k. slice_index_or c.args.self.now.stations.items k c.index_mut.result.now) c.from.ensures) in
+    let own = own-station (λ w. g.D.Disk.told w.disk) (λ w. g.D.Disk.size w.disk) g.U.Outlet.took c.requires.game c.requires.made c.args.self.now c.args.node c.index_mut.result.now c.requires.running c.requires.known is in
+    let up = up-before (λ w. g.D.Disk.told w.disk) (λ w. g.D.Disk.size w.disk) g.U.Outlet.took c.requires.game c.requires.made c.args.self.now c.args.node c.index_mut.result.now c.requires.running c.requires.known is in
+    let steps = c.turn.ensures.steps c.requires.game c.args.node (c.requires.running.nodes c.args.node) up (sym own.acks.from) c.requires.running.stands.handler in
+    turn-rests (λ w. g.D.Disk.told w.disk) (λ w. g.D.Disk.size w.disk) g.U.Outlet.took c.requires.game c.requires.made c.args.self.now (record c.args.self.now { stations = with_item c.args.self.now.stations c.from.result c.turn.new.self; waiting = c.turn.new.waiting }) c.args.node c.index_mut.result.now c.turn.new.self c.requires.running c.requires.known is (refl, refl) (ap (λ k. slice_set c.args.self.now.stations.items k c.turn.new.self) c.from.ensures) refl
+    steps.0 _ up.handler c.turn.ensures.emissions c.turn.ensures.refusals c.turn.ensures.rest c.turn.result steps.1

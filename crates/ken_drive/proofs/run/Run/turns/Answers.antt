@@ -3,9 +3,11 @@ use Rattle.ken_drive.proofs.AccountsRestarts.{accounts-handed-on}
 use Rattle.ken_drive.proofs.Leaving.{handed-on, still-works, stays-first}
 use Rattle.ken_drive.proofs.Refusals.{refused-handed-on}
 use Rattle.ken_drive.proofs.run.Run.turns.Goals as goal
-use Rattle.std.proofs.Common.{◌≡◌, refl}
+use Rattle.std.proofs.Common.{◌≡◌, ⊎_elim, refl}
 use Rattle.ken_flow.specs.Standstill.{Rested}
 use Rattle.ken_drive.proofs.Moves.{moves-none, moves-then}
+use Rattle.ken_drive.specs.Patched.{IsNotRestarted, MaySync}
+use Rattle.ken_drive.proofs.Patched.{call-broken, changes-none, err-still, not-restarted, ok-still, still-then, may-sync, may-sync-then, went-then}
 use Rattle.ken_drive.proofs.Visits.{less-then, moves-worked, rested-then}
 
 pub turn-requires : goal.turn-requires
@@ -17,6 +19,7 @@ turns-init g c = record {
   moved = moves-none (λ w. g.D.Disk.told w.disk) (λ w. g.D.Disk.size w.disk) g.U.Outlet.took (λ game f f2. f2 ≡ f) c.args.node c.args.self.now (λ game f. refl);
   accounts = λ terms game made running low accounted. accounted;
   refused = λ terms made low are. are;
+  called = changes-none (λ a b. IsNotRestarted a b × MaySync (λ w. g.D.Disk.told w.disk) a b) c.args.node c.args.self.now (λ a. (not-restarted a, may-sync (λ w. g.D.Disk.told w.disk) a));
 }
 
 pub returns-in_err-turn-clause-leaves : goal.returns-in_err-turn-clause-leaves
@@ -38,6 +41,7 @@ turns-preserved g c = record {
   moved = moves-worked (λ w. g.D.Disk.told w.disk) (λ w. g.D.Disk.size w.disk) g.U.Outlet.took (λ game f f2. f2 ≡ f) (λ game f f2. f2 ≡ f) c.args.node c.args.self.now c.turns.self c.turn.new.self c.turns.invariant.moved (λ game made running low. c.in_ok-turn.ensures.leaves game made running low) (c.in_ok-turn.ensures.worked (let is = c.in-Turn.is in cc));
   accounts = λ terms game made running low accounted. c.in_ok-turn.ensures.accounts terms game made (c.turns.invariant.up game made running low) low (c.turns.invariant.accounts terms game made running low accounted);
   refused = λ terms made low are. c.in_ok-turn.ensures.refused terms made low (c.turns.invariant.refused terms made low are);
+  called = went-then (λ w. g.D.Disk.told w.disk) (MaySync (λ w. g.D.Disk.told w.disk)) (MaySync (λ w. g.D.Disk.told w.disk)) (MaySync (λ w. g.D.Disk.told w.disk)) c.args.node c.args.self.now c.turns.self c.turn.new.self (may-sync-then (λ w. g.D.Disk.told w.disk)) c.turns.invariant.called c.in_ok-turn.ensures.called;
 }
 
 pub returns-clause-leaves : goal.returns-clause-leaves
@@ -55,3 +59,14 @@ returns-in_err-turn-clause-refused g c = λ terms made low are.
 
 pub returns-clause-refused : goal.returns-clause-refused
 returns-clause-refused g c = λ terms made low are. c.in_ok-turn.ensures.refused terms made low (c.turns.invariant.refused terms made low are)
+
+pub returns-clause-called : goal.returns-clause-called
+returns-clause-called g c = went-then (λ w. g.D.Disk.told w.disk) (MaySync (λ w. g.D.Disk.told w.disk)) (MaySync (λ w. g.D.Disk.told w.disk)) (MaySync (λ w. g.D.Disk.told w.disk)) c.args.node c.args.self.now c.turns.self c.turn.new.self (may-sync-then (λ w. g.D.Disk.told w.disk)) c.turns.invariant.called c.in_ok-turn.ensures.called
+
+pub returns-in_err-turn-clause-called : goal.returns-in_err-turn-clause-called
+returns-in_err-turn-clause-called g c =
+    call-broken c.from_residual.result (MaySync (λ w. g.D.Disk.told w.disk)) c.args.node c.args.self.now c.turn.new.self c.from_residual.ensures.1
+    (still-then c.args.node c.args.self.now c.turns.self c.turn.new.self (ok-still (MaySync (λ w. g.D.Disk.told w.disk)) c.args.node c.args.self.now c.turns.self c.turns.invariant.called) (err-still c.args.node c.turns.self c.turn.new.self c.in_err-turn.ensures.called))
+
+pub returns-clause-rests : goal.returns-clause-rests
+returns-clause-rests g c = ⊎_elim (λ same. absurd (c.in_default.not-Turn same)) (λ none. none) c.in_ok-turn.ensures.rests

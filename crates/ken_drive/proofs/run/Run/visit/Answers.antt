@@ -5,6 +5,8 @@ use Rattle.ken_drive.specs.Refusals.{RefusedFault}
 use Rattle.ken_drive.specs.Running.{LeavesFault}
 use Rattle.ken_drive.proofs.run.Run.visit.Goals as goal
 use Rattle.ken_flow.specs.Standstill.{Visited}
+use Rattle.ken_drive.specs.Patched.{IsNotRestarted, IsSettledSince, WasVisited}
+use Rattle.ken_drive.proofs.Patched.{changes-as, err-still, restart-visited}
 use Rattle.ken_drive.proofs.Visits.{restarted-moves}
 
 pub restart-requires : goal.restart-requires
@@ -70,3 +72,9 @@ returns-in-Err-Outlet-clause-stops g c = λ terms game made running low accounte
 pub returns-in-Err-Damaged-clause-leaves : goal.returns-in-Err-Damaged-clause-leaves
 returns-in-Err-Damaged-clause-leaves g c = λ game made running low.
     subst (λ x. LeavesFault (λ w. g.D.Disk.told w.disk) (λ w. g.D.Disk.size w.disk) g.U.Outlet.took x game made c.args.node c.work.new.self) c.in-Err-Damaged.field-0-is (c.in-Err-Damaged.ensures.leaves game made running low)
+
+pub returns-in-Ok-clause-visited : goal.returns-in-Ok-clause-visited
+returns-in-Ok-clause-visited g c = changes-as (λ a b. IsNotRestarted a b × IsSettledSince (λ w. g.D.Disk.told w.disk) a b) (WasVisited (λ w. g.D.Disk.told w.disk)) c.args.node c.args.self.now c.work.new.self (λ a b x. inr x.1) c.in-Ok.ensures.called
+
+pub returns-in-Err-Disk-clause-visited : goal.returns-in-Err-Disk-clause-visited
+returns-in-Err-Disk-clause-visited g c = restart-visited (λ w. g.D.Disk.told w.disk) c.args.node c.args.self.now c.work.new.self c.restart.new.self c.restart.result (err-still c.args.node c.args.self.now c.work.new.self c.in-Err-Disk.ensures.called) c.restart.ensures.restarted
