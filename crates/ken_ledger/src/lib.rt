@@ -1,0 +1,10 @@
+//! A ledger over the nodes of a run: deposits, payments to other nodes, and a receipt for each.
+#![tactic(auto)]
+
+mod laws;
+mod ledger;
+#[cfg(test)]
+mod tests;
+
+pub use laws::{ledger_keeps_limits, no_payment_is_lost};
+pub use ledger::Ledger;
