@@ -1,5 +1,5 @@
 -- What the disks of a node tell of their falls.
-use Rattle.std.proofs.Common.{◌≡◌, ◌∙◌, ℕ, ◌+◌, ◌≤◌, inl, inr, Bool, true, false, List, ◌∷◌, length, Option, Some, None, Err, refl, sym, ap, subst, arith}
+use Rattle.std.proofs.Common.{◌≡◌, ◌∙◌, ℕ, ◌+◌, ◌≤◌, inl, inr, Bool, true, false, ◌∷◌, length, Option, Some, None, Err, refl, sym, ap, subst, arith}
 use Rattle.ken_disk.specs.declared.faults.DiskFault.TheVariants.{Failed}
 use Rattle.ken_disk.specs.Fates.{Fate, Origin, Raised, Suffers, fall_of}
 use Rattle.ken_disk.specs.Story.{Story, Follows}

@@ -1,7 +1,6 @@
 -- Passes one after the other.
-use Rattle.std.proofs.Common.{◌≡◌, ℕ, List, Bool, true, false, Option, Result, Ok, Err, refl, subst, sym}
+use Rattle.std.proofs.Common.{◌≡◌, ℕ, List, Bool, true, false, Option, Result, Ok, Err, refl, subst}
 use Rattle.std.specs.Result.{IsErrAnd}
-use Rattle.std.specs.Prelude.{OnOk}
 use Rattle.ken_disk.specs.Story.{Story}
 use Rattle.ken_model.specs.declared.messages.Out.{Out}
 use Rattle.ken_node.specs.declared.watched.Watched.{Watched}

@@ -1,5 +1,5 @@
 -- What the calls of a visit make of the station of a node, one after the other.
-use Rattle.std.proofs.Common.{◌≡◌, ◌≢◌, ℕ, suc, ◌+◌, ◌<◌, ◌≤◌, ◌⊎◌, inl, inr, ⊎_elim, List, [], ◌∷◌, length, slice_index_or, slice_set, Bool, true, false, Option, Some, None, Result, Ok, Err, refl, sym, ap, subst, ◌∙◌, arith}
+use Rattle.std.proofs.Common.{◌≡◌, ℕ, ◌+◌, ◌<◌, ◌≤◌, inl, inr, ⊎_elim, List, [], ◌∷◌, length, slice_index_or, slice_set, Bool, true, false, Option, Some, None, Result, Ok, Err, refl, sym, ap, subst, ◌∙◌, arith}
 use Rattle.std.specs.Prelude.{OnOk}
 use Rattle.std.specs.Result.{IsErrAnd}
 use Rattle.std.proofs.lemmas.Bool.{cases_lt}
@@ -9,7 +9,6 @@ use Rattle.ken_disk.specs.Story.{Story, Follows, IsAtRest}
 use Rattle.ken_model.specs.declared.messages.Out.{Out}
 use Rattle.ken_model.specs.Game.{Game}
 use Rattle.ken_model.specs.Network.{inputs_for, outside}
-use Rattle.ken_cover.specs.declared.layers.Layer.{Layer}
 use Rattle.ken_cover.specs.Sides.{ImagePages}
 use Rattle.ken_core.specs.Calls.{AreTaken, Doubt}
 use Rattle.ken_core.specs.Nodes.{Node}
@@ -38,7 +37,6 @@ use Rattle.ken_node.specs.Stages.{HasDisks, image_told}
 use Rattle.ken_node.specs.Synced.{HasMadeSync, KeepsSyncs}
 use Rattle.ken_node.specs.Up.{IsUp}
 use Rattle.ken_node.proofs.Quietly.{emit_keeps_ahead, none_keeps, sends_keep, sync_keeps_ahead, taken_keep_ahead}
-use Rattle.ken_drive.specs.declared.faults.RunFault.{RunFault}
 use Rattle.ken_drive.specs.declared.run.Run.{Run}
 use Rattle.ken_drive.specs.declared.station.Station.{Station}
 use Rattle.ken_drive.specs.Patched.{AllVisited, Changes, HasNoInput, HasPatched, HasSettled, IsCall, IsNotRestarted, IsPatched, IsPatchedAt, IsSettledSince, KeepsImage, MaySync, TriesBy, WasRestarted, WasVisited}
@@ -100,6 +98,25 @@ module _ {D : Type 0} (told : D → Option Story) (size : D → ℕ) (g : Game) 
       let none : length up.handler.inputs.items ≤ consumed_from up.handler.order outside = omega (arith, past, inputs, count) in
       subst HasNoInput (sym up.stage_is) none
 
+-- ---- syncs, one after the other
+
+syncs-then : (o o2 o3 : Option Story) → KeepsSyncs o o2 → KeepsSyncs o2 o3 → KeepsSyncs o o3
+syncs-then None o2 o3 one two = subst (λ (x : Option Story). KeepsSyncs x o3) one two
+syncs-then (Some h) o2 o3 one two =
+    let next = subst (λ (x : Option Story). KeepsSyncs x o3) one.1 two in
+    (next.0, next.1, let a = one.2 in let b = next.2 in omega (arith, a, b))
+
+-- a sync after some other calls
+synced-then : (o o2 o3 : Option Story) → KeepsSyncs o o2 → HasMadeSync o2 o3 → Follows (λ (a b : Story). IsAtRest b.now × (a.now.syncs < b.now.syncs)) o o3
+synced-then None o2 o3 one two = subst (λ (x : Option Story). HasMadeSync x o3) one two
+synced-then (Some h) o2 o3 one two =
+    let next = subst (λ (x : Option Story). HasMadeSync x o3) one.1 two in
+    let more = one.2 in
+    (next.0, next.1, subst (λ (b : Story). IsAtRest b.now × (h.now.syncs < b.now.syncs)) (sym next.2) (rests one.0, omega (arith, more)))
+  where
+    rests : (x : Story) → IsAtRest (after_syncing x).now
+    rests x = record { safe = refl; none = λ place is. is; within = omega arith }
+
 -- ---- the station that was called
 
 module _ {D O U : Type 0} where
@@ -150,9 +167,9 @@ module _ {D O U : Type 0} where
   pub still-then : (v : ℕ) (old mid new : Run D O U) → Changes IsNotRestarted v old mid → Changes IsNotRestarted v mid new → Changes IsNotRestarted v old new
   still-then v old mid new one two = changes-then IsNotRestarted IsNotRestarted IsNotRestarted v old mid new not-restarted-then one two
 
-  pub call-broken : {T E : Type 0} {P : E → Type 0} (result : Result T E) (how : Station D O U → Station D O U → Type 0) (v : ℕ) (old new : Run D O U) → IsErrAnd result P → Changes IsNotRestarted v old new → IsCall result how v old new
-  call-broken (Ok x) how v old new broken is = absurd broken
-  call-broken (Err e) how v old new broken is = changes-as IsNotRestarted (λ a b. IsNotRestarted a b × Unit {0}) v old new (λ a b x. (x, tt)) is
+  pub call-broken : {T E : Type 0} (P : E → Type 0) (result : Result T E) (how : Station D O U → Station D O U → Type 0) (v : ℕ) (old new : Run D O U) → IsErrAnd result P → Changes IsNotRestarted v old new → IsCall result how v old new
+  call-broken P (Ok x) how v old new broken is = absurd broken
+  call-broken P (Err e) how v old new broken is = changes-as IsNotRestarted (λ a b. IsNotRestarted a b × Unit {0}) v old new (λ a b x. (x, tt)) is
 
   -- ---- restarts
 
@@ -200,25 +217,8 @@ module _ {D O U : Type 0} where
     pub same-may-sync : (a b : Station D O U) → image_told told b.node.stage ≡ image_told told a.node.stage → MaySync told a b
     same-may-sync a b same = subst (λ (o : Option Story). KeepsSyncs (image_told told a.node.stage) o) (sym same) (may-sync a)
 
-    syncs-then : (o o2 o3 : Option Story) → KeepsSyncs o o2 → KeepsSyncs o2 o3 → KeepsSyncs o o3
-    syncs-then None o2 o3 one two = subst (λ (x : Option Story). KeepsSyncs x o3) one two
-    syncs-then (Some h) o2 o3 one two =
-        let next = subst (λ (x : Option Story). KeepsSyncs x o3) one.1 two in
-        (next.0, next.1, let a = one.2 in let b = next.2 in omega (arith, a, b))
-
     pub may-sync-then : (a b c : Station D O U) → MaySync told a b → MaySync told b c → MaySync told a c
     may-sync-then a b c one two = syncs-then (image_told told a.node.stage) (image_told told b.node.stage) (image_told told c.node.stage) one two
-
-    -- a sync after some other calls
-    synced-then : (o o2 o3 : Option Story) → KeepsSyncs o o2 → HasMadeSync o2 o3 → Follows (λ (a b : Story). IsAtRest b.now × (a.now.syncs < b.now.syncs)) o o3
-    synced-then None o2 o3 one two = subst (λ (x : Option Story). HasMadeSync x o3) one two
-    synced-then (Some h) o2 o3 one two =
-        let next = subst (λ (x : Option Story). HasMadeSync x o3) one.1 two in
-        let more = one.2 in
-        (next.0, next.1, subst (λ (b : Story). IsAtRest b.now × (h.now.syncs < b.now.syncs)) (sym next.2) (rests one.0, omega (arith, more)))
-      where
-        rests : (x : Story) → IsAtRest (after_syncing x).now
-        rests x = record { safe = refl; none = λ place is. is; within = omega arith }
 
     module _ (a b c d : Station D O U) where
       pub settled-since : MaySync told a b → HasPatched told b c → HasSettled told c d → IsSettledSince told a d

@@ -1,5 +1,5 @@
 -- The nodes of a script's run join one after the other.
-use Rattle.std.proofs.Common.{◌≡◌, ℕ, ◌+◌, ◌<◌, ◌≤◌, List, [], ◌∷◌, length, slice_index_or, Bool, true, false, Option, Some, None, Result, Ok, Err, refl, sym, ap, subst, ◌∙◌, arith}
+use Rattle.std.proofs.Common.{◌≡◌, ℕ, ◌+◌, ◌<◌, ◌≤◌, List, [], ◌∷◌, length, slice_index_or, Bool, Option, None, Result, Ok, Err, refl, sym, ap, subst, ◌∙◌, arith}
 use Rattle.std.specs.Prelude.{IfOk}
 use Rattle.std.specs.Result.{IsErrAnd}
 use Rattle.std.proofs.lemmas.List.{length-append}
@@ -136,12 +136,13 @@ module _ {D O U : Type 0} (told : Watched D → Option Story) (count : Watched D
   pub kept-down : (v : ℕ) (r : Run D O U) (kept : ℕ → Option (Disks D × O × U)) → IsUsedUp told count fate telling terms g (v + 1) v r → v < length r.stations.items
       → ((u : ℕ) (d : Station D O U) → u < length r.stations.items → WasKept (slice_index_or r.stations.items u d) (kept u)) → IsKeptDown told count fate telling terms g v (kept v) × ((u : ℕ) → u < v → IsKeptUp told count fate telling terms g u (kept u))
   kept-down v r kept is low given =
-      let d = one-of r.stations.items v low in
-      (record { station = slice_index_or r.stations.items v d; held = is.held.held d; none_left = is.none_left d; was = given v d low },
-      λ u below.
-      let there : u < length r.stations.items = omega (arith, low, below) in
-      let e = one-of r.stations.items u there in
-      record { station = slice_index_or r.stations.items u e; accounted = is.held.others u e (omega (arith, below)) (λ same. omega (arith, below, same)); was = given u e there })
+      let d = one-of r.stations.items v low in (
+        record { station = slice_index_or r.stations.items v d; held = is.held.held d; none_left = is.none_left d; was = given v d low },
+        λ u below.
+            let there : u < length r.stations.items = omega (arith, low, below) in
+            let e = one-of r.stations.items u there in
+            record { station = slice_index_or r.stations.items u e; accounted = is.held.others u e (omega (arith, below)) (λ same. omega (arith, below, same)); was = given u e there },
+      )
 
 -- a node that joins and goes down is the next one
 pub down-at : {D O U : Type 0} (told : Watched D → Option Story) (size : Watched D → ℕ) (took : U → Option (List Out)) (g : Game) (made : ℕ) (r : Run D O U) (fault : RunFault) → JoinsBy told size took (Err fault) g made r → (v : ℕ) → fault ≡ Down v → v ≡ made

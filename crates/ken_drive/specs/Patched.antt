@@ -1,5 +1,5 @@
 -- What the calls of a visit make of a node's station and of its image: its pages are written there and synced, or it is restarted.
-use Rattle.std.specs.Prelude.{◌≡◌, ◌≢◌, ◌⊎◌, ℕ, ◌+◌, ◌<◌, ◌≤◌, List, [], length, slice_index_or, Option, Result, Ok, Err, OnOk}
+use Rattle.std.specs.Prelude.{◌≡◌, ◌≢◌, ◌⊎◌, ℕ, ◌<◌, ◌≤◌, [], length, slice_index_or, Option, Result, Ok, Err, OnOk}
 use Rattle.ken_disk.specs.Story.{Story, Follows, IsAtRest}
 use Rattle.ken_model.specs.Network.{outside}
 use Rattle.ken_order.specs.Consumed.{consumed_from}

@@ -1,5 +1,5 @@
 -- How often an outlet has failed, one time after the other, that refuses the output which is due.
-use Rattle.std.specs.Prelude.{◌≡◌, ℕ, ◌+◌, ◌-◌, ◌^◌, ◌<◌, ◌≤◌, ◌⊎◌, slice_index_or, List, Bool, true, false, ⊤, Option, Some, None, Result, Ok, Err}
+use Rattle.std.specs.Prelude.{◌≡◌, ℕ, ◌+◌, ◌-◌, ◌^◌, ◌<◌, ◌≤◌, ◌⊎◌, slice_index_or, Option, Some, Result, Ok, Err}
 use Rattle.std.specs.List.{Contains}
 use Rattle.ken_disk.specs.Fates as disk
 use Rattle.ken_disk.specs.Story.{Story}

@@ -29,13 +29,13 @@ impl Model for Calls {
     ghost Value = { CallCounts };
 
     ghost view = { λ c. record {
-        cuts = c.cuts.entries;
-        made = c.made;
-        down = c.down;
-        hint = c.hint;
-        faults = c.faults;
-        origin = c.trace.told.origin;
-        picks = c.trace.told.picks;
+      cuts = c.cuts.entries;
+      made = c.made;
+      down = c.down;
+      hint = c.hint;
+      faults = c.faults;
+      origin = c.trace.told.origin;
+      picks = c.trace.told.picks;
     } };
 }
 

@@ -63,5 +63,5 @@ returns-clause-called g c =
 pub returns-in_err-hear-clause-called : goal.returns-in_err-hear-clause-called
 returns-in_err-hear-clause-called g c =
     let is : slice_index_or c.args.self.now.stations.items c.args.node c.index_mut.result.now ≡ c.index_mut.result.now = sym (c.index_mut.ensures.value ∙ ap (λ k. slice_index_or c.args.self.now.stations.items k c.index_mut.result.now) c.from.ensures) in
-    call-broken c.from_residual.result (KeepsImage (λ w. g.D.Disk.told w.disk)) c.args.node c.args.self.now (record c.args.self.now { stations = with_item c.args.self.now.stations c.from.result c.hear.new.self; waiting = c.hear.new.waiting }) c.from_residual.ensures.1
+    call-broken _ c.from_residual.result (KeepsImage (λ w. g.D.Disk.told w.disk)) c.args.node c.args.self.now (record c.args.self.now { stations = with_item c.args.self.now.stations c.from.result c.hear.new.self; waiting = c.hear.new.waiting }) c.from_residual.ensures.1
     (changes-at c.args.node c.from.result c.args.self.now (record c.args.self.now { stations = with_item c.args.self.now.stations c.from.result c.hear.new.self; waiting = c.hear.new.waiting }) c.index_mut.result.now c.hear.new.self c.from.ensures (subst (λ n. c.args.node < n) (sym c.requires.running.stands.width) c.requires.known) is refl IsNotRestarted (record { tries = ap (λ x. x.restarts) c.in_err-hear.ensures.rest; lines = ap (λ x. x.lines.items) c.in_err-hear.ensures.rest }))

@@ -65,5 +65,5 @@ returns-clause-called g c = went-then (λ w. g.D.Disk.told w.disk) (KeepsImage (
 
 pub returns-in_err-emit-clause-called : goal.returns-in_err-emit-clause-called
 returns-in_err-emit-clause-called g c =
-    call-broken c.from_residual.result (KeepsImage (λ w. g.D.Disk.told w.disk)) c.args.node c.args.self.now c.emit.new.self c.from_residual.ensures.1
+    call-broken _ c.from_residual.result (KeepsImage (λ w. g.D.Disk.told w.disk)) c.args.node c.args.self.now c.emit.new.self c.from_residual.ensures.1
     (still-then c.args.node c.args.self.now c.outputs.self c.emit.new.self (ok-still (KeepsImage (λ w. g.D.Disk.told w.disk)) c.args.node c.args.self.now c.outputs.self c.outputs.invariant.called) (err-still c.args.node c.outputs.self c.emit.new.self c.in_err-emit.ensures.called))

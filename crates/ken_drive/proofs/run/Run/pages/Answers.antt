@@ -64,5 +64,5 @@ returns-clause-called g c = went-then (λ w. g.D.Disk.told w.disk) (MaySync (λ 
 
 pub returns-in_err-patch-clause-called : goal.returns-in_err-patch-clause-called
 returns-in_err-patch-clause-called g c =
-    call-broken c.from_residual.result (HasPatched (λ w. g.D.Disk.told w.disk)) c.args.node c.args.self.now c.patch.new.self c.from_residual.ensures.1
+    call-broken _ c.from_residual.result (HasPatched (λ w. g.D.Disk.told w.disk)) c.args.node c.args.self.now c.patch.new.self c.from_residual.ensures.1
     (still-then c.args.node c.args.self.now c.pages.self c.patch.new.self (ok-still (MaySync (λ w. g.D.Disk.told w.disk)) c.args.node c.args.self.now c.pages.self c.pages.invariant.called) (err-still c.args.node c.pages.self c.patch.new.self c.in_err-patch.ensures.called))

@@ -65,7 +65,7 @@ returns-clause-called g c = went-then (λ w. g.D.Disk.told w.disk) (MaySync (λ 
 
 pub returns-in_err-turn-clause-called : goal.returns-in_err-turn-clause-called
 returns-in_err-turn-clause-called g c =
-    call-broken c.from_residual.result (MaySync (λ w. g.D.Disk.told w.disk)) c.args.node c.args.self.now c.turn.new.self c.from_residual.ensures.1
+    call-broken _ c.from_residual.result (MaySync (λ w. g.D.Disk.told w.disk)) c.args.node c.args.self.now c.turn.new.self c.from_residual.ensures.1
     (still-then c.args.node c.args.self.now c.turns.self c.turn.new.self (ok-still (MaySync (λ w. g.D.Disk.told w.disk)) c.args.node c.args.self.now c.turns.self c.turns.invariant.called) (err-still c.args.node c.turns.self c.turn.new.self c.in_err-turn.ensures.called))
 
 pub returns-clause-rests : goal.returns-clause-rests

@@ -162,25 +162,25 @@ returns-clause-called g c =
 
 pub returns-in_err-turns-clause-called : goal.returns-in_err-turns-clause-called
 returns-in_err-turns-clause-called g c =
-    call-broken c.from_residual.result (IsSettledSince (λ w. g.D.Disk.told w.disk)) c.args.node c.args.self.now c.turns.new.self c.from_residual.ensures.1
+    call-broken _ c.from_residual.result (IsSettledSince (λ w. g.D.Disk.told w.disk)) c.args.node c.args.self.now c.turns.new.self c.from_residual.ensures.1
     (err-still c.args.node c.args.self.now c.turns.new.self c.in_err-turns.ensures.called)
 
 pub returns-in_err-pages-clause-called : goal.returns-in_err-pages-clause-called
 returns-in_err-pages-clause-called g c =
-    call-broken c.from_residual-in_err-pages.result (IsSettledSince (λ w. g.D.Disk.told w.disk)) c.args.node c.args.self.now c.pages.new.self c.from_residual-in_err-pages.ensures.1
+    call-broken _ c.from_residual-in_err-pages.result (IsSettledSince (λ w. g.D.Disk.told w.disk)) c.args.node c.args.self.now c.pages.new.self c.from_residual-in_err-pages.ensures.1
     (still-then c.args.node c.args.self.now c.turns.new.self c.pages.new.self (ok-still (MaySync (λ w. g.D.Disk.told w.disk)) c.args.node c.args.self.now c.turns.new.self c.in_ok-turns.ensures.called) (err-still c.args.node c.turns.new.self c.pages.new.self c.in_err-pages.ensures.called))
 
 pub returns-in_err-settle-clause-called : goal.returns-in_err-settle-clause-called
 returns-in_err-settle-clause-called g c =
-    call-broken c.from_residual-in_err-settle.result (IsSettledSince (λ w. g.D.Disk.told w.disk)) c.args.node c.args.self.now c.settle.new.self c.from_residual-in_err-settle.ensures.1
+    call-broken _ c.from_residual-in_err-settle.result (IsSettledSince (λ w. g.D.Disk.told w.disk)) c.args.node c.args.self.now c.settle.new.self c.from_residual-in_err-settle.ensures.1
     (still-then c.args.node c.args.self.now c.pages.new.self c.settle.new.self (still-then c.args.node c.args.self.now c.turns.new.self c.pages.new.self (ok-still (MaySync (λ w. g.D.Disk.told w.disk)) c.args.node c.args.self.now c.turns.new.self c.in_ok-turns.ensures.called) (ok-still (HasPatched (λ w. g.D.Disk.told w.disk)) c.args.node c.turns.new.self c.pages.new.self c.in_ok-pages.ensures.called)) (err-still c.args.node c.pages.new.self c.settle.new.self c.in_err-settle.ensures.called))
 
 pub returns-in_err-send-clause-called : goal.returns-in_err-send-clause-called
 returns-in_err-send-clause-called g c =
-    call-broken c.from_residual-in_err-send.result (IsSettledSince (λ w. g.D.Disk.told w.disk)) c.args.node c.args.self.now c.send.new.self c.from_residual-in_err-send.ensures.1
+    call-broken _ c.from_residual-in_err-send.result (IsSettledSince (λ w. g.D.Disk.told w.disk)) c.args.node c.args.self.now c.send.new.self c.from_residual-in_err-send.ensures.1
     (still-then c.args.node c.args.self.now c.settle.new.self c.send.new.self (still-then c.args.node c.args.self.now c.pages.new.self c.settle.new.self (still-then c.args.node c.args.self.now c.turns.new.self c.pages.new.self (ok-still (MaySync (λ w. g.D.Disk.told w.disk)) c.args.node c.args.self.now c.turns.new.self c.in_ok-turns.ensures.called) (ok-still (HasPatched (λ w. g.D.Disk.told w.disk)) c.args.node c.turns.new.self c.pages.new.self c.in_ok-pages.ensures.called)) (ok-still (HasSettled (λ w. g.D.Disk.told w.disk)) c.args.node c.pages.new.self c.settle.new.self c.in_ok-settle.ensures.called)) (err-still c.args.node c.settle.new.self c.send.new.self c.in_err-send.ensures.called))
 
 pub returns-in_err-hear-clause-called : goal.returns-in_err-hear-clause-called
 returns-in_err-hear-clause-called g c =
-    call-broken c.from_residual-in_err-hear.result (IsSettledSince (λ w. g.D.Disk.told w.disk)) c.args.node c.args.self.now c.hear.new.self c.from_residual-in_err-hear.ensures.1
+    call-broken _ c.from_residual-in_err-hear.result (IsSettledSince (λ w. g.D.Disk.told w.disk)) c.args.node c.args.self.now c.hear.new.self c.from_residual-in_err-hear.ensures.1
     (still-then c.args.node c.args.self.now c.send.new.self c.hear.new.self (still-then c.args.node c.args.self.now c.settle.new.self c.send.new.self (still-then c.args.node c.args.self.now c.pages.new.self c.settle.new.self (still-then c.args.node c.args.self.now c.turns.new.self c.pages.new.self (ok-still (MaySync (λ w. g.D.Disk.told w.disk)) c.args.node c.args.self.now c.turns.new.self c.in_ok-turns.ensures.called) (ok-still (HasPatched (λ w. g.D.Disk.told w.disk)) c.args.node c.turns.new.self c.pages.new.self c.in_ok-pages.ensures.called)) (ok-still (HasSettled (λ w. g.D.Disk.told w.disk)) c.args.node c.pages.new.self c.settle.new.self c.in_ok-settle.ensures.called)) (ok-still (KeepsImage (λ w. g.D.Disk.told w.disk)) c.args.node c.settle.new.self c.send.new.self c.in_ok-send.ensures.called)) (err-still c.args.node c.send.new.self c.hear.new.self c.in_err-hear.ensures.called))
