@@ -959,17 +959,10 @@ impl Node {
         for _ in 0..fields.length() {
             let to = fields.byte();
             let (number, stamp) = (fields.number(), fields.number());
-            let text = self.keep(fields.text());
-            self.due[usize::from(to)].push_back(Due {
-                number,
-                stamp,
-                text,
-            });
+            self.take_message(to, number, stamp, fields.text());
         }
         for _ in 0..fields.length() {
-            let number = fields.number();
-            let text = self.keep(fields.text());
-            self.outs.push_back(Out { number, text });
+            self.take_out(fields);
         }
         self.take_pages(fields, turn);
     }
@@ -985,19 +978,11 @@ impl Node {
         for _ in 0..fields.byte() {
             let to = fields.byte();
             let number = fields.number();
-            let text = self.keep(fields.text());
             self.numbers.sent[usize::from(to)] = number;
-            self.due[usize::from(to)].push_back(Due {
-                number,
-                stamp,
-                text,
-            });
+            self.take_message(to, number, stamp, fields.text());
         }
         for _ in 0..fields.byte() {
-            let number = fields.number();
-            let text = self.keep(fields.text());
-            self.numbers.outputs = number;
-            self.outs.push_back(Out { number, text });
+            self.numbers.outputs = self.take_out(fields);
         }
         self.take_pages(fields, count);
         self.numbers.stamp = stamp;
@@ -1013,6 +998,22 @@ impl Node {
                 draw_count,
             });
         }
+    }
+
+    fn take_message(&mut self, to: u8, number: u64, stamp: u64, text: &[u8]) {
+        let text = self.keep(text);
+        self.due[usize::from(to)].push_back(Due {
+            number,
+            stamp,
+            text,
+        });
+    }
+
+    fn take_out(&mut self, fields: &mut Fields<'_>) -> u64 {
+        let number = fields.number();
+        let text = self.keep(fields.text());
+        self.outs.push_back(Out { number, text });
+        number
     }
 
     fn take_pages(&mut self, fields: &mut Fields<'_>, turn: u64) {
