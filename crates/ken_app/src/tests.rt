@@ -101,10 +101,10 @@ fn sends_are_refused_in_the_order_of_the_faults(rt: HostRuntime) -> Result<(), F
         (2, &long[..0], Ok(())),
     ];
     for (to, bytes, want) in first {
-        assert_eq!(rt; turn.try_send(to, bytes), want, "to {to}");
+        assert_eq!(rt; turn.send(to, bytes), want, "to {to}");
     }
     for _ in 2..MAX_SENDS {
-        assert_eq!(rt; turn.try_send(1, b"b"), Ok(()));
+        assert_eq!(rt; turn.send(1, b"b"), Ok(()));
     }
     let last = [
         (3, &long[..], Err(SendFault::NoNode)),
@@ -112,7 +112,7 @@ fn sends_are_refused_in_the_order_of_the_faults(rt: HostRuntime) -> Result<(), F
         (0, &long[..1], Err(SendFault::TooMany)),
     ];
     for (to, bytes, want) in last {
-        assert_eq!(rt; turn.try_send(to, bytes), want, "at the end, to {to}");
+        assert_eq!(rt; turn.send(to, bytes), want, "at the end, to {to}");
     }
     assert_eq!(rt; made.sends.len(), 16);
     for (index, send) in made.sends.iter().enumerate() {
@@ -135,13 +135,13 @@ fn outputs_are_refused_in_the_order_of_the_faults(rt: HostRuntime) -> Result<(),
     let mut made = Made::new(rt.alloc());
     let mut turn = Turn::new(2, 3, &message, &mut objects, &mut oracle, &mut made);
     let long = [b'a'; 513];
-    assert_eq!(rt; turn.try_output(&long), Err(OutputFault::TooLong));
-    assert_eq!(rt; turn.try_output(&long[..512]), Ok(()));
+    assert_eq!(rt; turn.output(&long), Err(OutputFault::TooLong));
+    assert_eq!(rt; turn.output(&long[..512]), Ok(()));
     for _ in 1..MAX_OUTPUTS {
-        assert_eq!(rt; turn.try_output(b"b"), Ok(()));
+        assert_eq!(rt; turn.output(b"b"), Ok(()));
     }
-    assert_eq!(rt; turn.try_output(&long), Err(OutputFault::TooLong));
-    assert_eq!(rt; turn.try_output(b""), Err(OutputFault::TooMany));
+    assert_eq!(rt; turn.output(&long), Err(OutputFault::TooLong));
+    assert_eq!(rt; turn.output(b""), Err(OutputFault::TooMany));
     assert_eq!(rt; made.outs.len(), 16);
     for (index, text) in made.outs.iter().enumerate() {
         let want = if index == 0 { &long[..512] } else { b"b" };

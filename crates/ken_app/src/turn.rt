@@ -122,67 +122,9 @@ impl<'a, O: Oracle> Turn<'a, O> {
         self.objects
     }
 
-    /// Sends a text to a node. One of more than `MAX_TEXT` bytes, or to no node of the run, is beyond the limits of a turn
-    /// and is passed over. After an error the turn is as before.
-    pub fn send(&mut self, to: u8, text: &[u8]) -> Result<(), AllocError>
-        requires few { length (turning self.old).sends < MAX_SENDS }
-        ensures ok { OnOk result (IsShortText text.now → turning self.new ≡ with_send to text.now (turning self.old)) }
-        ensures too_long { MAX_TEXT < length text.now → turning self.new ≡ turning self.old }
-        ensures err { OnErr result (turning self.new ≡ turning self.old) }
-        ensures rest { turning self.new ≡ record (turning self.old) { sends = (turning self.new).sends } }
-        ensures oracle { oracle_of self.new ≡ oracle_of self.old }
-        ensures same { IsOneTurn self.old self.new }
-    {
-        match self.try_send(to, text) {
-            Err(SendFault::Memory) => Err(AllocError),
-            _ => Ok(()),
-        }
-    }
-
-    /// Sends a number in decimal, as `send` does a text.
-    pub fn send_number(&mut self, to: u8, n: u64) -> Result<(), AllocError>
-        requires few { length (turning self.old).sends < MAX_SENDS }
-        ensures ok { OnOk result (turning self.new ≡ with_send to (decimal n) (turning self.old)) }
-        ensures err { OnErr result (turning self.new ≡ turning self.old) }
-        ensures rest { turning self.new ≡ record (turning self.old) { sends = (turning self.new).sends } }
-        ensures oracle { oracle_of self.new ≡ oracle_of self.old }
-        ensures same { IsOneTurn self.old self.new }
-    {
-        self.send(to, Buffer::new().format(n).as_bytes())
-    }
-
-    /// Outputs a text. One of more than `MAX_TEXT` bytes is beyond the limits of a turn, and is passed over. After an error
-    /// the turn is as before.
-    pub fn output(&mut self, text: &[u8]) -> Result<(), AllocError>
-        requires few { length (turning self.old).outs < MAX_OUTPUTS }
-        ensures ok { OnOk result (IsShortText text.now → turning self.new ≡ with_output text.now (turning self.old)) }
-        ensures too_long { MAX_TEXT < length text.now → turning self.new ≡ turning self.old }
-        ensures err { OnErr result (turning self.new ≡ turning self.old) }
-        ensures rest { turning self.new ≡ record (turning self.old) { outs = (turning self.new).outs } }
-        ensures oracle { oracle_of self.new ≡ oracle_of self.old }
-        ensures same { IsOneTurn self.old self.new }
-    {
-        match self.try_output(text) {
-            Err(OutputFault::Memory) => Err(AllocError),
-            _ => Ok(()),
-        }
-    }
-
-    /// Outputs a number in decimal.
-    pub fn output_number(&mut self, n: u64) -> Result<(), AllocError>
-        requires few { length (turning self.old).outs < MAX_OUTPUTS }
-        ensures ok { OnOk result (turning self.new ≡ with_output (decimal n) (turning self.old)) }
-        ensures err { OnErr result (turning self.new ≡ turning self.old) }
-        ensures rest { turning self.new ≡ record (turning self.old) { outs = (turning self.new).outs } }
-        ensures oracle { oracle_of self.new ≡ oracle_of self.old }
-        ensures same { IsOneTurn self.old self.new }
-    {
-        self.output(Buffer::new().format(n).as_bytes())
-    }
-
     /// Sends a message of at most `MAX_TEXT` bytes to a node. The faults are tried in their order, and after each the
     /// turn is as before.
-    pub fn try_send(&mut self, to: u8, bytes: &[u8]) -> Result<(), SendFault>
+    pub fn send(&mut self, to: u8, bytes: &[u8]) -> Result<(), SendFault>
         ensures ok { OnOk result (turning self.new ≡ record (turning self.old) { sends = (turning self.old).sends ++ record { to = to; bytes = bytes.now } ∷ [] }) }
         ensures err { OnErr result (turning self.new ≡ turning self.old) }
         ensures no_node { IsErrOf result SendFault.NoNode ↔ ((turning self.old).nodes ≤ to) }
@@ -208,9 +150,38 @@ impl<'a, O: Oracle> Turn<'a, O> {
         self.made.sends.push(send).map_err(|_| SendFault::Memory)
     }
 
+    /// Sends a text to a node, as handlers do: one of more than `MAX_TEXT` bytes, or to no node of the run, is beyond the
+    /// limits of a turn and is passed over, where `send` refuses it. After an error the turn is as before.
+    pub fn send_text(&mut self, to: u8, text: &[u8]) -> Result<(), AllocError>
+        requires few { length (turning self.old).sends < MAX_SENDS }
+        ensures ok { OnOk result (IsShortText text.now → turning self.new ≡ with_send to text.now (turning self.old)) }
+        ensures too_long { MAX_TEXT < length text.now → turning self.new ≡ turning self.old }
+        ensures err { OnErr result (turning self.new ≡ turning self.old) }
+        ensures rest { turning self.new ≡ record (turning self.old) { sends = (turning self.new).sends } }
+        ensures oracle { oracle_of self.new ≡ oracle_of self.old }
+        ensures same { IsOneTurn self.old self.new }
+    {
+        match self.send(to, text) {
+            Err(SendFault::Memory) => Err(AllocError),
+            _ => Ok(()),
+        }
+    }
+
+    /// Sends a number in decimal, as `send_text` does a text.
+    pub fn send_number(&mut self, to: u8, n: u64) -> Result<(), AllocError>
+        requires few { length (turning self.old).sends < MAX_SENDS }
+        ensures ok { OnOk result (turning self.new ≡ with_send to (decimal n) (turning self.old)) }
+        ensures err { OnErr result (turning self.new ≡ turning self.old) }
+        ensures rest { turning self.new ≡ record (turning self.old) { sends = (turning self.new).sends } }
+        ensures oracle { oracle_of self.new ≡ oracle_of self.old }
+        ensures same { IsOneTurn self.old self.new }
+    {
+        self.send_text(to, Buffer::new().format(n).as_bytes())
+    }
+
     /// Outputs a text of at most `MAX_TEXT` bytes. The faults are tried in their order, and after each the turn is as
     /// before.
-    pub fn try_output(&mut self, text: &[u8]) -> Result<(), OutputFault>
+    pub fn output(&mut self, text: &[u8]) -> Result<(), OutputFault>
         ensures ok { OnOk result (turning self.new ≡ record (turning self.old) { outs = (turning self.old).outs ++ text.now ∷ [] }) }
         ensures err { OnErr result (turning self.new ≡ turning self.old) }
         ensures too_long { IsErrOf result OutputFault.TooLong ↔ (MAX_TEXT < length text.now) }
@@ -229,6 +200,35 @@ impl<'a, O: Oracle> Turn<'a, O> {
             .outs
             .push(Octets::new(text))
             .map_err(|_| OutputFault::Memory)
+    }
+
+    /// Outputs a text, as handlers do: one of more than `MAX_TEXT` bytes is beyond the limits of a turn and is passed over,
+    /// where `output` refuses it. After an error the turn is as before.
+    pub fn output_text(&mut self, text: &[u8]) -> Result<(), AllocError>
+        requires few { length (turning self.old).outs < MAX_OUTPUTS }
+        ensures ok { OnOk result (IsShortText text.now → turning self.new ≡ with_output text.now (turning self.old)) }
+        ensures too_long { MAX_TEXT < length text.now → turning self.new ≡ turning self.old }
+        ensures err { OnErr result (turning self.new ≡ turning self.old) }
+        ensures rest { turning self.new ≡ record (turning self.old) { outs = (turning self.new).outs } }
+        ensures oracle { oracle_of self.new ≡ oracle_of self.old }
+        ensures same { IsOneTurn self.old self.new }
+    {
+        match self.output(text) {
+            Err(OutputFault::Memory) => Err(AllocError),
+            _ => Ok(()),
+        }
+    }
+
+    /// Outputs a number in decimal, as `output_text` does a text.
+    pub fn output_number(&mut self, n: u64) -> Result<(), AllocError>
+        requires few { length (turning self.old).outs < MAX_OUTPUTS }
+        ensures ok { OnOk result (turning self.new ≡ with_output (decimal n) (turning self.old)) }
+        ensures err { OnErr result (turning self.new ≡ turning self.old) }
+        ensures rest { turning self.new ≡ record (turning self.old) { outs = (turning self.new).outs } }
+        ensures oracle { oracle_of self.new ≡ oracle_of self.old }
+        ensures same { IsOneTurn self.old self.new }
+    {
+        self.output_text(Buffer::new().format(n).as_bytes())
     }
 
     /// Draws a reading of the clock. It takes no memory. `NoDraw` exactly where the turn has drawn `MAX_DRAWS` times; the

@@ -23,10 +23,10 @@ pub(crate) fn on_message<O: Oracle>(turn: &mut Turn<'_, O>) -> Result<(), AllocE
     ensures same { IsOneTurn turn.old turn.new }
 {
     if turn.message().bytes.len() > MAX_TEXT {
-        return turn.output(b"bad");
+        return turn.output_text(b"bad");
     }
     match Command::of(turn.message().bytes.as_slice()) {
-        None => turn.output(b"bad"),
+        None => turn.output_text(b"bad"),
         Some(Command::Put { key, pair }) => put(turn, key, pair),
         Some(Command::Get { key }) => get(turn, key),
         Some(Command::Delete { key }) => delete(turn, key),
@@ -46,7 +46,7 @@ fn put<O: Oracle>(turn: &mut Turn<'_, O>, key: &[u8], pair: &[u8]) -> Result<(),
     ensures same { IsOneTurn turn.old turn.new }
 {
     let kept = pairs::put(turn.objects(), key, pair)?;
-    turn.output(if kept { b"ok" } else { b"full" })
+    turn.output_text(if kept { b"ok" } else { b"full" })
 }
 
 /// Outputs the text of a key, or as much of it as an output may have.
@@ -62,8 +62,8 @@ fn get<O: Oracle>(turn: &mut Turn<'_, O>, key: &[u8]) -> Result<(), AllocError>
 {
     let mut buf = [0; MAX_TEXT];
     match pairs::get(turn.objects(), key, &mut buf) {
-        Some(text) => turn.output(text),
-        None => turn.output(b"none"),
+        Some(text) => turn.output_text(text),
+        None => turn.output_text(b"none"),
     }
 }
 
@@ -79,5 +79,5 @@ fn delete<O: Oracle>(turn: &mut Turn<'_, O>, key: &[u8]) -> Result<(), AllocErro
     ensures same { IsOneTurn turn.old turn.new }
 {
     let gone = pairs::delete(turn.objects(), key)?;
-    turn.output(if gone { b"ok" } else { b"none" })
+    turn.output_text(if gone { b"ok" } else { b"none" })
 }

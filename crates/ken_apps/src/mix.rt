@@ -24,7 +24,7 @@ pub(crate) fn on_message<O: Oracle>(turn: &mut Turn<'_, O>) -> Result<(), AllocE
     ensures same { IsOneTurn turn.old turn.new }
 {
     let Some(count) = num(turn.message().bytes.as_slice()) else {
-        return turn.output(b"bad");
+        return turn.output_text(b"bad");
     };
     let (Ok(reading), Ok(word)) = (turn.clock(), turn.word()) else {
         unreachable!()

@@ -18,7 +18,7 @@ pub(crate) fn on_message<O: Oracle>(turn: &mut Turn<'_, O>) -> Result<(), AllocE
     ensures same { IsOneTurn turn.old turn.new }
 {
     let Some(count) = num(turn.message().bytes.as_slice()) else {
-        return turn.output(b"bad");
+        return turn.output_text(b"bad");
     };
     let root = turn.objects().root();
     turn.objects().set_root(root.wrapping_add(1))?;

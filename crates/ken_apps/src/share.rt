@@ -18,7 +18,7 @@ pub(crate) fn on_message<O: Oracle>(turn: &mut Turn<'_, O>) -> Result<(), AllocE
     ensures same { IsOneTurn turn.old turn.new }
 {
     let Some(amount) = num(turn.message().bytes.as_slice()) else {
-        return turn.output(b"bad");
+        return turn.output_text(b"bad");
     };
     let half = amount / 2;
     let root = turn.objects().root();

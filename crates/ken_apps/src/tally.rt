@@ -22,7 +22,7 @@ pub(crate) fn on_message<O: Oracle>(turn: &mut Turn<'_, O>) -> Result<(), AllocE
 {
     let message = turn.message();
     let Some(amount) = num(message.bytes.as_slice()) else {
-        return turn.output(b"bad");
+        return turn.output_text(b"bad");
     };
     let sum = turn.objects().root().wrapping_add(amount);
     turn.objects().set_root(sum)?;
@@ -45,7 +45,7 @@ fn send_to_others<O: Oracle>(turn: &mut Turn<'_, O>, text: &[u8]) -> Result<(), 
 {
     for to in 0..turn.nodes() {
         if to != turn.node() {
-            turn.send(to, text)?;
+            turn.send_text(to, text)?;
         }
     }
     Ok(())

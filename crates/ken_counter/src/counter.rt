@@ -22,20 +22,20 @@ impl App for Counter {
         let text = message.bytes.as_slice();
         if turn.node() != 0 {
             return if message.from == OUTSIDE {
-                turn.send(0, text)
+                turn.send_text(0, text)
             } else {
-                turn.output(text)
+                turn.output_text(text)
             };
         }
         let Some(n) = num(text) else {
-            return turn.output(b"bad");
+            return turn.output_text(b"bad");
         };
         if limit::is_unset(turn.objects()) {
             let is_set = limit::set(turn.objects(), n)?;
-            return turn.output(if is_set { b"limit" } else { b"full" });
+            return turn.output_text(if is_set { b"limit" } else { b"full" });
         }
         let Some(count) = limit::count_with(turn.objects(), n) else {
-            return turn.output(b"full");
+            return turn.output_text(b"full");
         };
         let (Ok(reading), Ok(word)) = (turn.clock(), turn.word()) else {
             unreachable!()

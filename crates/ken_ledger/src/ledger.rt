@@ -52,7 +52,7 @@ impl App for Ledger {
             && let Some((to, amount)) = payment(text)
         {
             if to >= turn.nodes() || amount > balance {
-                return turn.output(b"refused");
+                return turn.output_text(b"refused");
             }
             let Ok(reading) = turn.clock() else {
                 unreachable!()
@@ -61,10 +61,10 @@ impl App for Ledger {
             return turn.send_number(to, amount);
         }
         let Some(amount) = num(text) else {
-            return turn.output(b"bad");
+            return turn.output_text(b"bad");
         };
         let Some(after) = balance.checked_add(amount) else {
-            return turn.output(b"full");
+            return turn.output_text(b"full");
         };
         let Ok(reading) = turn.clock() else {
             unreachable!()

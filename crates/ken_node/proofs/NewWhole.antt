@@ -27,7 +27,7 @@ use Rattle.ken_ship.specs.Laws.{HasSent, IsDueOf, IsStateOf}
 use Rattle.ken_ship.specs.Parts.{Part}
 use Rattle.ken_ship.proofs.Emissions.{nothing_is_due_first}
 use Rattle.ken_ship.proofs.Numbered.{drop_nothing}
-use Rattle.ken_node.specs.declared.items.Told.{Told}
+use Rattle.ken_node.specs.declared.items.Feedback.{Feedback}
 use Rattle.ken_node.specs.Created.{nothing_told, owner_of}
 use Rattle.ken_node.specs.NewLaws.{NewAreWhole}
 use Rattle.ken_node.specs.Whole.{AreNumbersOf, HasReached, IsSettledAt, WereTold}
@@ -116,8 +116,8 @@ module _ {D : Type 0} (told : D → Option Story) (size : D → ℕ) where
             due = subst (λ (x : Part). IsDueOf g v n x.due) (sym new.part) (nothing_is_due_first g v limits.few_nodes);
             sent = record { acked = λ u low. let zero_is = zero-at g.nodes u in omega (arith, zero_is); emitted = omega arith };
           };
-          settled = none-told (IsSettledAt n) (pushed p.settled) (popped t.settled) t.told.settled 0 new.settled.none_pushed new.settled.none_popped (ap (λ (x : Told). x.settled) new.told_is) settled;
-          progress = none-told (HasReached g n) (pushed s.told) (popped t.progress) t.told.progress nothing_told.progress new.progress.none_pushed new.progress.none_popped (ap (λ (x : Told). x.progress) new.told_is)
+          settled = none-told (IsSettledAt n) (pushed p.settled) (popped t.settled) t.told.settled 0 new.settled.none_pushed new.settled.none_popped (ap (λ (x : Feedback). x.settled) new.told_is) settled;
+          progress = none-told (HasReached g n) (pushed s.told) (popped t.progress) t.told.progress nothing_told.progress new.progress.none_pushed new.progress.none_popped (ap (λ (x : Feedback). x.progress) new.told_is)
               (record { acked = λ u low. let zero_is = zero-at 8 u in omega (arith, zero_is); emitted = omega arith });
         };
         pages = record {

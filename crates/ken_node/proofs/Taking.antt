@@ -17,7 +17,7 @@ use Rattle.ken_node.specs.declared.took.Took.{Took}
 use Rattle.ken_node.specs.declared.took.Took.TheVariants.{Turn}
 use Rattle.ken_node.specs.declared.worker.TurnWorker.{TurnWorker}
 use Rattle.ken_node.specs.Calls as calls
-use Rattle.ken_node.specs.Calls.{Came, IsKept, RanTurn, Runs, Seals, StoppedTaking, TakesTurn, TookMessage, answer_puts}
+use Rattle.ken_node.specs.Calls.{BeforeTurn, IsKept, RanTurn, Runs, Seals, StoppedTaking, TakesTurn, TookMessage, answer_puts}
 use Rattle.ken_node.specs.Capped as capped
 use Rattle.ken_node.specs.Capped.{HasHigh, IsCapped}
 use Rattle.ken_node.specs.Faults.{node_answer}
@@ -111,7 +111,7 @@ module _ {D : Type 0} (told : D → Option Story) (size count : D → ℕ) (fate
         }
 
     module _ (renews : Renews told size count fate {T = Unit {0}} (Ok tt) old mid.side) (working : Working told size h mid) where
-      pub came : (gave : List (List ℕ) → Type 0) (put : List Put → Type 0) (nones nones2 : ℕ) (message : Option Message) → TookMessage mid.node mid.order mid.inputs.items gave put nones nones2 message → Came told size count fate h drew old mid gave put nones nones2 message
+      pub came : (gave : List (List ℕ) → Type 0) (put : List Put → Type 0) (nones nones2 : ℕ) (message : Option Message) → TookMessage mid.node mid.order mid.inputs.items gave put nones nones2 message → BeforeTurn told size count fate h drew old mid gave put nones nones2 message
       came gave put nones nones2 message took =
           let P : TurnWorker D → Type 0 = λ w. TookMessage w.node w.order w.inputs.items gave put nones nones2 message in
           record { open_yet = open_yet; rest = rest; renews = renews; working = working; took = subst P rest took }
@@ -144,10 +144,10 @@ module _ {D : Type 0} (told : D → Option Story) (size count : D → ℕ) (fate
               none_put Outlet x = absurd x
               none_put (Damaged disk place) x = absurd x
 
-              taken : (f : NodeFault) → Runs told size count fate h drew {T = Took} (Err f) put1 message mid new → Came told size count fate h drew old mid gave2 put2 nones nones3 (Some message)
+              taken : (f : NodeFault) → Runs told size count fate h drew {T = Took} (Err f) put1 message mid new → BeforeTurn told size count fate h drew old mid gave2 put2 nones nones3 (Some message)
               taken f x = came gave2 put2 nones nones3 (Some message) (took_on mid.node mid.order mid.inputs.items gave gave2 put put2 nones nones2 nones3 (Some message) gives (λ ps before. subst put2 (append-nil ps) (puts ps [] before (none_put f x))) same took)
 
-              failed_by : (f : NodeFault) → Runs told size count fate h drew {T = Took} (Err f) put1 message mid new → Came told size count fate h drew old mid gave2 put2 nones nones3 (Some message) → TakesTurn told size count fate h drew (Err f) old new gave2 put2 nones nones3
+              failed_by : (f : NodeFault) → Runs told size count fate h drew {T = Took} (Err f) put1 message mid new → BeforeTurn told size count fate h drew old mid gave2 put2 nones nones3 (Some message) → TakesTurn told size count fate h drew (Err f) old new gave2 put2 nones nones3
               failed_by Disk x before = inr (record { mid = mid; message = message; came = before; doubt = x.0 })
               failed_by Memory x before = calls.at_turn mid message before x.0
               failed_by Outlet x before = absurd x

@@ -40,7 +40,7 @@ use Rattle.ken_node.specs.declared.patcher.PatchWorker.{PatchWorker}
 use Rattle.ken_node.specs.declared.took.Took.{Took}
 use Rattle.ken_node.specs.declared.took.Took.TheVariants.{Turn, Idle, Capped}
 use Rattle.ken_node.specs.declared.worker.TurnWorker.{TurnWorker}
-use Rattle.ken_node.specs.Calls.{Came, GaveUp, IsSealInDoubt, IsTurnInDoubt, IsTurnoverInDoubt, RanTurn, Stopped, TakesTurn, answer_puts, amid_packets, at_input, at_message, at_turn, at_turnover}
+use Rattle.ken_node.specs.Calls.{BeforeTurn, GaveUp, IsSealInDoubt, IsTurnInDoubt, IsTurnoverInDoubt, RanTurn, Stopped, TakesTurn, answer_puts, amid_packets, at_input, at_message, at_turn, at_turnover}
 use Rattle.ken_node.specs.Capped.{IsCapped}
 use Rattle.ken_node.specs.Capped as caps
 use Rattle.ken_node.specs.Hearing.{EndsWith, Listened, ack_put, again_puts, chosen}
@@ -329,7 +329,7 @@ module _ {D : Type 0} (told : D → Option Story) (size count : D → ℕ) (fate
       room : length mid.side.records.items < 32
       takes : (m : Message) → message ≡ Some m → IsChosen idled.after packets m
 
-    pub ready-by : (put : List Put → Type 0) (nones nones2 : ℕ) (mid : TurnWorker D) (message : Option Message) → Came told size count fate g.handler drew old mid gave put nones nones2 message → IsReady put mid message
+    pub ready-by : (put : List Put → Type 0) (nones nones2 : ℕ) (mid : TurnWorker D) (message : Option Message) → BeforeTurn told size count fate g.handler drew old mid gave put nones nones2 message → IsReady put mid message
     ready-by put nones nones2 mid message came =
         let listened = listened-by put nones nones2 came.took.found came.took.listened in
         let again = all-again v old.order listened.passed in

@@ -52,7 +52,7 @@ use Rattle.ken_store.proofs.Recovering.{seen_on}
 use Rattle.ken_ship.specs.declared.worker.SendWorker.{SendWorker}
 use Rattle.ken_ship.specs.Laws.{HasSent, IsDueOf, IsStateOf}
 use Rattle.ken_ship.proofs.Resumed.{resumed_is_due}
-use Rattle.ken_node.specs.declared.items.Told.{Told}
+use Rattle.ken_node.specs.declared.items.Feedback.{Feedback}
 use Rattle.ken_node.specs.declared.patcher.PatchWorker.{PatchWorker}
 use Rattle.ken_node.specs.declared.worker.TurnWorker.{TurnWorker}
 use Rattle.ken_node.specs.Created.{owner_of}
@@ -328,9 +328,9 @@ module _ {D : Type 0} (told : D → Option Story) (size : D → ℕ) (g : Game) 
             sent = has-sent;
           };
           settled = none-on-way (IsSettledAt after) p.settled t.settled t.told.settled go.empty.settled
-              (subst (λ (x : Told). IsSettledAt after x.settled) (sym go.told_is) (record { made = omega arith; clean = λ page c is gone. absurd cc }));
+              (subst (λ (x : Feedback). IsSettledAt after x.settled) (sym go.told_is) (record { made = omega arith; clean = λ page c is gone. absurd cc }));
           progress = none-on-way (HasReached g after) sender.told t.progress t.told.progress go.empty.progress
-              (subst (λ (x : Told). HasReached g after x.progress) (sym go.told_is) (record { acked = λ u low. let none = zero-at 8 u in omega (arith, none); emitted = omega arith }));
+              (subst (λ (x : Feedback). HasReached g after x.progress) (sym go.told_is) (record { acked = λ u low. let none = zero-at 8 u in omega (arith, none); emitted = omega arith }));
         };
         pages = record {
           queue = [];

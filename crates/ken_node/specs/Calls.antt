@@ -121,7 +121,7 @@ module _ {D : Type 0} (told : D → Option Story) (size count : D → ℕ) (fate
   Runs (Err (Damaged disk place)) put m old new = ⊥
 
   -- before a turn: the log is renewed where it is full, and packets are taken
-  pub record Came (old : TurnWorker D) (mid : TurnWorker D) (gave : List (List ℕ) → Type 0) (put : List Put → Type 0) (nones nones2 : ℕ) (message : Option Message) : Type 0 where
+  pub record BeforeTurn (old : TurnWorker D) (mid : TurnWorker D) (gave : List (List ℕ) → Type 0) (put : List Put → Type 0) (nones nones2 : ℕ) (message : Option Message) : Type 0 where
     pub open_yet : IsCapped old → ⊥
     pub rest : mid ≡ record old { side = mid.side }
     pub renews : Renews told size count fate {T = Unit {0}} (Ok tt) old mid.side
@@ -132,12 +132,12 @@ module _ {D : Type 0} (told : D → Option Story) (size count : D → ℕ) (fate
   pub record Turned (old new : TurnWorker D) (gave : List (List ℕ) → Type 0) (put : List Put → Type 0) (nones nones2 : ℕ) : Type 0 where
     pub mid : TurnWorker D
     pub message : Message
-    pub came : Came old mid gave (λ ps. put (ps ++ answer_puts old.node new.order message.from)) nones nones2 (Some message)
+    pub came : BeforeTurn old mid gave (λ ps. put (ps ++ answer_puts old.node new.order message.from)) nones nones2 (Some message)
     pub ran : RanTurn message mid new
 
   -- nothing waits
   pub record Idled (old new : TurnWorker D) (gave : List (List ℕ) → Type 0) (put : List Put → Type 0) (nones nones2 : ℕ) : Type 0 where
-    pub came : Came old new gave put nones nones2 None
+    pub came : BeforeTurn old new gave put nones nones2 None
 
   -- no turn is made any more
   pub record IsOver (old new : TurnWorker D) (gave : List (List ℕ) → Type 0) (put : List Put → Type 0) : Type 0 where
@@ -157,14 +157,14 @@ module _ {D : Type 0} (told : D → Option Story) (size count : D → ℕ) (fate
   pub record IsTurnInDoubt (old new : TurnWorker D) (gave : List (List ℕ) → Type 0) (put : List Put → Type 0) (nones nones2 : ℕ) : Type 0 where
     pub mid : TurnWorker D
     pub message : Message
-    pub came : Came old mid gave put nones nones2 (Some message)
+    pub came : BeforeTurn old mid gave put nones nones2 (Some message)
     pub doubt : IsSealInDoubt message mid new
 
   -- memory ran out: at the turnover, at the message, or at the turn, which may be sealed and not acknowledged
   pub data Stopped (old new : TurnWorker D) (gave : List (List ℕ) → Type 0) (put : List Put → Type 0) (nones nones2 : ℕ) : Type 0 where
     at_turnover : (IsCapped old → ⊥) → new ≡ record old { side = new.side } → Renews told size count fate {T = Unit {0}} (Err store.Memory) old new.side → Working told size h new → gave [] → put [] → Stopped old new gave put nones nones2
     at_message : (IsCapped old → ⊥) → new ≡ record old { side = new.side } → Renews told size count fate {T = Unit {0}} (Ok tt) old new.side → Working told size h new → StoppedTaking old.node old.order old.inputs.items gave put nones nones2 → Stopped old new gave put nones nones2
-    at_turn : (mid : TurnWorker D) → (message : Message) → Came old mid gave put nones nones2 (Some message) → GaveUp mid new ⊎ RanTurn message mid new → Stopped old new gave put nones nones2
+    at_turn : (mid : TurnWorker D) → (message : Message) → BeforeTurn old mid gave put nones nones2 (Some message) → GaveUp mid new ⊎ RanTurn message mid new → Stopped old new gave put nones nones2
 
   -- a call, from what the handler knows once it has popped what it was told
   abbrev pub TakesTurn : Result Took NodeFault → TurnWorker D → TurnWorker D → (List (List ℕ) → Type 0) → (List Put → Type 0) → ℕ → ℕ → Type 0

@@ -19,7 +19,7 @@ use Rattle.ken_ship.specs.declared.faults.NodeFault.{NodeFault}
 use Rattle.ken_ship.specs.declared.items.Progress.{Progress}
 use Rattle.ken_ship.specs.declared.worker.SendWorker.{SendWorker}
 use Rattle.ken_ship.specs.Parts.{part_of}
-use Rattle.ken_node.specs.declared.items.Told.{Told}
+use Rattle.ken_node.specs.declared.items.Feedback.{Feedback}
 use Rattle.ken_node.specs.declared.parts.Parts.{Parts}
 use Rattle.ken_node.specs.declared.patcher.PatchWorker.{PatchWorker}
 use Rattle.ken_node.specs.declared.stage.Stage.{Stage}
@@ -35,7 +35,7 @@ abbrev pub owner_of : Game → ℕ → Owner
 owner_of g v = record { node = v; nodes = g.nodes; pages = heap_pages g }
 
 -- a handler that was told of nothing
-abbrev pub nothing_told : Told
+abbrev pub nothing_told : Feedback
 nothing_told = let none : Progress = record { acked = replicate 8 0; emitted = 0 } in record { settled = 0; progress = none }
 
 -- the workers that are made of these parts, over a store, which judge mail by this order

@@ -19,7 +19,7 @@ pub struct Frozen {
 
 // What the handler was told: a settled turn, and how far its messages and outputs came.
 #[derive(Clone, Copy, Debug, Drop)]
-pub(crate) struct Told {
+pub(crate) struct Feedback {
     pub settled: u64,
     pub progress: Progress,
 }

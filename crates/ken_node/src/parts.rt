@@ -14,7 +14,7 @@ ghost use Rattle.ken_store.specs.Apart.{disks_apart};
 
 use crate::effects::effects_of;
 use crate::inputs::inputs_for;
-use crate::items::{Frozen, Told};
+use crate::items::{Feedback, Frozen};
 use crate::patcher::PatchWorker;
 use crate::worker::TurnWorker;
 use ken_disk::Disk;
@@ -96,7 +96,7 @@ impl Parts {
             side: turning,
             order,
             turns: self.turns,
-            told: Told {
+            told: Feedback {
                 settled: 0,
                 progress: Progress {
                     acked: [0; MAX_NODES as usize],

@@ -3,7 +3,7 @@ ghost use Rattle.std.specs.Prelude.{◌≡◌, ◌≤◌, vec_capacity, vec_len}
 ghost use Rattle.ken_links.specs.Rings.{nones, popped, SamePopEnd};
 ghost use Rattle.ken_node.specs.News.{AreInputs, TakesNews, latest};
 
-use crate::items::{Frozen, Told};
+use crate::items::{Feedback, Frozen};
 use ken_links::{PopEnd, PushEnd, SLOTS};
 use ken_model::Message;
 use ken_order::Order;
@@ -27,7 +27,7 @@ pub struct TurnWorker<D> {
     pub(crate) order: Order,
     // All sealed turns, oldest first.
     pub(crate) turns: Vec<Effects>,
-    pub(crate) told: Told,
+    pub(crate) told: Feedback,
     pub(crate) pages: PushEnd<Frozen>,
     pub(crate) sealed: PushEnd<Sealed>,
     pub(crate) settled: PopEnd<u64>,

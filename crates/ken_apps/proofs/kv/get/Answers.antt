@@ -20,6 +20,6 @@ returns-in-Some-clause-effect g c =
     let key = c.args.key.now in
     let pair = c.in-Some.ensures.text in
     let found : pair_of key value.blocks ≡ Some pair.0 = rw c.objects.ensures.heap at pair.1 in
-    on_ok_weaker c.output.result
+    on_ok_weaker c.output_text.result
     (λ ok allowed. by_front _ value key (pair_of key value.blocks) pair.0 c.in-Some.text.now found pair.2 allowed ∙ search rules)
-    c.output.ensures.ok
+    c.output_text.ensures.ok

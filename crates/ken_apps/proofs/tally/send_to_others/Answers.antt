@@ -5,7 +5,7 @@ use Rattle.ken_model.specs.Kinds.{to_others}
 use Rattle.ken_model.proofs.Others.{to_others-other, to_others-same}
 use Rattle.ken_app.specs.Turning.{Turning, turning, oracle_of, with_send, IsOneTurn}
 use Rattle.ken_apps.proofs.tally.send_to_others.Goals as goal
-use Rattle.ken_apps.proofs.tally.send_to_others.Goals.{then-to-node+in_ok-send, else-to-node}
+use Rattle.ken_apps.proofs.tally.send_to_others.Goals.{then-to-node+in_ok-send_text, else-to-node}
 
 pub loop-to-preserved : goal.loop-to-preserved
 loop-to-preserved g c =
@@ -16,11 +16,11 @@ loop-to-preserved g c =
     let with : List Send → Turning = λ ss. record first { sends = ss } in
     let node : c.node.result ≡ first.node = c.node.ensures ∙ ap (λ (t : Turning). t.node) inv.so_far in
     elim c.if-to-node.branch [
-      | then-to-node+in_ok-send w ↦ (let one : List Send = record { to = to; bytes = text } ∷ [] in
-          let sent = w.in_ok-send.ensures in
+      | then-to-node+in_ok-send_text w ↦ (let one : List Send = record { to = to; bytes = text } ∷ [] in
+          let sent = w.in_ok-send_text.ensures in
           let in_run : nat_lt to first.nodes ≡ true = lt-ltb to first.nodes (omega (arith, c.loop-to-test.true, c.nodes-to-end.ensures)) in
-          let added : turning w.send.new.self ≡ with_send to text (turning c.loop-to.turn) = sent.ok c.requires.short in
-          let now : turning w.send.new.self ≡ with (to_others first.node to text ++ one) = added ∙ ap (with_send to text) inv.so_far ∙ ap (λ b. with (to_others first.node to text ++ (if b then one else []))) in_run in
+          let added : turning w.send_text.new.self ≡ with_send to text (turning c.loop-to.turn) = sent.ok c.requires.short in
+          let now : turning w.send_text.new.self ≡ with (to_others first.node to text ++ one) = added ∙ ap (with_send to text) inv.so_far ∙ ap (λ b. with (to_others first.node to text ++ (if b then one else []))) in_run in
           let turn_is = w.turn-is in
           record {
             so_far = ap turning turn_is ∙ now ∙ ap with (sym (to_others-other first.node to text (λ same. w.if-to-node.true (same ∙ sym node))));
