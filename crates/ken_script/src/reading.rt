@@ -91,6 +91,16 @@ fn script_in(alloc: Global, object: &Value) -> Result<Script, ScriptFault>
     })
 }
 
+/// Reads the script that a JSON value states, as `read` does a text. A value that breaks a rule is refused by the first rule that
+/// it breaks, with the least place at which it does; one that is no object has no nodes.
+pub fn read_value(alloc: Global, object: &Value) -> Result<Script, ScriptFault>
+    ensures states { IfOk result (States (view object.now)) }
+    ensures breaks { IfErr result (IsFaultIn (view object.now)) }
+    ensures keeps { IfOk result KeepsRules }
+{
+    script_in(alloc, object)
+}
+
 /// Reads a script of at most `LIMIT` bytes. A script that breaks a rule is refused by the first rule that it breaks,
 /// with the least place at which it does.
 pub fn read(alloc: Global, bytes: &[u8]) -> Result<Script, ScriptFault>
@@ -99,5 +109,5 @@ pub fn read(alloc: Global, bytes: &[u8]) -> Result<Script, ScriptFault>
     ensures keeps { IfOk result KeepsRules }
 {
     let object = object_in(alloc, bytes)?;
-    script_in(alloc, &object)
+    read_value(alloc, &object)
 }
