@@ -2,3 +2,4 @@ pub mod Oracles
 pub mod Turning
 pub mod Lending
 pub mod Limits
+pub mod Lines
