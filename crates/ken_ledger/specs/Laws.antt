@@ -7,11 +7,16 @@ use Rattle.ken_model.specs.declared.messages.TheConstants.{OUTSIDE}
 use Rattle.ken_model.specs.declared.values.Value.{Value}
 use Rattle.ken_model.specs.Effects.{Effect}
 use Rattle.ken_app.specs.Limits.{KeepsLimits}
+use Rattle.ken_app.specs.Lines.{KeepsLines}
 use Rattle.ken_ledger.specs.Ledger.{ledger, ledger_after}
 
 -- the ledger keeps the limits of a turn at each node, so nodes can run it
 abbrev pub LedgerKeepsLimits : Type 0
 LedgerKeepsLimits = (nodes size : ℕ) → KeepsLimits nodes size ledger
+
+-- and its report can be printed
+abbrev pub LedgerKeepsLines : Type 0
+LedgerKeepsLines = (nodes size : ℕ) → KeepsLines nodes size ledger
 
 -- a text adds n to the balance of each node that takes it from a node, where 64 bits hold the sum
 abbrev pub IsCredit : List ℕ → ℕ → Type 0

@@ -6,5 +6,5 @@ mod ledger;
 #[cfg(test)]
 mod tests;
 
-pub use laws::{ledger_keeps_limits, no_payment_is_lost};
+pub use laws::{ledger_keeps_limits, ledger_keeps_lines, no_payment_is_lost};
 pub use ledger::Ledger;
