@@ -244,7 +244,7 @@ again-same a b emissions emitted =
 
 -- ---- a run of which one station changed
 
-module _ {D O U : Type 0} (told : Watched D → Option Story) (count : Watched D → ℕ) (fate : Watched D → Option Fate) (telling : Telling O) (terms : Terms) (g : Game) (made : ℕ) (r r2 : Run D O U) (v : ℕ) (s2 : Station D O U)
+module _ {D O U A : Type 0} (told : Watched D → Option Story) (count : Watched D → ℕ) (fate : Watched D → Option Fate) (telling : Telling O) (terms : Terms) (g : Game) (made : ℕ) (r r2 : Run D O U A) (v : ℕ) (s2 : Station D O U)
     (width : length r.stations.items ≡ made) (low : v < made) (stations : r2.stations.items ≡ slice_set r.stations.items v s2) (most : r2.restarts ≡ terms.most)
     (others : (u : ℕ) (d : Station D O U) → u < made → u ≢ v → IsAccounted told count fate telling terms g u (slice_index_or r.stations.items u d)) where
   here : (d : Station D O U) → slice_index_or r2.stations.items v d ≡ s2
@@ -274,7 +274,7 @@ module _ {D O U : Type 0} (told : Watched D → Option Story) (count : Watched D
 
 -- ---- each call
 
-module _ {D O U : Type 0} (told : Watched D → Option Story) (size : Watched D → ℕ) (count : Watched D → ℕ) (fate : Watched D → Option Fate) (telling : Telling O) (terms : Terms) (g : Game) (made : ℕ) (r r2 : Run D O U) (v : ℕ) (s s2 : Station D O U)
+module _ {D O U A : Type 0} (told : Watched D → Option Story) (size : Watched D → ℕ) (count : Watched D → ℕ) (fate : Watched D → Option Fate) (telling : Telling O) (terms : Terms) (g : Game) (made : ℕ) (r r2 : Run D O U A) (v : ℕ) (s s2 : Station D O U)
     (n : Node) (up : IsUp told size g v n s.node.stage) (width : length r.stations.items ≡ made) (low : v < made) (is : slice_index_or r.stations.items v s ≡ s)
     (stations : r2.stations.items ≡ slice_set r.stations.items v s2) (kept : r2.restarts ≡ r.restarts) (accounted : AreAccounted told count fate telling terms g made r) where
   was : IsAccounted told count fate telling terms g v s
@@ -468,13 +468,13 @@ module _ {D O U : Type 0} (told : Watched D → Option Story) (size : Watched D 
 
 -- ---- what a call needs to know
 
-pub own-accounts : {D O U : Type 0} (told : Watched D → Option Story) (count : Watched D → ℕ) (fate : Watched D → Option Fate) (telling : Telling O) (terms : Terms) (g : Game) (made : ℕ) (r : Run D O U) (v : ℕ) (s : Station D O U) → v < made → slice_index_or r.stations.items v s ≡ s
+pub own-accounts : {D O U A : Type 0} (told : Watched D → Option Story) (count : Watched D → ℕ) (fate : Watched D → Option Fate) (telling : Telling O) (terms : Terms) (g : Game) (made : ℕ) (r : Run D O U A) (v : ℕ) (s : Station D O U) → v < made → slice_index_or r.stations.items v s ≡ s
     → AreAccounted told count fate telling terms g made r → IsAccounted told count fate telling terms g v s
 own-accounts told count fate telling terms g made r v s low is accounted = subst (IsAccounted told count fate telling terms g v) is (accounted.each v s low)
 
 -- acknowledgements that were given go no further than what the node has sent
-pub heard-no-further : {D O U : Type 0} (told : Watched D → Option Story) (size : Watched D → ℕ) (took : U → Option (List Out)) (g : Game) (made : ℕ) (r : Run D O U) (v : ℕ) (running : IsRunning told size took g made r) → v < made → (acks : List (List (List ℕ))) (nones nones2 : ℕ) (stage : Stage (Watched D))
+pub heard-no-further : {D O U A : Type 0} (told : Watched D → Option Story) (size : Watched D → ℕ) (took : U → Option (List Out)) (handles : A → Handler) (g : Game) (made : ℕ) (r : Run D O U A) (v : ℕ) (running : IsRunning told size took handles g made r) → v < made → (acks : List (List (List ℕ))) (nones nones2 : ℕ) (stage : Stage (Watched D))
     → (p : HearSteps told size g v (running.nodes v) (WereGiven v nones r.waiting.acks acks) nones2 nones stage) → AllByRecursion (GoesNoFurther v (running.nodes v)) (packets_from g.nodes p.given)
-heard-no-further told size took g made r v running low acks nones nones2 stage p =
+heard-no-further told size took handles g made r v running low acks nones nones2 stage p =
     let few = running.stands.few in
     no-further g running.nodes running.emissions v (packets_from g.nodes p.given) running.stands.accord (omega (arith, few, low)) (given_are_known g (group_of g running.nodes running.emissions) v r.waiting.acks acks p.given running.stands.acks p.was_given.gave).1

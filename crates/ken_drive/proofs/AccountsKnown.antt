@@ -6,6 +6,7 @@ use Rattle.ken_model.specs.declared.messages.Out.{Out}
 use Rattle.ken_model.specs.declared.reports.Emission.{Emission}
 use Rattle.ken_model.specs.Emissions.{emitted_by}
 use Rattle.ken_model.specs.Game.{Game}
+use Rattle.ken_model.specs.Handler.{Handler}
 use Rattle.ken_record.specs.declared.effects.Effects.{Effects}
 use Rattle.ken_app.specs.Oracles.{Telling}
 use Rattle.ken_core.specs.Clusters.{emissions_by}
@@ -34,7 +35,7 @@ module _ {D O U : Type 0} (told : Watched D → Option Story) (count : Watched D
   pub no-line-calm : (s : Station D O U) (disks : Disks (Watched D)) → IsAccounted told count fate telling terms g v s → HasDisks disks s.node.stage → s.lines.items ≡ [] → faults_of count disks ≡ 0
   no-line-calm s disks is has none = is.calm none disks has
 
-  module _ (made : ℕ) (r : Run D O U) (is : IsUsedUp told count fate telling terms g made v r) (d : Station D O U) (disks : Disks (Watched D)) (has : HasDisks disks (slice_index_or r.stations.items v d).node.stage) where
+  module _ {A : Type 0} (made : ℕ) (r : Run D O U A) (is : IsUsedUp told count fate telling terms g made v r) (d : Station D O U) (disks : Disks (Watched D)) (has : HasDisks disks (slice_index_or r.stations.items v d).node.stage) where
     -- where a run stopped at a node that is down, calls of its disks failed more often than it may be restarted
     pub used-up-failed : min (terms.most + 1) (2 ^ 64 - 1) ≤ faults_of count disks
     used-up-failed = let often = is.none_left d in let causes = (is.held.held d).causes disks has in omega (arith, often, causes)
@@ -49,7 +50,7 @@ numbers-by : (v : ℕ) (outs : List Out) → numbers_of (emissions_by v outs) �
 numbers-by v [] = refl
 numbers-by v (o ∷ os) = ap (λ ns. o.number ∷ ns) (numbers-by v os)
 
-module _ {D O U : Type 0} (told : Watched D → Option Story) (size : Watched D → ℕ) (took : U → Option (List Out)) (count : Watched D → ℕ) (fate : Watched D → Option Fate) (telling : Telling O) (terms : Terms) (g : Game) (law : UpHasSynced told size count) where
+module _ {D O U A : Type 0} (told : Watched D → Option Story) (size : Watched D → ℕ) (took : U → Option (List Out)) (handles : A → Handler) (count : Watched D → ℕ) (fate : Watched D → Option Fate) (telling : Telling O) (terms : Terms) (g : Game) (law : UpHasSynced told size count) where
   -- the law is that of `a_node_has_synced`
   pub account-of : (v : ℕ) (n : Node) (outs : List Out) (s : Station D O U) → IsUp told size g v n s.node.stage → HasEmitted took v outs s → IsAccounted told count fate telling terms g v s → HasAccount told count fate telling terms g v n outs s
   account-of v n outs s up emitted is =
@@ -72,7 +73,7 @@ module _ {D O U : Type 0} (told : Watched D → Option Story) (size : Watched D 
       }
 
   -- so of each node of a run
-  pub accounts-of : (made : ℕ) (r : Run D O U) (running : IsRunning told size took g made r) → AreAccounted told count fate telling terms g made r → (v : ℕ) (d : Station D O U) → v < made
+  pub accounts-of : (made : ℕ) (r : Run D O U A) (running : IsRunning told size took handles g made r) → AreAccounted told count fate telling terms g made r → (v : ℕ) (d : Station D O U) → v < made
       → HasAccount told count fate telling terms g v (running.nodes v) (emitted_by v running.emissions) (slice_index_or r.stations.items v d)
   accounts-of made r running accounted v d low =
       account-of v (running.nodes v) (emitted_by v running.emissions) (slice_index_or r.stations.items v d) (running.up v d low) (running.stands.each v d low).emitted (accounted.each v d low)

@@ -151,7 +151,7 @@ module _ {D O U : Type 0} (told : Watched D → Option Story) (size : Watched D 
   restart-station pick (Err (Damaged disk place)) b disks = absurd b
 
 -- of a run whose node was down
-module _ {D O U : Type 0} (told : Watched D → Option Story) (size : Watched D → ℕ) (count : Watched D → ℕ) (fate : Watched D → Option Fate) (telling : Telling O) (terms : Terms) (g : Game) (made : ℕ) (r r2 : Run D O U) (v : ℕ) (s s2 : Station D O U)
+module _ {D O U A : Type 0} (told : Watched D → Option Story) (size : Watched D → ℕ) (count : Watched D → ℕ) (fate : Watched D → Option Fate) (telling : Telling O) (terms : Terms) (g : Game) (made : ℕ) (r r2 : Run D O U A) (v : ℕ) (s s2 : Station D O U)
     (is : slice_index_or r.stations.items v s ≡ s) (held : OneIsHeld told count fate telling terms g made v r) where
   pub held-before : IsHeld told count fate telling terms g v s
   held-before = subst (IsHeld told count fate telling terms g v) is (held.held s)
@@ -174,7 +174,7 @@ restart-disks-err told count fate pick (Err (Damaged disk place)) fault a b same
 
 -- ---- one call after another
 
-module _ {D O U T : Type 0} (told : Watched D → Option Story) (count : Watched D → ℕ) (fate : Watched D → Option Fate) (telling : Telling O) (terms : Terms) (g : Game) (made : ℕ) (r : Run D O U) where
+module _ {D O U A T : Type 0} (told : Watched D → Option Story) (count : Watched D → ℕ) (fate : Watched D → Option Fate) (telling : Telling O) (terms : Terms) (g : Game) (made : ℕ) (r : Run D O U A) where
   -- a fault that is handed on leaves what it left
   pub accounts-handed-on : (v : ℕ) (result : Result T NodeFault) (fault : NodeFault) → IsErrAnd result (λ e. e ≡ fault) → AccountsFault told count fate telling terms g fault made v r → AccountsBy told count fate telling terms g result made v r
   accounts-handed-on v (Ok x) fault same is = absurd same
@@ -185,7 +185,7 @@ module _ {D O U T : Type 0} (told : Watched D → Option Story) (count : Watched
   run-accounts-handed-on (Err e) fault same is = subst (λ (x : RunFault). AccountsRunFault told count fate telling terms g x made r) (sym same) is
 
 -- a node that was restarted as often as it may be has used up its restarts
-pub used-up : {D O U : Type 0} (told : Watched D → Option Story) (count : Watched D → ℕ) (fate : Watched D → Option Fate) (telling : Telling O) (terms : Terms) (g : Game) (made v : ℕ) (r : Run D O U) → v < length r.stations.items → terms.most ≤ tries_at r.stations.items v
+pub used-up : {D O U A : Type 0} (told : Watched D → Option Story) (count : Watched D → ℕ) (fate : Watched D → Option Fate) (telling : Telling O) (terms : Terms) (g : Game) (made v : ℕ) (r : Run D O U A) → v < length r.stations.items → terms.most ≤ tries_at r.stations.items v
     → OneIsHeld told count fate telling terms g made v r → IsUsedUp told count fate telling terms g made v r
 used-up told count fate telling terms g made v r low many held = record {
   held = held;

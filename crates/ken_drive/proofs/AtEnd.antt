@@ -6,6 +6,7 @@ use Rattle.ken_model.specs.declared.messages.Out.{Out}
 use Rattle.ken_model.specs.declared.reports.Emission.{Emission}
 use Rattle.ken_model.specs.Emissions.{emitted_by, largest_of}
 use Rattle.ken_model.specs.Game.{Game}
+use Rattle.ken_model.specs.Handler.{Handler}
 use Rattle.ken_model.specs.Network.{inputs_for, outside}
 use Rattle.ken_core.specs.Clusters.{emissions_by}
 use Rattle.ken_core.specs.Nodes.{Node}
@@ -94,24 +95,24 @@ module _ (g : Game) (emissions : List Emission) (nodes : ℕ → Node) where
   pub ended-done : (v : ℕ) → v < g.nodes → HasEnded g emissions nodes → IsDone g emissions nodes v
   ended-done v low ended = record { emitted = ended.emitted v low; waits = λ u known some. ended.waits u v known low some }
 
-module _ {D O U : Type 0} (told : Watched D → Option Story) (size : Watched D → ℕ) (took : U → Option (List Out)) (r : Run D O U) where
-  pub below-eight : (g : Game) (made v : ℕ) → IsRunning told size took g made r → v < made → v < 8
+module _ {D O U A : Type 0} (told : Watched D → Option Story) (size : Watched D → ℕ) (took : U → Option (List Out)) (handles : A → Handler) (r : Run D O U A) where
+  pub below-eight : (g : Game) (made v : ℕ) → IsRunning told size took handles g made r → v < made → v < 8
   below-eight g made v is low =
       let few = is.stands.few in
       let most = is.stands.limits.few_nodes in
       omega (arith, low, few, most)
 
   -- a node below the count works
-  pub may-work : (v : ℕ) → v < r.nodes → MayGoOn told size took r → MayWork told size took v r
+  pub may-work : (v : ℕ) → v < r.nodes → MayGoOn told size took handles r → MayWork told size took handles v r
   may-work v low may = record { game = may.game; made = may.made; running = may.running; known = subst (λ (n : ℕ). v < n) may.running.stands.count low }
 
-  pub may-work-too : (u v : ℕ) → v < r.nodes → MayWork told size took u r → MayWork told size took v r
+  pub may-work-too : (u v : ℕ) → v < r.nodes → MayWork told size took handles u r → MayWork told size took handles v r
   may-work-too u v low may = record { game = may.game; made = may.made; running = may.running; known = subst (λ (n : ℕ). v < n) may.running.stands.count low }
 
-  pub below-made : (g : Game) (made v : ℕ) → IsRunning told size took g made r → v < r.nodes → v < made
+  pub below-made : (g : Game) (made v : ℕ) → IsRunning told size took handles g made r → v < r.nodes → v < made
   below-made g made v is low = subst (λ (n : ℕ). v < n) is.stands.count low
 
-  pub all-nodes : (g : Game) (made : ℕ) → IsRunning told size took g made r → made ≡ g.nodes → r.nodes ≡ g.nodes
+  pub all-nodes : (g : Game) (made : ℕ) → IsRunning told size took handles g made r → made ≡ g.nodes → r.nodes ≡ g.nodes
   all-nodes g made is all = is.stands.count ∙ all
 
 -- a fact of each number below one more

@@ -9,6 +9,7 @@ use Rattle.ken_model.specs.declared.messages.Out.{Out}
 use Rattle.ken_model.specs.declared.reports.Emission.{Emission}
 use Rattle.ken_model.specs.Emissions.{emitted_by}
 use Rattle.ken_model.specs.Game.{Game}
+use Rattle.ken_model.specs.Handler.{Handler}
 use Rattle.ken_net.specs.Puts.{Put}
 use Rattle.ken_net.specs.Standings.{Leaving, all_passed}
 use Rattle.ken_core.specs.declared.events.Event.{Event}
@@ -50,8 +51,8 @@ no-further g nodes emissions v (Mail m ∷ ps) accord known all = (tt, no-furthe
 no-further g nodes emissions v (Answer a ∷ ps) accord known all =
     (λ to. acks_go_no_further g nodes emissions v a accord known (All-head (WasPut (group_of g nodes emissions)) (Answer a) ps all) to, no-further g nodes emissions v ps accord known (All-tail (WasPut (group_of g nodes emissions)) (Answer a) ps all))
 
-module _ {D O U : Type 0} (told : Watched D → Option Story) (size : Watched D → ℕ) (took : U → Option (List Out)) (g : Game) (made : ℕ) (r r2 : Run D O U) (v : ℕ) (s s2 : Station D O U)
-    (nodes : ℕ → Node) (emissions : List Emission) (stands : StandsFor told size took g made nodes emissions r) (low : v < made)
+module _ {D O U A : Type 0} (told : Watched D → Option Story) (size : Watched D → ℕ) (took : U → Option (List Out)) (handles : A → Handler) (g : Game) (made : ℕ) (r r2 : Run D O U A) (v : ℕ) (s s2 : Station D O U)
+    (nodes : ℕ → Node) (emissions : List Emission) (stands : StandsFor told size took handles g made nodes emissions r) (low : v < made)
     (is : slice_index_or r.stations.items v s ≡ s) (same : (r2.nodes ≡ r.nodes) × (r2.app ≡ r.app)) (stations : r2.stations.items ≡ slice_set r.stations.items v s2) where
   pub known : v < g.nodes
   known = let few = stands.few in omega (arith, few, low)
@@ -85,13 +86,13 @@ module _ {D O U : Type 0} (told : Watched D → Option Story) (size : Watched D 
       → (gave : WereGiven v nones r.waiting.mail r2.waiting.mail bytes) → WerePut s.acks s2.acks r.waiting.acks r2.waiting.acks puts
       → NodeRun g (Contains (packets_from g.nodes bytes)) v (nodes v) events out after → AreSpelled g.nodes puts out.puts → out.outs ≡ []
       → emissions_in s2.node.stage ≡ emissions_in s.node.stage → s2 ≡ record s { node = s2.node; luck = s2.luck; acks = s2.acks }
-      → StandsFor told size took g made (with_node v after nodes) (emissions ++ emissions_by v out.outs) r2
+      → StandsFor told size took handles g made (with_node v after nodes) (emissions ++ emissions_by v out.outs) r2
   handler-stands bytes nones puts events out after gave put run spelled none kept rest =
       let packets = packets_from g.nodes bytes in
       let were = mail-were bytes nones gave in
       let w2 = group-after g nodes emissions v packets events out after stands.accord known were run in
       let acks = posted g nodes emissions v packets events out after stands.accord known were run s.acks s2.acks r.waiting.acks r2.waiting.acks puts spelled own.acks stands.acks put in
-      stands-after g nodes emissions v packets events out after stands.accord known were run told size took made r r2 s2 stands low same stations
+      stands-after g nodes emissions v packets events out after stands.accord known were run told size took handles made r r2 s2 stands low same stations
       (gave.gave.count ∙ stands.boxes.0, acks.2 ∙ stands.boxes.1)
       (takes-known g nodes emissions v packets events out after stands.accord known were run r.waiting.mail r2.waiting.mail bytes stands.mail gave.gave)
       acks.1
@@ -112,13 +113,13 @@ module _ {D O U : Type 0} (told : Watched D → Option Story) (size : Watched D 
       → (gave : WereGiven v nones r.waiting.acks r2.waiting.acks bytes) → WerePut s.mail s2.mail r.waiting.mail r2.waiting.mail puts
       → NodeRun g (Contains (packets_from g.nodes bytes)) v (nodes v) events out after → AreSpelled g.nodes puts out.puts → out.outs ≡ []
       → emissions_in s2.node.stage ≡ emissions_in s.node.stage → s2 ≡ record s { node = s2.node; mail = s2.mail }
-      → StandsFor told size took g made (with_node v after nodes) (emissions ++ emissions_by v out.outs) r2
+      → StandsFor told size took handles g made (with_node v after nodes) (emissions ++ emissions_by v out.outs) r2
   sender-stands bytes nones puts events out after gave put run spelled none kept rest =
       let packets = packets_from g.nodes bytes in
       let were = acks-were bytes nones gave in
       let w2 = group-after g nodes emissions v packets events out after stands.accord known were run in
       let mail = posted g nodes emissions v packets events out after stands.accord known were run s.mail s2.mail r.waiting.mail r2.waiting.mail puts spelled own.mail stands.mail put in
-      stands-after g nodes emissions v packets events out after stands.accord known were run told size took made r r2 s2 stands low same stations
+      stands-after g nodes emissions v packets events out after stands.accord known were run told size took handles made r r2 s2 stands low same stations
       (mail.2 ∙ stands.boxes.0, gave.gave.count ∙ stands.boxes.1)
       mail.1
       (takes-known g nodes emissions v packets events out after stands.accord known were run r.waiting.acks r2.waiting.acks bytes stands.acks gave.gave)
@@ -136,14 +137,14 @@ module _ {D O U : Type 0} (told : Watched D → Option Story) (size : Watched D 
       → (were : All (WasPut (group_of g nodes emissions)) packets) → r2.waiting ≡ r.waiting
       → NodeRun g (Contains packets) v (nodes v) events out after
       → (s2.mail ≡ s.mail) × (s2.acks ≡ s.acks) → HasEmitted took v (emitted_by v emissions ++ out.outs) s2
-      → StandsFor told size took g made (with_node v after nodes) (emissions ++ emissions_by v out.outs) r2
+      → StandsFor told size took handles g made (with_node v after nodes) (emissions ++ emissions_by v out.outs) r2
   alone-stands packets events out after were waits run links emitted =
       let w2 = group-after g nodes emissions v packets events out after stands.accord known were run in
       let stay = known-stays g nodes emissions v packets events out after stands.accord known were run in
       let links_stay = links-stay g nodes emissions v packets events out after stands.accord known were run v in
       let mail-is = ap (λ (x : InFlight). x.mail) waits in
       let acks-is = ap (λ (x : InFlight). x.acks) waits in
-      stands-after g nodes emissions v packets events out after stands.accord known were run told size took made r r2 s2 stands low same stations
+      stands-after g nodes emissions v packets events out after stands.accord known were run told size took handles made r r2 s2 stands low same stations
       (ap length mail-is ∙ stands.boxes.0, ap length acks-is ∙ stands.boxes.1)
       (subst (AreKnown g w2) (sym mail-is) (stay.boxes r.waiting.mail stands.mail))
       (subst (AreKnown g w2) (sym acks-is) (stay.boxes r.waiting.acks stands.acks))
@@ -170,41 +171,41 @@ module _ {D O U : Type 0} (told : Watched D → Option Story) (size : Watched D 
       → (gave : WereGiven v nones r.waiting.mail r2.waiting.mail bytes) → WerePut s.acks s2.acks r.waiting.acks r2.waiting.acks puts
       → NodeRun g (Contains (packets_from g.nodes bytes)) v (nodes v) events out after → AreSpelled g.nodes puts out.puts → out.outs ≡ []
       → emissions_in s2.node.stage ≡ emissions_in s.node.stage → s2 ≡ record s { node = s2.node; luck = s2.luck; acks = s2.acks }
-      → IsUp told size g v after s2.node.stage → OthersUp → IsRunning told size took g made r2
+      → IsUp told size g v after s2.node.stage → OthersUp → IsRunning told size took handles g made r2
   handler-up bytes nones puts events out after gave put run spelled none kept rest up others =
-      running-after g nodes emissions v (packets_from g.nodes bytes) events out after stands.accord known (mail-were bytes nones gave) run told size took made r r2 s2 stands low same stations
+      running-after g nodes emissions v (packets_from g.nodes bytes) events out after stands.accord known (mail-were bytes nones gave) run told size took handles made r r2 s2 stands low same stations
       (handler-stands bytes nones puts events out after gave put run spelled none kept rest) up others
 
   pub handler-down : (bytes : List (List ℕ)) (nones : ℕ) (puts : List Put) (events : List Event) (out : Outgoing) (after : Node) (doubt : Doubt)
       → (gave : WereGiven v nones r.waiting.mail r2.waiting.mail bytes) → WerePut s.acks s2.acks r.waiting.acks r2.waiting.acks puts
       → NodeRun g (Contains (packets_from g.nodes bytes)) v (nodes v) events out after → AreSpelled g.nodes puts out.puts → out.outs ≡ []
       → emissions_in s2.node.stage ≡ emissions_in s.node.stage → s2 ≡ record s { node = s2.node; luck = s2.luck; acks = s2.acks }
-      → IsDown told g v (packets_from g.nodes bytes) after doubt s2.node.stage → OthersUp → IsStopped told size took g made v r2
+      → IsDown told g v (packets_from g.nodes bytes) after doubt s2.node.stage → OthersUp → IsStopped told size took handles g made v r2
   handler-down bytes nones puts events out after doubt gave put run spelled none kept rest down others =
       let packets = packets_from g.nodes bytes in
       let were = mail-were bytes nones gave in
-      stopped-after g nodes emissions v packets events out after stands.accord known were run told size took made r r2 s2 stands low same stations
+      stopped-after g nodes emissions v packets events out after stands.accord known were run told size took handles made r r2 s2 stands low same stations
       (handler-stands bytes nones puts events out after gave put run spelled none kept rest) packets (were-still packets events out after were run) doubt down others
 
   pub sender-up : (bytes : List (List ℕ)) (nones : ℕ) (puts : List Put) (events : List Event) (out : Outgoing) (after : Node)
       → (gave : WereGiven v nones r.waiting.acks r2.waiting.acks bytes) → WerePut s.mail s2.mail r.waiting.mail r2.waiting.mail puts
       → NodeRun g (Contains (packets_from g.nodes bytes)) v (nodes v) events out after → AreSpelled g.nodes puts out.puts → out.outs ≡ []
       → emissions_in s2.node.stage ≡ emissions_in s.node.stage → s2 ≡ record s { node = s2.node; mail = s2.mail }
-      → IsUp told size g v after s2.node.stage → OthersUp → IsRunning told size took g made r2
+      → IsUp told size g v after s2.node.stage → OthersUp → IsRunning told size took handles g made r2
   sender-up bytes nones puts events out after gave put run spelled none kept rest up others =
-      running-after g nodes emissions v (packets_from g.nodes bytes) events out after stands.accord known (acks-were bytes nones gave) run told size took made r r2 s2 stands low same stations
+      running-after g nodes emissions v (packets_from g.nodes bytes) events out after stands.accord known (acks-were bytes nones gave) run told size took handles made r r2 s2 stands low same stations
       (sender-stands bytes nones puts events out after gave put run spelled none kept rest) up others
 
   pub alone-up : (packets : List Packet) (events : List Event) (out : Outgoing) (after : Node) → (were : All (WasPut (group_of g nodes emissions)) packets) → r2.waiting ≡ r.waiting
       → NodeRun g (Contains packets) v (nodes v) events out after → (s2.mail ≡ s.mail) × (s2.acks ≡ s.acks) → HasEmitted took v (emitted_by v emissions ++ out.outs) s2
-      → IsUp told size g v after s2.node.stage → OthersUp → IsRunning told size took g made r2
+      → IsUp told size g v after s2.node.stage → OthersUp → IsRunning told size took handles g made r2
   alone-up packets events out after were waits run links emitted up others =
-      running-after g nodes emissions v packets events out after stands.accord known were run told size took made r r2 s2 stands low same stations
+      running-after g nodes emissions v packets events out after stands.accord known were run told size took handles made r r2 s2 stands low same stations
       (alone-stands packets events out after were waits run links emitted) up others
 
   pub alone-down : (packets : List Packet) (events : List Event) (out : Outgoing) (after : Node) (doubt : Doubt) → (were : All (WasPut (group_of g nodes emissions)) packets) → r2.waiting ≡ r.waiting
       → NodeRun g (Contains packets) v (nodes v) events out after → (s2.mail ≡ s.mail) × (s2.acks ≡ s.acks) → HasEmitted took v (emitted_by v emissions ++ out.outs) s2
-      → IsDown told g v packets after doubt s2.node.stage → OthersUp → IsStopped told size took g made v r2
+      → IsDown told g v packets after doubt s2.node.stage → OthersUp → IsStopped told size took handles g made v r2
   alone-down packets events out after doubt were waits run links emitted down others =
-      stopped-after g nodes emissions v packets events out after stands.accord known were run told size took made r r2 s2 stands low same stations
+      stopped-after g nodes emissions v packets events out after stands.accord known were run told size took handles made r r2 s2 stands low same stations
       (alone-stands packets events out after were waits run links emitted) packets (were-still packets events out after were run) doubt down others

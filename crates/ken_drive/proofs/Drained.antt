@@ -3,6 +3,7 @@ use Rattle.std.proofs.Common.{◌≡◌, ℕ, List, Bool, true, false, Option, R
 use Rattle.std.specs.Result.{IsErrAnd}
 use Rattle.ken_disk.specs.Story.{Story}
 use Rattle.ken_model.specs.declared.messages.Out.{Out}
+use Rattle.ken_model.specs.Handler.{Handler}
 use Rattle.ken_node.specs.declared.watched.Watched.{Watched}
 use Rattle.ken_drive.specs.declared.drain.PassOutcome.{PassOutcome}
 use Rattle.ken_drive.specs.declared.drain.PassOutcome.TheVariants.{Ended, Progressed, Idle}
@@ -11,52 +12,52 @@ use Rattle.ken_drive.specs.declared.run.Run.{Run}
 use Rattle.ken_drive.specs.Drained.{DrainsTo, HasDrained, HasNotEnded, PassesOn, PassesTo, none, then}
 use Rattle.ken_drive.specs.Patched.{AllVisited}
 
-module _ {D O U : Type 0} (told : Watched D → Option Story) (size : Watched D → ℕ) (took : U → Option (List Out)) where
-  pub passes-then : (old mid new : Run D O U) → PassesOn told size took old mid → PassesOn told size took mid new → PassesOn told size took old new
+module _ {D O U A : Type 0} (told : Watched D → Option Story) (size : Watched D → ℕ) (took : U → Option (List Out)) (handles : A → Handler) where
+  pub passes-then : (old mid new : Run D O U A) → PassesOn told size took handles old mid → PassesOn told size took handles mid new → PassesOn told size took handles old new
   passes-then old mid new one none = one
   passes-then old mid new one (then {mid = last} {new = end} two visited goes_on) = then (passes-then old mid last one two) visited goes_on
 
   -- the first pass
-  pub pass-first : (old new : Run D O U) → AllVisited told old new → HasNotEnded told size took new → PassesOn told size took old new
+  pub pass-first : (old new : Run D O U A) → AllVisited told old new → HasNotEnded told size took handles new → PassesOn told size took handles old new
   pass-first old new visited goes_on = then none visited goes_on
 
-  pub pass-last : (old new : Run D O U) → AllVisited told old new → HasDrained told size took old new
+  pub pass-last : (old new : Run D O U A) → AllVisited told old new → HasDrained told size took handles old new
   pass-last old new visited = record { mid = old; before = none; last = visited }
 
-  drained-then : (old mid new : Run D O U) → PassesOn told size took old mid → HasDrained told size took mid new → HasDrained told size took old new
+  drained-then : (old mid new : Run D O U A) → PassesOn told size took handles old mid → HasDrained told size took handles mid new → HasDrained told size took handles old new
   drained-then old mid new one two = record { mid = two.mid; before = passes-then old mid two.mid one two.before; last = two.last }
 
   -- more after passes that went on
-  pub outcome-after : (old mid new : Run D O U) (result : Result PassOutcome RunFault) → PassesOn told size took old mid → PassesTo told size took result mid new → PassesTo told size took result old new
+  pub outcome-after : (old mid new : Run D O U A) (result : Result PassOutcome RunFault) → PassesOn told size took handles old mid → PassesTo told size took handles result mid new → PassesTo told size took handles result old new
   outcome-after old mid new (Ok Ended) one two = drained-then old mid new one two
   outcome-after old mid new (Ok Progressed) one two = passes-then old mid new one two
   outcome-after old mid new (Ok Idle) one two = passes-then old mid new one two
   outcome-after old mid new (Err fault) one two = tt
 
-  pub outcome-to : (old new : Run D O U) (outcome outcome2 : PassOutcome) → outcome ≡ outcome2 → PassesTo told size took (Ok outcome) old new → PassesTo told size took (Ok outcome2) old new
-  outcome-to old new outcome outcome2 same is = subst (λ (x : PassOutcome). PassesTo told size took (Ok x) old new) same is
+  pub outcome-to : (old new : Run D O U A) (outcome outcome2 : PassOutcome) → outcome ≡ outcome2 → PassesTo told size took handles (Ok outcome) old new → PassesTo told size took handles (Ok outcome2) old new
+  outcome-to old new outcome outcome2 same is = subst (λ (x : PassOutcome). PassesTo told size took handles (Ok x) old new) same is
 
-  pub ended-after : (old mid new : Run D O U) (outcome : PassOutcome) → outcome ≡ Ended → PassesOn told size took old mid → PassesTo told size took (Ok outcome) mid new → HasDrained told size took old new
+  pub ended-after : (old mid new : Run D O U A) (outcome : PassOutcome) → outcome ≡ Ended → PassesOn told size took handles old mid → PassesTo told size took handles (Ok outcome) mid new → HasDrained told size took handles old new
   ended-after old mid new outcome same one two = drained-then old mid new one (outcome-to mid new outcome Ended same two)
 
-  pub on-after : (old mid new : Run D O U) (outcome : PassOutcome) → (outcome ≡ Ended → ⊥) → PassesOn told size took old mid → PassesTo told size took (Ok outcome) mid new → PassesOn told size took old new
+  pub on-after : (old mid new : Run D O U A) (outcome : PassOutcome) → (outcome ≡ Ended → ⊥) → PassesOn told size took handles old mid → PassesTo told size took handles (Ok outcome) mid new → PassesOn told size took handles old new
   on-after old mid new Ended other one two = absurd (other refl)
   on-after old mid new Progressed other one two = passes-then old mid new one two
   on-after old mid new Idle other one two = passes-then old mid new one two
 
   -- a fault that is handed on
-  pub outcome-broken : (old new : Run D O U) (result : Result PassOutcome RunFault) (fault : RunFault) → IsErrAnd result (λ e. e ≡ fault) → PassesTo told size took result old new
+  pub outcome-broken : (old new : Run D O U A) (result : Result PassOutcome RunFault) (fault : RunFault) → IsErrAnd result (λ e. e ≡ fault) → PassesTo told size took handles result old new
   outcome-broken old new (Ok x) fault same = absurd same
   outcome-broken old new (Err e) fault same = tt
 
-  pub progress-broken : (old new : Run D O U) (result : Result Bool RunFault) (fault : RunFault) → IsErrAnd result (λ e. e ≡ fault) → DrainsTo told size took result old new
+  pub progress-broken : (old new : Run D O U A) (result : Result Bool RunFault) (fault : RunFault) → IsErrAnd result (λ e. e ≡ fault) → DrainsTo told size took handles result old new
   progress-broken old new (Ok x) fault same = absurd same
   progress-broken old new (Err e) fault same = tt
 
-  pub drained-after : (old mid new : Run D O U) (ended : Bool) → ended ≡ true → PassesOn told size took old mid → DrainsTo told size took (Ok ended) mid new → HasDrained told size took old new
+  pub drained-after : (old mid new : Run D O U A) (ended : Bool) → ended ≡ true → PassesOn told size took handles old mid → DrainsTo told size took handles (Ok ended) mid new → HasDrained told size took handles old new
   drained-after old mid new true same one two = drained-then old mid new one two
   drained-after old mid new false same one two = absurd (cc)
 
-  pub going-on : (old mid new : Run D O U) (ended : Bool) → ended ≡ false → PassesOn told size took old mid → DrainsTo told size took (Ok ended) mid new → PassesOn told size took old new
+  pub going-on : (old mid new : Run D O U A) (ended : Bool) → ended ≡ false → PassesOn told size took handles old mid → DrainsTo told size took handles (Ok ended) mid new → PassesOn told size took handles old new
   going-on old mid new true same one two = absurd (cc)
   going-on old mid new false same one two = passes-then old mid new one two

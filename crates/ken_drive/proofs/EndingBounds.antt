@@ -109,7 +109,7 @@ within_start g limits = record {
 
 -- ---- a step
 
-some_of : {A : Type 0} (P : A → Type 0) (o : Option A) (x : A) → IfSome o P → o ≡ Some x → P x
+pub some_of : {A : Type 0} (P : A → Type 0) (o : Option A) (x : A) → IfSome o P → o ≡ Some x → P x
 some_of P None x holds is = absurd cc
 some_of P (Some y) x holds is = let same : y ≡ x = cc in subst P same holds
 
@@ -132,7 +132,7 @@ module _ (g : Game) (limits : IsWithinLimits g) (keeps : KeepsLimits g.nodes g.s
   pub sender : s.from ≤ outside
   sender = ⊎_elim (λ lt. omega (arith, lt, limits.few_nodes)) (λ (e : s.from ≡ outside). omega arith) from
 
-  call : IsCall s.node g.nodes t.message s.draws
+  pub call : IsCall s.node g.nodes t.message s.draws
   call = record { placed = record { some_node = omega (arith, known); few_nodes = limits.few_nodes; known = known }; sender = subst (λ u. (u < g.nodes) ⊎ (u ≡ outside)) (sym message.sender) from; short = message.short; words = is.words }
 
   allowed : IsAllowed g.nodes t.effect

@@ -1,25 +1,17 @@
--- Of a plain run of a kind whatever a schedule makes can be printed: heaps, outputs and draws.
-use Rattle.std.proofs.Common.{◌≡◌, ℕ, zero, suc, ◌+◌, ◌<◌, ◌≤◌, ◌^◌, max, List, [], ◌∷◌, ◌++◌, length, slice_get, Bool, ◌==◌, ◌&&◌, true, false, if◌then◌else◌, nat_lt, Option, Some, None, option_map, option_and_then, refl, sym, ap, subst, arith, ltb-true}
+-- The turn of a step, and what of it can be printed: draws and heaps.
+use Rattle.std.proofs.Common.{◌≡◌, ℕ, zero, suc, ◌+◌, ◌<◌, ◌≤◌, ◌^◌, max, List, [], ◌∷◌, ◌++◌, length, slice_get, Bool, ◌&&◌, true, false, if◌then◌else◌, nat_lt, Option, Some, None, option_map, option_and_then, refl, sym, ap, subst, arith, ltb-true}
 use Rattle.std.specs.List.{AllByRecursion}
-use Rattle.ken_model.specs.declared.facts.Input.{Input}
-use Rattle.ken_model.specs.declared.kinds.Kind.{Kind}
 use Rattle.ken_model.specs.declared.messages.Message.{Message}
-use Rattle.ken_model.specs.declared.messages.Send.{Send}
 use Rattle.ken_model.specs.declared.messages.Step.{Step}
 use Rattle.ken_model.specs.declared.values.Block.{Block}
 use Rattle.ken_model.specs.declared.values.Value.{Value}
 use Rattle.ken_model.specs.Effects.{Effect}
 use Rattle.ken_model.specs.Game.{Game}
-use Rattle.ken_model.specs.Handler.{Handler}
 use Rattle.ken_model.specs.Heap.{IsHeap}
-use Rattle.ken_model.specs.Kinds.{handler_of}
-use Rattle.ken_model.specs.Limits.{IsWithinLimits, IsPlainRun, ArePlain}
-use Rattle.ken_model.specs.Network.{Network, Place, Turn, outside, inputs_from, start, numbered, are_words, handled, turn_at, turn_of, place_after, applied, applied_or_same, stepped}
-use Rattle.ken_model.specs.Report.{IsOneLine}
-use Rattle.ken_model.specs.Schedule.{IsLegalFrom, played}
+use Rattle.ken_model.specs.Network.{Network, Place, Turn, are_words, handled, turn_at, turn_of, applied}
+use Rattle.ken_model.specs.Schedule.{IsLegalFrom}
 use Rattle.ken_model.specs.Spelling.{IsWord, IsPrintableHeap}
-use Rattle.ken_model.proofs.Heaps.{heap_after, blocks-within}
-use Rattle.ken_drive.proofs.Texts.{HoldsTexts, text_after}
+use Rattle.ken_model.proofs.Heaps.{blocks-within}
 
 pub all_append : {A : Type 0} (P : A → Type 0) (xs ys : List A) → AllByRecursion P xs → AllByRecursion P ys → AllByRecursion P (xs ++ ys)
 all_append P [] ys all more = more
@@ -86,67 +78,6 @@ turn_is g w s t is = few (nat_lt (w.place s.node).turns g.turns) refl is
     few : (b : Bool) → nat_lt (w.place s.node).turns g.turns ≡ b → (if b then option_and_then (turn_at g s.node (w.place s.node) s.draws) (slice_get (w.link s.from s.node).sent (w.link s.from s.node).taken) else None) ≡ Some t → IsTurnOf g w s t
     few true more made = at (ltb-true (w.place s.node).turns g.turns more) (slice_get (w.link s.from s.node).sent (w.link s.from s.node).taken) refl made
     few false more made = absurd cc
-
--- ---- what a plain run of a kind keeps
-
--- heaps are heaps, and nothing that is kept, sent or output holds a line feed
-pub record IsTidy (w : Network) : Type 0 where
-  pub heaps : (v : ℕ) → IsHeap (w.place v).value
-  pub texts : (v : ℕ) → HoldsTexts (w.place v).value
-  pub outs : (v : ℕ) → AllByRecursion IsOneLine (w.place v).outs
-  pub mail : (u v : ℕ) → AllByRecursion (λ (m : Message). IsOneLine m.bytes) (w.link u v).sent
-
-numbered_lines : (u v n stamp : ℕ) (ss : List Send) → AllByRecursion (λ (s : Send). IsOneLine s.bytes) ss → AllByRecursion (λ (m : Message). IsOneLine m.bytes) (numbered u v n stamp ss)
-numbered_lines u v n stamp [] lines = tt
-numbered_lines u v n stamp (s ∷ ss) lines =
-    let one : Message = record { from = u; to = v; number = n + 1; stamp = stamp; bytes = s.bytes } in
-    either (AllByRecursion (λ (m : Message). IsOneLine m.bytes)) (s.to == v) (one ∷ numbered u v (n + 1) stamp ss) (numbered u v n stamp ss) (lines.0, numbered_lines u v (n + 1) stamp ss lines.1) (numbered_lines u v n stamp ss lines.1)
-
-plain_line : (bytes : List ℕ) → ArePlain bytes → IsOneLine bytes
-plain_line [] plain = tt
-plain_line (b ∷ bs) plain = ((λ e. omega (arith, plain.0.0)), plain_line bs plain.1)
-
-input_lines : (v n : ℕ) (is : List Input) → AllByRecursion (λ (i : Input). ArePlain i.text) is → AllByRecursion (λ (m : Message). IsOneLine m.bytes) (inputs_from v n is)
-input_lines v n [] plain = tt
-input_lines v n (i ∷ is) plain =
-    let one : Message = record { from = outside; to = i.node; number = n + 1; stamp = 0; bytes = i.text } in
-    either (AllByRecursion (λ (m : Message). IsOneLine m.bytes)) (i.node == v) (one ∷ inputs_from v (n + 1) is) (inputs_from v n is) (plain_line i.text plain.0, input_lines v (n + 1) is plain.1) (input_lines v n is plain.1)
-
-tidy_start : (g : Game) → IsWithinLimits g → IsPlainRun g → IsTidy (start g)
-tidy_start g limits plain = record {
-  heaps = λ v. record { pages = limits.pages; root = omega arith; blocks = omega (arith, limits.pages.1, limits.pages.3) };
-  texts = λ v. tt;
-  outs = λ v. tt;
-  mail = λ u v. either (AllByRecursion (λ (m : Message). IsOneLine m.bytes)) (u == outside) (inputs_from v 0 g.inputs) [] (input_lines v 0 g.inputs plain) tt;
-}
-
-module _ (kind : Kind) (g : Game) (of_kind : g.handler ≡ handler_of kind) where
-  tidy_applied : (w : Network) (s : Step) (t : Turn) → IsTurnOf g w s t → IsTidy w → IsTidy (applied w s t)
-  tidy_applied w s t is tidy =
-      let made = subst (λ (h : Handler). h.after s.node g.nodes (w.place s.node).value t.message s.draws ≡ Some t.effect) of_kind is.effect in
-      let message = all_at (λ (m : Message). IsOneLine m.bytes) (w.link s.from s.node).sent (w.link s.from s.node).taken t.message (tidy.mail s.from s.node) is.next in
-      let text = text_after kind s.node g.nodes (w.place s.node).value t.message s.draws t.effect (tidy.texts s.node) message made in
-      let heap = heap_after kind s.node g.nodes (w.place s.node).value t.message s.draws t.effect (tidy.heaps s.node) is.words made in
-      record {
-        heaps = λ v. either (λ (p : Place). IsHeap p.value) (v == s.node) (place_after (w.place v) t) (w.place v) heap (tidy.heaps v);
-        texts = λ v. either (λ (p : Place). HoldsTexts p.value) (v == s.node) (place_after (w.place v) t) (w.place v) text.value (tidy.texts v);
-        outs = λ v. either (λ (p : Place). AllByRecursion IsOneLine p.outs) (v == s.node) (place_after (w.place v) t) (w.place v) (all_append IsOneLine (w.place v).outs t.effect.outs (tidy.outs v) text.outs) (tidy.outs v);
-        mail = λ u v. either (AllByRecursion (λ (m : Message). IsOneLine m.bytes)) (u == s.node) ((w.link u v).sent ++ numbered u v (length (w.link u v).sent) t.stamp t.effect.sends) (w.link u v).sent
-            (all_append (λ (m : Message). IsOneLine m.bytes) (w.link u v).sent _ (tidy.mail u v) (numbered_lines u v (length (w.link u v).sent) t.stamp t.effect.sends text.sends)) (tidy.mail u v);
-      }
-
-  tidy_stepped : (w : Network) (s : Step) (o : Option Turn) → turn_of g w s ≡ o → IsTidy w → IsTidy (applied_or_same w s o)
-  tidy_stepped w s None is tidy = tidy
-  tidy_stepped w s (Some t) is tidy = tidy_applied w s t (turn_is g w s t is) tidy
-
-  pub tidy_played : (w : Network) (ss : List Step) → IsTidy w → IsTidy (played g w ss)
-  unfolding played
-  tidy_played w [] tidy = tidy
-  tidy_played w (s ∷ ss) tidy = tidy_played (stepped g w s) ss (tidy_stepped w s (turn_of g w s) refl tidy)
-
-  -- whatever the schedule is
-  pub tidy_play : IsWithinLimits g → IsPlainRun g → (ss : List Step) → IsTidy (played g (start g) ss)
-  tidy_play limits plain ss = tidy_played (start g) ss (tidy_start g limits plain)
 
 -- the draws of a legal schedule are words
 pub legal_words : (g : Game) (w : Network) (stamp node : ℕ) (ss : List Step) → IsLegalFrom g w stamp node ss → AllByRecursion (λ (s : Step). AllByRecursion IsWord s.draws) ss

@@ -10,6 +10,7 @@ use Rattle.ken_model.specs.declared.values.Value.{Value}
 use Rattle.ken_model.specs.Emissions.{emitted_by}
 use Rattle.ken_model.specs.Ending.{nodes_of}
 use Rattle.ken_model.specs.Game.{Game}
+use Rattle.ken_model.specs.Handler.{Handler}
 use Rattle.ken_model.specs.History.{Rises, lines_by}
 use Rattle.ken_model.specs.Limits.{IsPlainRun}
 use Rattle.ken_model.specs.Network.{inputs_for, outside}
@@ -115,7 +116,7 @@ module _ {D : Type 0} (told : D → Option Story) (size : D → ℕ) (g : Game) 
 
 -- ---- a run that has ended
 
-module _ {D O U : Type 0} (told : Watched D → Option Story) (size : Watched D → ℕ) (took : U → Option (List Out)) (g : Game) (r : Run D O U) (e : IsEnded told size took g r) where
+module _ {D O U A : Type 0} (told : Watched D → Option Story) (size : Watched D → ℕ) (took : U → Option (List Out)) (handles : A → Handler) (g : Game) (r : Run D O U A) (e : IsEnded told size took handles g r) where
   abbrev c : Cluster
   c = group_of g e.running.nodes e.running.emissions
 
@@ -259,14 +260,14 @@ module _ {D O U : Type 0} (told : Watched D → Option Story) (size : Watched D 
     }
 
     -- the lines are the report of the run
-    pub report_of : IsPlainRun g → IsReportOf told size took g r e l
+    pub report_of : IsPlainRun g → IsReportOf told size took handles g r e l
     report_of plain =
         let stands = e.running.stands in
         record {
-          run = run_of r.app.0 g c l stands.limits stands.keeps (sym stands.handler) plain stands.accord e.ended tells;
+          run = run_of g c l stands.limits stands.keeps stands.lines plain stands.accord e.ended tells;
           history = history;
           emissions = of_stations;
-          emitted = emitted_is r.app.0 g c l stands.limits stands.keeps (sym stands.handler) plain stands.accord e.ended tells;
+          emitted = emitted_is g c l stands.limits stands.keeps stands.lines plain stands.accord e.ended tells;
           restarts = restarts ∙ said.restarts ∙ ap (restarts_from 0) all;
           ending = ending ∙ ap ending_of waiting;
         }

@@ -6,7 +6,6 @@ use Rattle.std.proofs.lemmas.List.{length-map, same_lists}
 use Rattle.std.proofs.lemmas.List.Elements.{All-from_get_or}
 use Rattle.std.proofs.lemmas.List.FromFn.{length-range_with_len, length-map-range_with_len, get_or-map-range_with_len}
 use Rattle.std.proofs.lemmas.List.Sums.{sum_by-cons, sum_by-le}
-use Rattle.ken_model.specs.declared.kinds.Kind.{Kind}
 use Rattle.ken_model.specs.declared.messages.Out.{Out}
 use Rattle.ken_model.specs.declared.reports.Emission.{Emission}
 use Rattle.ken_model.specs.declared.reports.Ending.{Ending}
@@ -18,8 +17,8 @@ use Rattle.ken_model.specs.declared.values.Value.{Value}
 use Rattle.ken_model.specs.Emissions.{AreAllEmitted, AreByNode, AreEmitted, AreLegalEmissions, emitted_by, largest_of}
 use Rattle.ken_model.specs.Ending.{Ends, IsCut, IsSettled, nodes_of, waiting, waiting_on}
 use Rattle.ken_model.specs.Game.{Game}
+use Rattle.ken_model.specs.Heap.{IsHeap}
 use Rattle.ken_model.specs.History.{InAccord, IsHistory, messages}
-use Rattle.ken_model.specs.Kinds.{handler_of}
 use Rattle.ken_model.specs.Laws.{IsPlayed, steps_of}
 use Rattle.ken_model.specs.Limits.{IsPlainRun, IsWithinLimits}
 use Rattle.ken_model.specs.Network.{Network, Turn, outside, start}
@@ -32,14 +31,17 @@ use Rattle.ken_core.specs.Accord.{Accord}
 use Rattle.ken_core.specs.Clusters.{Cluster, IsHistoryOf}
 use Rattle.ken_core.specs.Laws.{IsPlayedBy}
 use Rattle.ken_core.specs.Turns.{effects_line, outs_of}
+use Rattle.ken_core.proofs.Heaps.{read_heap}
 use Rattle.ken_core.proofs.History.{history_is_legal}
 use Rattle.ken_core.proofs.Numbers.{effects_lines, length-outputs_from}
 use Rattle.ken_flow.specs.Standstill.{HasEnded, sent_on, waits_on}
 use Rattle.ken_app.specs.Limits.{KeepsLimits}
+use Rattle.ken_app.specs.Lines.{KeepsLines}
 use Rattle.ken_drive.specs.Ended.{AreRestartsByNode, IsRunOf, ending_of, waits_for, waits_in}
 use Rattle.ken_drive.proofs.EndingBounds.{IsWithin, few_steps, printable_lines, within_played, within_start}
 use Rattle.ken_drive.proofs.EndingCounts.{AreByNode-from, all-by, all-from, emissions_from, emitted_by-from, in_range-le, largest-few, printable_by, some_in_sum, sum_by-same}
-use Rattle.ken_drive.proofs.EndingPlayed.{IsTidy, printable_heap, tidy_play}
+use Rattle.ken_drive.proofs.EndingLines.{IsTidy, tidy_played, tidy_start}
+use Rattle.ken_drive.proofs.EndingPlayed.{printable_heap}
 
 -- the lines tell what the nodes hold
 pub record Tells (g : Game) (c : Cluster) (l : Lines) : Type 0 where
@@ -147,7 +149,7 @@ module _ (g : Game) (c : Cluster) (lines : List TurnLine) (limits : IsWithinLimi
 
 -- ---- what is told
 
-module _ (kind : Kind) (g : Game) (c : Cluster) (l : Lines) (limits : IsWithinLimits g) (keeps : KeepsLimits g.nodes g.size g.handler) (of_kind : g.handler ≡ handler_of kind) (plain : IsPlainRun g) (accord : Accord g c) (ended : HasEnded g c.emissions c.node) (tells : Tells g c l) where
+module _ (g : Game) (c : Cluster) (l : Lines) (limits : IsWithinLimits g) (keeps : KeepsLimits g.nodes g.size g.handler) (of_lines : KeepsLines g.nodes g.size g.handler) (plain : IsPlainRun g) (accord : Accord g c) (ended : HasEnded g c.emissions c.node) (tells : Tells g c l) where
   abbrev w : Network
   w = play g (steps_of l.turns)
 
@@ -157,8 +159,8 @@ module _ (kind : Kind) (g : Game) (c : Cluster) (l : Lines) (limits : IsWithinLi
   bounds : IsWithin g (length (steps_of l.turns)) w
   bounds = within g c l.turns limits keeps accord tells.history
 
-  tidy : IsTidy w
-  tidy = tidy_play kind g of_kind limits plain (steps_of l.turns)
+  tidy : IsTidy g w
+  tidy = tidy_played g limits keeps of_lines 0 (start g) 0 0 (steps_of l.turns) (plays g c l.turns limits keeps accord tells.history).legal (within_start g limits) (tidy_start g plain)
 
   few : length (steps_of l.turns) ≤ 800000
   few = few_steps g limits keeps (length (steps_of l.turns)) w bounds
@@ -204,9 +206,13 @@ module _ (kind : Kind) (g : Game) (c : Cluster) (l : Lines) (limits : IsWithinLi
       λ k e lt. (let known : k < g.nodes = omega (arith, tells.width) in heap_is k e known ∙ sym (get_or-map-range_with_len value_at 0 g.nodes k k e known (omega arith))) in
       same_lists _ _ long same
 
+  -- each is one that was read from bytes
+  heap_at : (v : ℕ) → IsHeap (w.place v).value
+  heap_at v = read_heap (c.node v).turning.pages.heap (w.place v).value (by.value v)
+
   printable_heaps : (vs : List ℕ) → AllByRecursion IsPrintableHeap (map (λ v. (w.place v).value) vs)
   printable_heaps [] = tt
-  printable_heaps (v ∷ vs) = (printable_heap (w.place v).value (tidy.heaps v), printable_heaps vs)
+  printable_heaps (v ∷ vs) = (printable_heap (w.place v).value (heap_at v), printable_heaps vs)
 
   -- ---- all lines
 

@@ -13,6 +13,7 @@ use Rattle.ken_model.specs.declared.reports.RestartLine.{RestartLine}
 use Rattle.ken_model.specs.declared.reports.TurnLine.{TurnLine}
 use Rattle.ken_model.specs.Emissions.{emitted_by}
 use Rattle.ken_model.specs.Game.{Game}
+use Rattle.ken_model.specs.Handler.{Handler}
 use Rattle.ken_model.specs.History.{lines_by}
 use Rattle.ken_model.specs.Laws.{steps_of}
 use Rattle.ken_model.specs.Schedule.{play}
@@ -121,7 +122,7 @@ told-that scripted (Some xs) Q P is all = is
 told-that true None Q P is all = all refl
 told-that false None Q P is all = tt
 
-module _ {D O U : Type 0} (views : Views D O U) (size : D → ℕ) (g : Game) (r : Run D O U) (terms : Terms) (l : Lines) where
+module _ {D O U A : Type 0} (views : Views D O U) (size : D → ℕ) (handles : A → Handler) (g : Game) (r : Run D O U A) (terms : Terms) (l : Lines) where
   abbrev told-of : Watched D → Option Story
   told-of w = views.told w.disk
 
@@ -134,9 +135,9 @@ module _ {D O U : Type 0} (views : Views D O U) (size : D → ℕ) (g : Game) (r
   abbrev fate-of : Watched D → Option Fate
   fate-of w = views.fate w.disk
 
-  module _ (ended : IsEnded told-of size-of views.took g r) (report : IsReportOf told-of size-of views.took g r ended l) (accounts : AreAccounted told-of faults-in fate-of views.telling terms g ended.made r) (refusals : AreRefused views.refused views.calls terms ended.made r)
+  module _ (ended : IsEnded told-of size-of views.took handles g r) (report : IsReportOf told-of size-of views.took handles g r ended l) (accounts : AreAccounted told-of faults-in fate-of views.telling terms g ended.made r) (refusals : AreRefused views.refused views.calls terms ended.made r)
       (few : terms.most ≤ 1000) (legal : HistoryIsLegal) (apart : ApartRecovers told-of size-of) (synced : UpHasSynced told-of size-of faults-in) where
-    abbrev running : IsRunning told-of size-of views.took g ended.made r
+    abbrev running : IsRunning told-of size-of views.took handles g ended.made r
     running = ended.running
 
     played : IsPlayedBy g (group_of g running.nodes running.emissions) l.turns

@@ -12,6 +12,7 @@ pub mod Texts
 pub mod EndingPlayed
 pub mod EndingCounts
 pub mod EndingBounds
+pub mod EndingLines
 pub mod EndingTold
 pub mod EndingFew
 pub mod EndingLists

@@ -7,7 +7,7 @@ use Rattle.ken_model.specs.declared.messages.Out.{Out}
 use Rattle.ken_model.specs.declared.reports.Emission.{Emission}
 use Rattle.ken_model.specs.Emissions.{emitted_by}
 use Rattle.ken_model.specs.Game.{Game}
-use Rattle.ken_model.specs.Kinds.{handler_of}
+use Rattle.ken_model.specs.Handler.{Handler}
 use Rattle.ken_disk.specs.Story.{Story}
 use Rattle.ken_net.specs.Inboxes.{Gave, all_filed, filed}
 use Rattle.ken_net.specs.Puts.{Put}
@@ -123,7 +123,7 @@ module _ (g : Game) (nodes : ℕ → Node) (emissions : List Emission) (v : ℕ)
 
   -- ---- the run
 
-  module _ {D O U : Type 0} (told : Watched D → Option Story) (size : Watched D → ℕ) (took : U → Option (List Out)) (made : ℕ) (r r2 : Run D O U) (s2 : Station D O U) (stands : StandsFor told size took g made nodes emissions r) (low : v < made)
+  module _ {D O U A : Type 0} (told : Watched D → Option Story) (size : Watched D → ℕ) (took : U → Option (List Out)) (handles : A → Handler) (made : ℕ) (r r2 : Run D O U A) (s2 : Station D O U) (stands : StandsFor told size took handles g made nodes emissions r) (low : v < made)
       (same : (r2.nodes ≡ r.nodes) × (r2.app ≡ r.app)) (stations : r2.stations.items ≡ slice_set r.stations.items v s2) where
     placed : v < length r.stations.items
     placed = subst (λ (n : ℕ). v < n) (sym stands.width) low
@@ -148,13 +148,14 @@ module _ (g : Game) (nodes : ℕ → Node) (emissions : List Emission) (v : ℕ)
 
     pub stands-after : (length r2.waiting.mail ≡ g.nodes) × (length r2.waiting.acks ≡ g.nodes) → AreKnown g group-after r2.waiting.mail → AreKnown g group-after r2.waiting.acks
         → IsStation took g group-after v (emitted_by v emissions ++ out.outs) s2 → AreShort r2.waiting.mail × AreShort r2.waiting.acks → AreModest s2.mail × AreModest s2.acks
-        → StandsFor told size took g made (with_node v after nodes) emitted-after r2
+        → StandsFor told size took handles g made (with_node v after nodes) emitted-after r2
     stands-after boxes mail acks station short modest = record {
       limits = stands.limits;
       keeps = stands.keeps;
       few = stands.few;
       count = same.0 ∙ stands.count;
-      handler = ap (λ a. handler_of a.0) same.1 ∙ stands.handler;
+      lines = stands.lines;
+      handler = ap handles same.1 ∙ stands.handler;
       width = ap length stations ∙ length-set r.stations.items v s2 ∙ stands.width;
       accord = accord-after;
       boxes = boxes;
@@ -188,9 +189,9 @@ module _ (g : Game) (nodes : ℕ → Node) (emissions : List Emission) (v : ℕ)
         (cases_eq u v)
 
     -- so the run goes on
-    pub running-after : StandsFor told size took g made (with_node v after nodes) emitted-after r2 → IsUp told size g v after s2.node.stage
+    pub running-after : StandsFor told size took handles g made (with_node v after nodes) emitted-after r2 → IsUp told size g v after s2.node.stage
         → ((u : ℕ) (d : Station D O U) → u < made → u ≢ v → IsUp told size g u (nodes u) (slice_index_or r.stations.items u d).node.stage)
-        → IsRunning told size took g made r2
+        → IsRunning told size took handles g made r2
     running-after now up others = record {
       nodes = with_node v after nodes;
       emissions = emitted-after;
@@ -199,9 +200,9 @@ module _ (g : Game) (nodes : ℕ → Node) (emissions : List Emission) (v : ℕ)
     }
 
     -- or the node is down
-    pub stopped-after : StandsFor told size took g made (with_node v after nodes) emitted-after r2 → (were2 : List Packet) → All (WasPut group-after) were2 → (doubt : Doubt) → IsDown told g v were2 after doubt s2.node.stage
+    pub stopped-after : StandsFor told size took handles g made (with_node v after nodes) emitted-after r2 → (were2 : List Packet) → All (WasPut group-after) were2 → (doubt : Doubt) → IsDown told g v were2 after doubt s2.node.stage
         → ((u : ℕ) (d : Station D O U) → u < made → u ≢ v → IsUp told size g u (nodes u) (slice_index_or r.stations.items u d).node.stage)
-        → IsStopped told size took g made v r2
+        → IsStopped told size took handles g made v r2
     stopped-after now were2 put doubt down others = record {
       nodes = with_node v after nodes;
       emissions = emitted-after;

@@ -8,6 +8,7 @@ use Rattle.std.proofs.lemmas.List.Sums.{sum_by-set, sum_by_more}
 use Rattle.ken_disk.specs.Story.{Story}
 use Rattle.ken_model.specs.declared.messages.Out.{Out}
 use Rattle.ken_model.specs.Game.{Game}
+use Rattle.ken_model.specs.Handler.{Handler}
 use Rattle.ken_ship.specs.declared.faults.NodeFault.{NodeFault}
 use Rattle.ken_ship.specs.declared.faults.NodeFault.TheVariants.{Disk}
 use Rattle.ken_node.specs.declared.watched.Watched.{Watched}
@@ -24,7 +25,7 @@ pub work-set : {D O U : Type 0} (most : ℕ) (items : List (Station D O U)) (v :
     → sum_by (work_at most) (slice_set items v s2) + work_at most s ≡ sum_by (work_at most) items + work_at most s2
 work-set {D} {O} {U} most items v s s2 low is = ap (λ (x : Station D O U). sum_by (work_at most) (slice_set items v s2) + work_at most x) (sym is) ∙ sum_by-set (work_at most) items v s2 s low
 
-module _ {D O U : Type 0} (r r2 : Run D O U) (v : ℕ) (s s2 : Station D O U) (low : v < length r.stations.items) (is : slice_index_or r.stations.items v s ≡ s) (same : r2.restarts ≡ r.restarts) (stations : r2.stations.items ≡ slice_set r.stations.items v s2) where
+module _ {D O U A : Type 0} (r r2 : Run D O U A) (v : ℕ) (s s2 : Station D O U) (low : v < length r.stations.items) (is : slice_index_or r.stations.items v s ≡ s) (same : r2.restarts ≡ r.restarts) (stations : r2.stations.items ≡ slice_set r.stations.items v s2) where
   work-both : work_left r2 + work_at r.restarts s ≡ work_left r + work_at r.restarts s2
   work-both =
       ap (λ (most : ℕ). sum_by (work_at most) r2.stations.items + work_at r.restarts s) same
@@ -81,22 +82,22 @@ same-fault (Ok x) fault same is = absurd same
 same-fault (Err e) fault same is = cc
 
 -- an error after calls that left no more work
-pub less-err : {D O U T : Type 0} (old mid new : Run D O U) (result : Result T NodeFault) (fault : NodeFault) → work_left mid ≤ work_left old
+pub less-err : {D O U A T : Type 0} (old mid new : Run D O U A) (result : Result T NodeFault) (fault : NodeFault) → work_left mid ≤ work_left old
     → IsErrAnd result (λ e. e ≡ fault) → (fault ≡ Disk → work_left new ≤ work_left mid) → IsErrOf result Disk → work_left new ≤ work_left old
 less-err old mid new result fault before same less was = let here = less (same-fault result fault same was) in omega (arith, before, here)
 
-module _ {D O U : Type 0} (told : Watched D → Option Story) (size : Watched D → ℕ) (took : U → Option (List Out)) where
-  pub now-less : (how : Flow → Flow → Type 0) (g : Game) (made : ℕ) (old new : Run D O U) (was : IsRunning told size took g made old) → Moved told size took how g made old new was → work_left new ≤ work_left old
+module _ {D O U A : Type 0} (told : Watched D → Option Story) (size : Watched D → ℕ) (took : U → Option (List Out)) (handles : A → Handler) where
+  pub now-less : (how : Flow → Flow → Type 0) (g : Game) (made : ℕ) (old new : Run D O U A) (was : IsRunning told size took handles g made old) → Moved told size took handles how g made old new was → work_left new ≤ work_left old
   now-less how g made old new was m = ⊎_elim (λ less. omega (arith, less)) (λ (x : (work_left new ≡ work_left old) × how (flow_of was.nodes old) (flow_of m.now.nodes new)). let e = x.0 in omega (arith, e)) m.moved
 
-  pub moves-less : (how : Game → Flow → Flow → Type 0) (v : ℕ) (old new : Run D O U) → Moves told size took how v old new → MayWork told size took v old → work_left new ≤ work_left old
+  pub moves-less : (how : Game → Flow → Flow → Type 0) (v : ℕ) (old new : Run D O U A) → Moves told size took handles how v old new → MayWork told size took handles v old → work_left new ≤ work_left old
   moves-less how v old new moves may = now-less (how may.game) may.game may.made old new may.running (moves may.game may.made may.running may.known)
 
-  pub moved-less : (how : Flow → Flow → Type 0) (g : Game) (made : ℕ) (old new : Run D O U) (was : IsRunning told size took g made old) → IsRunning told size took g made new → work_left new < work_left old → Moved told size took how g made old new was
+  pub moved-less : (how : Flow → Flow → Type 0) (g : Game) (made : ℕ) (old new : Run D O U A) (was : IsRunning told size took handles g made old) → IsRunning told size took handles g made new → work_left new < work_left old → Moved told size took handles how g made old new was
   moved-less how g made old new was now less = record { now = now; moved = inl less }
 
-  pub moved-then : (one two both : Flow → Flow → Type 0) (g : Game) (made : ℕ) (old mid new : Run D O U) (was : IsRunning told size took g made old) → ((f f2 f3 : Flow) → one f f2 → two f2 f3 → both f f3)
-      → Moved told size took one g made old mid was → ((now : IsRunning told size took g made mid) → Moved told size took two g made mid new now) → Moved told size took both g made old new was
+  pub moved-then : (one two both : Flow → Flow → Type 0) (g : Game) (made : ℕ) (old mid new : Run D O U A) (was : IsRunning told size took handles g made old) → ((f f2 f3 : Flow) → one f f2 → two f2 f3 → both f f3)
+      → Moved told size took handles one g made old mid was → ((now : IsRunning told size took handles g made mid) → Moved told size took handles two g made mid new now) → Moved told size took handles both g made old new was
   moved-then one two both g made old mid new was join first second =
       let next = second first.now in
       let few = now-less two g made mid new first.now next in
@@ -111,17 +112,17 @@ module _ {D O U : Type 0} (told : Watched D → Option Story) (size : Watched D 
             first.moved;
       }
 
-  pub moves-then : (one two both : Game → Flow → Flow → Type 0) (v : ℕ) (old mid new : Run D O U) → ((g : Game) (f f2 f3 : Flow) → one g f f2 → two g f2 f3 → both g f f3)
-      → Moves told size took one v old mid → Moves told size took two v mid new → Moves told size took both v old new
+  pub moves-then : (one two both : Game → Flow → Flow → Type 0) (v : ℕ) (old mid new : Run D O U A) → ((g : Game) (f f2 f3 : Flow) → one g f f2 → two g f2 f3 → both g f f3)
+      → Moves told size took handles one v old mid → Moves told size took handles two v mid new → Moves told size took handles both v old new
   moves-then one two both v old mid new join first second g made was low =
       moved-then (one g) (two g) (both g) g made old mid new was (join g) (first g made was low) (λ now. second g made now low)
 
   -- nothing moved yet
-  pub moves-none : (how : Game → Flow → Flow → Type 0) (v : ℕ) (r : Run D O U) → ((g : Game) (f : Flow) → how g f f) → Moves told size took how v r r
+  pub moves-none : (how : Game → Flow → Flow → Type 0) (v : ℕ) (r : Run D O U A) → ((g : Game) (f : Flow) → how g f f) → Moves told size took handles how v r r
   moves-none how v r same g made was low = record { now = was; moved = inr (refl, same g (flow_of was.nodes r)) }
 
   -- what holds of each game where a call answers Ok
-  pub moves-from : {T E : Type 0} (how : Game → Flow → Flow → Type 0) (v : ℕ) (old new : Run D O U) (result : Result T E)
-      → ((g : Game) (made : ℕ) (was : IsRunning told size took g made old) → v < made → OnOk result (Moved told size took (how g) g made old new was)) → OnOk result (Moves told size took how v old new)
+  pub moves-from : {T E : Type 0} (how : Game → Flow → Flow → Type 0) (v : ℕ) (old new : Run D O U A) (result : Result T E)
+      → ((g : Game) (made : ℕ) (was : IsRunning told size took handles g made old) → v < made → OnOk result (Moved told size took handles (how g) g made old new was)) → OnOk result (Moves told size took handles how v old new)
   moves-from how v old new (Ok x) each = each
   moves-from how v old new (Err e) each = tt

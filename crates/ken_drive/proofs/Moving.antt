@@ -11,6 +11,7 @@ use Rattle.ken_model.specs.declared.messages.Out.{Out}
 use Rattle.ken_model.specs.declared.reports.Emission.{Emission}
 use Rattle.ken_model.specs.Emissions.{emitted_by}
 use Rattle.ken_model.specs.Game.{Game}
+use Rattle.ken_model.specs.Handler.{Handler}
 use Rattle.ken_record.specs.declared.effects.Effects.{Effects}
 use Rattle.ken_net.specs.Counts.{risen}
 use Rattle.ken_net.specs.Inboxes.{all_filed}
@@ -146,8 +147,8 @@ none-taken v nones boxes boxes2 gave =
     (cases_eq k v) in
     get_or_default boxes2 k d [] low ∙ same ∙ get_or_default boxes k [] d low2)
 
-module _ {D O U : Type 0} (told : Watched D → Option Story) (size : Watched D → ℕ) (took : U → Option (List Out)) (g : Game) (made : ℕ) (r r2 : Run D O U) (v : ℕ) (s s2 : Station D O U)
-    (running : IsRunning told size took g made r) (low : v < made)
+module _ {D O U A : Type 0} (told : Watched D → Option Story) (size : Watched D → ℕ) (took : U → Option (List Out)) (handles : A → Handler) (g : Game) (made : ℕ) (r r2 : Run D O U A) (v : ℕ) (s s2 : Station D O U)
+    (running : IsRunning told size took handles g made r) (low : v < made)
     (is : slice_index_or r.stations.items v s ≡ s) (same : (r2.nodes ≡ r.nodes) × (r2.app ≡ r.app)) (stations : r2.stations.items ≡ slice_set r.stations.items v s2) (most : r2.restarts ≡ r.restarts) where
   pub placed : v < length r.stations.items
   placed = subst (λ (k : ℕ). v < k) (sym running.stands.width) low
@@ -159,7 +160,7 @@ module _ {D O U : Type 0} (told : Watched D → Option Story) (size : Watched D 
   others-up u d below ne = running.up u d below
 
   pub below-all : v < g.nodes
-  below-all = known told size took g made r r2 v s s2 running.nodes running.emissions running.stands low is same stations
+  below-all = known told size took handles g made r r2 v s s2 running.nodes running.emissions running.stands low is same stations
 
   -- ---- a part of each station
 
@@ -189,23 +190,23 @@ module _ {D O U : Type 0} (told : Watched D → Option Story) (size : Watched D 
   -- ---- the run after the call
 
   module _ (given : List Packet) (events : List Event) (out : Outgoing) (after : Node) (were : All (WasPut (group_of g running.nodes running.emissions)) given) (run : NodeRun g (Contains given) v (running.nodes v) events out after)
-      (stands2 : StandsFor told size took g made (with_node v after running.nodes) (running.emissions ++ emissions_by v out.outs) r2) (up : IsUp told size g v after s2.node.stage) where
-    abbrev pub now-is : IsRunning told size took g made r2
+      (stands2 : StandsFor told size took handles g made (with_node v after running.nodes) (running.emissions ++ emissions_by v out.outs) r2) (up : IsUp told size g v after s2.node.stage) where
+    abbrev pub now-is : IsRunning told size took handles g made r2
     now-is = record {
       nodes = with_node v after running.nodes;
       emissions = running.emissions ++ emissions_by v out.outs;
       stands = stands2;
-      up = ups-after g running.nodes running.emissions v given events out after running.stands.accord below-all were run told size took made r r2 s2 running.stands low same stations up others-up;
+      up = ups-after g running.nodes running.emissions v given events out after running.stands.accord below-all were run told size took handles made r r2 s2 running.stands low same stations up others-up;
     }
 
-    pub moves-by : (how : Flow → Flow → Type 0) → s2.restarts ≡ s.restarts → after.turning.turns ≡ (running.nodes v).turning.turns → how (flow_of running.nodes r) (flow_of (with_node v after running.nodes) r2) → Moved told size took how g made r r2 running
+    pub moves-by : (how : Flow → Flow → Type 0) → s2.restarts ≡ s.restarts → after.turning.turns ≡ (running.nodes v).turning.turns → how (flow_of running.nodes r) (flow_of (with_node v after running.nodes) r2) → Moved told size took handles how g made r r2 running
     moves-by how tries kept moved =
         let to_make : turns_to_make s2.node.stage ≡ turns_to_make s.node.stage =
         to-make-is told size g v after s2.node.stage up ∙ ap (λ (ts : List Effects). g.turns - length ts) kept ∙ sym (to-make-is told size g v (running.nodes v) s.node.stage own-up) in
         record { now = now-is; moved = inr (work-same r r2 v s s2 placed is most stations tries to_make, moved) }
 
     -- or it made a turn
-    pub moves-turn : (how : Flow → Flow → Type 0) → s2.restarts ≡ s.restarts → turns_to_make s2.node.stage < turns_to_make s.node.stage → Moved told size took how g made r r2 running
+    pub moves-turn : (how : Flow → Flow → Type 0) → s2.restarts ≡ s.restarts → turns_to_make s2.node.stage < turns_to_make s.node.stage → Moved told size took handles how g made r r2 running
     moves-turn how tries fewer = record { now = now-is; moved = inl (work-turn r r2 v s s2 placed is most stations tries fewer) }
 
   -- a node that is down made no turn
@@ -223,14 +224,14 @@ module _ {D O U : Type 0} (told : Watched D → Option Story) (size : Watched D 
     links = (ap (λ (x : Station D O U). x.mail) rest, ap (λ (x : Station D O U). x.acks) rest)
 
     emitted : HasEmitted took v (emitted_by v running.emissions ++ []) s2
-    emitted = still-emitted told size took g made r r2 v s s2 running.nodes running.emissions running.stands low is same stations nothing refl kept (ap (λ (x : Station D O U). x.out) rest)
+    emitted = still-emitted told size took handles g made r r2 v s s2 running.nodes running.emissions running.stands low is same stations nothing refl kept (ap (λ (x : Station D O U). x.out) rest)
 
     written : (events : List Event) (after : Node) → NodeRun g (Contains []) v (running.nodes v) events nothing after → IsUp told size g v after s2.node.stage → after.turning.turns ≡ (running.nodes v).turning.turns → after.sending ≡ (running.nodes v).sending
-        → Moved told size took (Written v) g made r r2 running
+        → Moved told size took handles (Written v) g made r r2 running
     written events after run up turns sending =
         let were = All-nil (WasPut (group_of g running.nodes running.emissions)) in
         moves-by [] events nothing after were run
-        (alone-stands told size took g made r r2 v s s2 running.nodes running.emissions running.stands low is same stations [] events nothing after were waits run links emitted) up (Written v) (ap (λ (x : Station D O U). x.restarts) rest) turns
+        (alone-stands told size took handles g made r r2 v s s2 running.nodes running.emissions running.stands low is same stations [] events nothing after were waits run links emitted) up (Written v) (ap (λ (x : Station D O U). x.restarts) rest) turns
         (record {
           no_turn = no-turn after turns;
           sending = sending-kept after sending;
@@ -239,7 +240,7 @@ module _ {D O U : Type 0} (told : Watched D → Option Story) (size : Watched D 
               (same-all (λ (x : Station D O U). x.mail.links) (ap (λ (x : Leaving). x.links) links.0)) (same-all (λ (x : Station D O U). x.acks.links) (ap (λ (x : Leaving). x.links) links.1)) (same-all (λ (x : Station D O U). refusals_in x.node.stage) refused);
         })
 
-    pub patch-moves : (result : Result Bool NodeFault) → PatchStepsBy told size result g v (running.nodes v) s2.node.stage → OnOk result (Moved told size took (Written v) g made r r2 running)
+    pub patch-moves : (result : Result Bool NodeFault) → PatchStepsBy told size result g v (running.nodes v) s2.node.stage → OnOk result (Moved told size took handles (Written v) g made r r2 running)
     patch-moves (Ok true) p = written p.call.events p.after p.call.run p.up (patch_keeps_turns g v [] (running.nodes v) p.after nothing p.call) (patch_keeps_sending g v [] (running.nodes v) p.after nothing p.call)
     patch-moves (Ok false) p =
         let steps = p.0 in
@@ -254,7 +255,7 @@ module _ {D O U : Type 0} (told : Watched D → Option Story) (size : Watched D 
     patch-less (Err Outlet) was p = absurd (cc)
     patch-less (Err (Damaged disk place)) was p = absurd (cc)
 
-    pub settle-moves : (result : Result (Unit {0}) NodeFault) → SettleStepsBy told size result g v (running.nodes v) s2.node.stage → OnOk result (Moved told size took (Written v) g made r r2 running)
+    pub settle-moves : (result : Result (Unit {0}) NodeFault) → SettleStepsBy told size result g v (running.nodes v) s2.node.stage → OnOk result (Moved told size took handles (Written v) g made r r2 running)
     settle-moves (Ok x) p = written p.call.events p.after p.call.run p.up (sync_keeps_turns g v [] (running.nodes v) p.after nothing p.call) (sync_keeps_sending g v [] (running.nodes v) p.after nothing p.call)
     settle-moves (Err fault) p = tt
 
@@ -270,7 +271,7 @@ module _ {D O U : Type 0} (told : Watched D → Option Story) (size : Watched D 
   -- ---- the externaliser
 
   pub send-moves : emissions_in s2.node.stage ≡ emissions_in s.node.stage → refusals_in s2.node.stage ≡ refusals_in s.node.stage → WereGiven v 0 r.waiting.acks r2.waiting.acks [] → s2 ≡ record s { node = s2.node; mail = s2.mail }
-      → SendSteps told size g v (running.nodes v) (WerePut s.mail s2.mail r.waiting.mail r2.waiting.mail) s2.node.stage → Moved told size took (Posted g v) g made r r2 running
+      → SendSteps told size g v (running.nodes v) (WerePut s.mail s2.mail r.waiting.mail r2.waiting.mail) s2.node.stage → Moved told size took handles (Posted g v) g made r r2 running
   send-moves kept refused gave rest p =
       let n : Node = running.nodes v in
       let after : Node = p.steps.after in
@@ -278,8 +279,8 @@ module _ {D O U : Type 0} (told : Watched D → Option Story) (size : Watched D 
       let links : Station D O U → List Standing = λ x. x.mail.links in
       let all : p.steps.after ≡ running.nodes v = sends_keep g v [] (running.nodes v) p.steps.after p.out p.steps.call in
       let turns : p.steps.after.turning.turns ≡ (running.nodes v).turning.turns = ap (λ (x : Node). x.turning.turns) all in
-      moves-by [] call.events p.out p.steps.after (acks-were told size took g made r r2 v s s2 running.nodes running.emissions running.stands low is same stations [] 0 gave) call.run
-      (sender-stands told size took g made r r2 v s s2 running.nodes running.emissions running.stands low is same stations [] 0 p.puts call.events p.out p.steps.after gave p.were_put call.run p.steps.spelled
+      moves-by [] call.events p.out p.steps.after (acks-were told size took handles g made r r2 v s s2 running.nodes running.emissions running.stands low is same stations [] 0 gave) call.run
+      (sender-stands told size took handles g made r r2 v s s2 running.nodes running.emissions running.stands low is same stations [] 0 p.puts call.events p.out p.steps.after gave p.were_put call.run p.steps.spelled
       (run-quiet g _ v (running.nodes v) call.events p.out p.steps.after (sends-quiet g v (running.nodes v) call.events call.which) call.run) kept rest) p.steps.up (Posted g v) (ap (λ (x : Station D O U). x.restarts) rest) turns
       (record {
         no_turn = no-turn p.steps.after turns;
@@ -298,17 +299,17 @@ module _ {D O U : Type 0} (told : Watched D → Option Story) (size : Watched D 
       })
 
   pub hear-moves : emissions_in s2.node.stage ≡ emissions_in s.node.stage → refusals_in s2.node.stage ≡ refusals_in s.node.stage → (nones : ℕ) → r2.waiting.mail ≡ r.waiting.mail → s2 ≡ record s { node = s2.node }
-      → HearSteps told size g v (running.nodes v) (WereGiven v nones r.waiting.acks r2.waiting.acks) 0 nones s2.node.stage → Moved told size took (Heard g v) g made r r2 running
+      → HearSteps told size g v (running.nodes v) (WereGiven v nones r.waiting.acks r2.waiting.acks) 0 nones s2.node.stage → Moved told size took handles (Heard g v) g made r r2 running
   hear-moves kept refused nones mail rest p =
       let packets = packets_from g.nodes p.given in
-      let were = acks-were told size took g made r r2 v s s2 running.nodes running.emissions running.stands low is same stations p.given nones p.was_given in
+      let were = acks-were told size took handles g made r r2 v s s2 running.nodes running.emissions running.stands low is same stations p.given nones p.was_given in
       let steps = p.steps (no-further g running.nodes running.emissions v packets running.stands.accord below-all were) in
       let call = steps.call in
       let wide = due-of told size g v (running.nodes v) s.node.stage own-up in
       let heard : Rises v packets (running.nodes v) steps.after = hears g (Contains packets) v (running.nodes v) steps.after packets call.events nothing wide.width call.which call.run in
       let rises : Rises v packets (running.nodes v) (with_node v steps.after running.nodes v) = subst (Rises v packets (running.nodes v)) (sym (with-here v steps.after running.nodes)) heard in
       moves-by packets call.events nothing steps.after were call.run
-      (sender-stands told size took g made r r2 v s s2 running.nodes running.emissions running.stands low is same stations p.given nones [] call.events nothing steps.after p.was_given
+      (sender-stands told size took handles g made r r2 v s s2 running.nodes running.emissions running.stands low is same stations p.given nones [] call.events nothing steps.after p.was_given
       (record { links_are = ap (λ (x : Station D O U). x.mail) rest; passed_on = mail }) call.run steps.spelled refl kept (rest ∙ ap (λ (x : Leaving). record s { node = s2.node; mail = x }) (sym (ap (λ (x : Station D O U). x.mail) rest))))
       steps.up (Heard g v) (ap (λ (x : Station D O U). x.restarts) rest) heard.turns
       (record {
@@ -334,7 +335,7 @@ module _ {D O U : Type 0} (told : Watched D → Option Story) (size : Watched D 
     apart = (ap (λ (x : Station D O U). x.mail) rest, ap (λ (x : Station D O U). x.acks) rest)
 
     own-emitted : HasEmitted took v (emitted_by v running.emissions) s
-    own-emitted = let own = own-station told size took g made r v s running low is in own.emitted
+    own-emitted = let own = own-station told size took handles g made r v s running low is in own.emitted
 
     abbrev refusals-of : Station D O U → ℕ
     refusals-of x = refusals_in x.node.stage
@@ -350,12 +351,12 @@ module _ {D O U : Type 0} (told : Watched D → Option Story) (size : Watched D 
     emits : (events : List Event) (out : Outgoing) (after : Node) → NodeRun g (Contains []) v (running.nodes v) events out after → IsUp told size g v after s2.node.stage → HasEmitted took v (emitted_by v running.emissions ++ out.outs) s2
         → after.turning.turns ≡ (running.nodes v).turning.turns → after.sending.acked ≡ (running.nodes v).sending.acked
         → (open_outs (flow_of (with_node v after running.nodes) r2) v < open_outs (flow_of running.nodes r) v) ⊎ ((open_outs (flow_of (with_node v after running.nodes) r2) v ≡ open_outs (flow_of running.nodes r) v) × (length (outs_of after.turning.turns) ≤ after.sending.emitted))
-        → Moved told size took (Emits v) g made r r2 running
+        → Moved told size took handles (Emits v) g made r r2 running
     emits events out after run up emitted turns acked how =
         let were = All-nil (WasPut (group_of g running.nodes running.emissions)) in
         let here : with_node v after running.nodes v ≡ after = with-here v after running.nodes in
         moves-by [] events out after were run
-        (alone-stands told size took g made r r2 v s s2 running.nodes running.emissions running.stands low is same stations [] events out after were waits run apart emitted) up (Emits v) (ap (λ (x : Station D O U). x.restarts) rest) turns
+        (alone-stands told size took handles g made r r2 v s s2 running.nodes running.emissions running.stands low is same stations [] events out after were waits run apart emitted) up (Emits v) (ap (λ (x : Station D O U). x.restarts) rest) turns
         (record {
           no_turn = no-turn after turns;
           acked = ap (λ (x : Node). x.sending.acked) here ∙ acked;
@@ -372,7 +373,7 @@ module _ {D O U : Type 0} (told : Watched D → Option Story) (size : Watched D 
       took_it = subst (λ (t : Option (List Out)). IfSome t (λ told. told ≡ emitted_by v running.emissions ++ [])) (sym e.taken) (subst (λ (os : List Out). IfSome (took s.out) (λ told. told ≡ os)) (sym (append-nil (emitted_by v running.emissions))) own-emitted.took_it);
     }
 
-    pub emit-moves : (result : Result Emit NodeFault) → EmitStepsBy told size result g v (running.nodes v) (λ (taken : List Out). took s2.out ≡ also_took taken (took s.out)) s.node.stage s2.node.stage → OnOk result (Moved told size took (Emits v) g made r r2 running)
+    pub emit-moves : (result : Result Emit NodeFault) → EmitStepsBy told size result g v (running.nodes v) (λ (taken : List Out). took s2.out ≡ also_took taken (took s.out)) s.node.stage s2.node.stage → OnOk result (Moved told size took handles (Emits v) g made r r2 running)
     emit-moves (Ok (Done number)) e =
         let steps = e.steps in
         let out : Outgoing = record { puts = []; outs = e.out ∷ [] } in

@@ -8,6 +8,7 @@ use Rattle.ken_disk.specs.Story.{Story}
 use Rattle.ken_model.specs.declared.messages.Message.{Message}
 use Rattle.ken_model.specs.declared.messages.Out.{Out}
 use Rattle.ken_model.specs.Game.{Game}
+use Rattle.ken_model.specs.Handler.{Handler}
 use Rattle.ken_net.specs.Standings.{Standing, link_to}
 use Rattle.ken_core.specs.Nodes.{Node}
 use Rattle.ken_core.specs.Turns.{mails_to, outs_of}
@@ -41,7 +42,7 @@ module _ {D : Type 0} (told : D → Option Story) (size : D → ℕ) (g : Game) 
   outs-left : length (outs_of n.turning.turns) - n.sending.emitted ≡ outputs_left stage
   outs-left = sym (outputs-left-are told size g v n stage up ∙ length-drop n.sending.emitted (outs_of n.turning.turns))
 
-module _ {D O U : Type 0} (told : Watched D → Option Story) (size : Watched D → ℕ) (took : U → Option (List Out)) (g : Game) (made : ℕ) (r : Run D O U) (is : IsRunning told size took g made r) (all : made ≡ g.nodes) where
+module _ {D O U A : Type 0} (told : Watched D → Option Story) (size : Watched D → ℕ) (took : U → Option (List Out)) (handles : A → Handler) (g : Game) (made : ℕ) (r : Run D O U A) (is : IsRunning told size took handles g made r) (all : made ≡ g.nodes) where
   count-is : r.nodes ≡ g.nodes
   count-is = is.stands.count ∙ all
 

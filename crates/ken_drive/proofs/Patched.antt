@@ -120,7 +120,7 @@ synced-then (Some h) o2 o3 one two =
 -- ---- the station that was called
 
 module _ {D O U : Type 0} where
-  module _ (v k : ℕ) (r r2 : Run D O U) (s s2 : Station D O U) (at : k ≡ v) (low : v < length r.stations.items) (is : slice_index_or r.stations.items v s ≡ s) (stations : r2.stations.items ≡ slice_set r.stations.items k s2) where
+  module _ {A : Type 0} (v k : ℕ) (r r2 : Run D O U A) (s s2 : Station D O U) (at : k ≡ v) (low : v < length r.stations.items) (is : slice_index_or r.stations.items v s ≡ s) (stations : r2.stations.items ≡ slice_set r.stations.items k s2) where
     pub station-now : (d : Station D O U) → slice_index_or r2.stations.items v d ≡ s2
     station-now d = ap (λ (xs : List (Station D O U)). slice_index_or xs v d) (stations ∙ ap (λ (j : ℕ). slice_set r.stations.items j s2) at) ∙ get_or-set_same r.stations.items v s2 d low
 
@@ -136,17 +136,17 @@ module _ {D O U : Type 0} where
 
   -- ---- one call after another
 
-  pub changes-none : (how : Station D O U → Station D O U → Type 0) (v : ℕ) (r : Run D O U) → ((a : Station D O U) → how a a) → Changes how v r r
+  pub changes-none : {A : Type 0} (how : Station D O U → Station D O U → Type 0) (v : ℕ) (r : Run D O U A) → ((a : Station D O U) → how a a) → Changes how v r r
   changes-none how v r same = record { width = refl; others = λ u d ne. refl; own = λ d. same (slice_index_or r.stations.items v d) }
 
-  pub changes-then : (one two both : Station D O U → Station D O U → Type 0) (v : ℕ) (old mid new : Run D O U) → ((a b c : Station D O U) → one a b → two b c → both a c) → Changes one v old mid → Changes two v mid new → Changes both v old new
+  pub changes-then : {A : Type 0} (one two both : Station D O U → Station D O U → Type 0) (v : ℕ) (old mid new : Run D O U A) → ((a b c : Station D O U) → one a b → two b c → both a c) → Changes one v old mid → Changes two v mid new → Changes both v old new
   changes-then one two both v old mid new join first second = record {
     width = second.width ∙ first.width;
     others = λ u d ne. second.others u d ne ∙ first.others u d ne;
     own = λ d. join (slice_index_or old.stations.items v d) (slice_index_or mid.stations.items v d) (slice_index_or new.stations.items v d) (first.own d) (second.own d);
   }
 
-  pub changes-as : (one two : Station D O U → Station D O U → Type 0) (v : ℕ) (old new : Run D O U) → ((a b : Station D O U) → one a b → two a b) → Changes one v old new → Changes two v old new
+  pub changes-as : {A : Type 0} (one two : Station D O U → Station D O U → Type 0) (v : ℕ) (old new : Run D O U A) → ((a b : Station D O U) → one a b → two a b) → Changes one v old new → Changes two v old new
   changes-as one two v old new by is = record { width = is.width; others = is.others; own = λ d. by (slice_index_or old.stations.items v d) (slice_index_or new.stations.items v d) (is.own d) }
 
   pub not-restarted : (a : Station D O U) → IsNotRestarted a a
@@ -157,17 +157,17 @@ module _ {D O U : Type 0} where
 
   -- what a call says of restarts, whatever it answers
   -- what a call that failed says of restarts
-  pub err-still : (v : ℕ) (old new : Run D O U) → Changes (λ a b. IsNotRestarted a b × Unit {0}) v old new → Changes IsNotRestarted v old new
+  pub err-still : {A : Type 0} (v : ℕ) (old new : Run D O U A) → Changes (λ a b. IsNotRestarted a b × Unit {0}) v old new → Changes IsNotRestarted v old new
   err-still v old new is = changes-as (λ a b. IsNotRestarted a b × Unit {0}) IsNotRestarted v old new (λ a b x. x.0) is
 
   -- and one that went well
-  pub ok-still : (how : Station D O U → Station D O U → Type 0) (v : ℕ) (old new : Run D O U) → Changes (λ a b. IsNotRestarted a b × how a b) v old new → Changes IsNotRestarted v old new
+  pub ok-still : {A : Type 0} (how : Station D O U → Station D O U → Type 0) (v : ℕ) (old new : Run D O U A) → Changes (λ a b. IsNotRestarted a b × how a b) v old new → Changes IsNotRestarted v old new
   ok-still how v old new is = changes-as (λ a b. IsNotRestarted a b × how a b) IsNotRestarted v old new (λ a b x. x.0) is
 
-  pub still-then : (v : ℕ) (old mid new : Run D O U) → Changes IsNotRestarted v old mid → Changes IsNotRestarted v mid new → Changes IsNotRestarted v old new
+  pub still-then : {A : Type 0} (v : ℕ) (old mid new : Run D O U A) → Changes IsNotRestarted v old mid → Changes IsNotRestarted v mid new → Changes IsNotRestarted v old new
   still-then v old mid new one two = changes-then IsNotRestarted IsNotRestarted IsNotRestarted v old mid new not-restarted-then one two
 
-  pub call-broken : {T E : Type 0} (P : E → Type 0) (result : Result T E) (how : Station D O U → Station D O U → Type 0) (v : ℕ) (old new : Run D O U) → IsErrAnd result P → Changes IsNotRestarted v old new → IsCall result how v old new
+  pub call-broken : {A T E : Type 0} (P : E → Type 0) (result : Result T E) (how : Station D O U → Station D O U → Type 0) (v : ℕ) (old new : Run D O U A) → IsErrAnd result P → Changes IsNotRestarted v old new → IsCall result how v old new
   call-broken P (Ok x) how v old new broken is = absurd broken
   call-broken P (Err e) how v old new broken is = changes-as IsNotRestarted (λ a b. IsNotRestarted a b × Unit {0}) v old new (λ a b x. (x, tt)) is
 
@@ -243,12 +243,12 @@ module _ {D O U : Type 0} where
     abbrev pub Went : (Station D O U → Station D O U → Type 0) → Station D O U → Station D O U → Type 0
     Went how a b = IsNotRestarted a b × how a b
 
-    pub went-then : (one two both : Station D O U → Station D O U → Type 0) (v : ℕ) (old mid new : Run D O U) → ((a b c : Station D O U) → one a b → two b c → both a c) → Changes (Went one) v old mid → Changes (Went two) v mid new → Changes (Went both) v old new
+    pub went-then : {A : Type 0} (one two both : Station D O U → Station D O U → Type 0) (v : ℕ) (old mid new : Run D O U A) → ((a b c : Station D O U) → one a b → two b c → both a c) → Changes (Went one) v old mid → Changes (Went two) v mid new → Changes (Went both) v old new
     went-then one two both v old mid new join first second =
         changes-then (Went one) (Went two) (Went both) v old mid new (λ a b c x y. (not-restarted-then a b c x.0 y.0, join a b c x.1 y.1)) first second
 
     -- no page waits after it
-    pub patched-too : (v : ℕ) (old new : Run D O U) → Changes (Went (MaySync told)) v old new → IsPatchedAt v new → Changes (Went (HasPatched told)) v old new
+    pub patched-too : {A : Type 0} (v : ℕ) (old new : Run D O U A) → Changes (Went (MaySync told)) v old new → IsPatchedAt v new → Changes (Went (HasPatched told)) v old new
     patched-too v old new is none = record {
       width = is.width;
       others = is.others;
@@ -260,7 +260,7 @@ module _ {D O U : Type 0} where
     TwoDone a c = (b : Station D O U) × (MaySync told a b × HasPatched told b c)
 
     -- all calls of a visit
-    pub work-called : (v : ℕ) (r1 r2 r3 r4 r5 r6 r7 : Run D O U) (result : Result (Unit {0}) NodeFault) → Changes (Went (MaySync told)) v r1 r2 → Changes (Went (HasPatched told)) v r2 r3 → Changes (Went (HasSettled told)) v r3 r4 → Changes (Went (KeepsImage told)) v r4 r5
+    pub work-called : {A : Type 0} (v : ℕ) (r1 r2 r3 r4 r5 r6 r7 : Run D O U A) (result : Result (Unit {0}) NodeFault) → Changes (Went (MaySync told)) v r1 r2 → Changes (Went (HasPatched told)) v r2 r3 → Changes (Went (HasSettled told)) v r3 r4 → Changes (Went (KeepsImage told)) v r4 r5
         → Changes (Went (KeepsImage told)) v r5 r6 → IsCall result (KeepsImage told) v r6 r7 → IsCall result (IsSettledSince told) v r1 r7
     work-called v r1 r2 r3 r4 r5 r6 r7 result turns pages settles sends hears outputs = by result outputs
       where
@@ -282,7 +282,7 @@ module _ {D O U : Type 0} where
             changes-then (Went (IsSettledSince told)) (λ a b. IsNotRestarted a b × Unit {0}) (λ a b. IsNotRestarted a b × Unit {0}) v r1 r6 r7 (λ a b c x y. (not-restarted-then a b c x.0 y.0, tt)) heard last
 
     -- a visit that ends with a restart
-    pub restart-visited : {E : Type 0} (v : ℕ) (old mid new : Run D O U) (result : Result (Unit {0}) E) → Changes IsNotRestarted v old mid → OnOk result (Changes WasRestarted v mid new) → OnOk result (Changes (WasVisited told) v old new)
+    pub restart-visited : {A E : Type 0} (v : ℕ) (old mid new : Run D O U A) (result : Result (Unit {0}) E) → Changes IsNotRestarted v old mid → OnOk result (Changes WasRestarted v mid new) → OnOk result (Changes (WasVisited told) v old new)
     restart-visited v old mid new (Ok x) still was =
         changes-then IsNotRestarted WasRestarted (WasVisited told) v old mid new (λ a b c one two. let e = one.tries in inl (tried-last a b c (omega (arith, e), one.lines) two)) still was
     restart-visited v old mid new (Err e) still was = tt
@@ -290,15 +290,15 @@ module _ {D O U : Type 0} where
     -- ---- a pass
 
     -- the nodes below this one were visited, and the stations of the others are as they were
-    pub record VisitedBelow (n : ℕ) (old new : Run D O U) : Type 0 where
+    pub record VisitedBelow {A : Type 0} (n : ℕ) (old new : Run D O U A) : Type 0 where
       pub width : length new.stations.items ≡ length old.stations.items
       pub done : (v : ℕ) (d : Station D O U) → v < n → WasVisited told (slice_index_or old.stations.items v d) (slice_index_or new.stations.items v d)
       pub left : (v : ℕ) (d : Station D O U) → n ≤ v → slice_index_or new.stations.items v d ≡ slice_index_or old.stations.items v d
 
-    pub visited-none : (r : Run D O U) → VisitedBelow 0 r r
+    pub visited-none : {A : Type 0} (r : Run D O U A) → VisitedBelow 0 r r
     visited-none r = record { width = refl; done = λ v d low. absurd (omega (arith, low)); left = λ v d high. refl }
 
-    pub visited-more : (n : ℕ) (old mid new : Run D O U) → VisitedBelow n old mid → Changes (WasVisited told) n mid new → VisitedBelow (n + 1) old new
+    pub visited-more : {A : Type 0} (n : ℕ) (old mid new : Run D O U A) → VisitedBelow n old mid → Changes (WasVisited told) n mid new → VisitedBelow (n + 1) old new
     visited-more n old mid new below one = record {
       width = one.width ∙ below.width;
       done = λ v d low. ⊎_elim
@@ -311,7 +311,7 @@ module _ {D O U : Type 0} where
       left = λ v d high. one.others v d (λ e. absurd (omega (arith, high, e))) ∙ below.left v d (omega (arith, high));
     }
 
-    pub visited-all : (n : ℕ) (old new : Run D O U) → VisitedBelow n old new → length old.stations.items ≤ n → AllVisited told old new
+    pub visited-all : {A : Type 0} (n : ℕ) (old new : Run D O U A) → VisitedBelow n old new → length old.stations.items ≤ n → AllVisited told old new
     visited-all n old new below most = record { width = below.width; each = λ v d low. below.done v d (omega (arith, low, most)) }
 
 -- ---- what each call says

@@ -139,7 +139,7 @@ NoOutlet (Err Memory) = Unit {0}
 NoOutlet (Err Outlet) = ⊥
 NoOutlet (Err (Damaged disk place)) = Unit {0}
 
-module _ {D O U : Type 0} (faults : U → ℕ) (fate : U → Option Fate) (terms : Terms) (made : ℕ) (r r2 : Run D O U) (v : ℕ) (s s2 : Station D O U)
+module _ {D O U A : Type 0} (faults : U → ℕ) (fate : U → Option Fate) (terms : Terms) (made : ℕ) (r r2 : Run D O U A) (v : ℕ) (s s2 : Station D O U)
     (low : v < made) (width : v < length r.stations.items) (is : slice_index_or r.stations.items v s ≡ s) (stations : r2.stations.items ≡ slice_set r.stations.items v s2) (are : AreRefused faults fate terms made r) where
   here : (d : Station D O U) → slice_index_or r2.stations.items v d ≡ s2
   here d = ap (λ xs. slice_index_or xs v d) stations ∙ get_or-set_same r.stations.items v s2 d width
@@ -212,7 +212,7 @@ module _ {D O U : Type 0} (faults : U → ℕ) (fate : U → Option Fate) (terms
 
 -- ---- one call after another
 
-module _ {D O U T : Type 0} (faults : U → ℕ) (fate : U → Option Fate) (terms : Terms) (made : ℕ) (r : Run D O U) where
+module _ {D O U A T : Type 0} (faults : U → ℕ) (fate : U → Option Fate) (terms : Terms) (made : ℕ) (r : Run D O U A) where
   -- a fault that is handed on leaves what it left
   pub refused-handed-on : (v : ℕ) (result : Result T NodeFault) (fault : NodeFault) → IsErrAnd result (λ e. e ≡ fault) → RefusedFault faults fate terms fault made v r → RefusedBy faults fate terms result made v r
   refused-handed-on v (Ok x) fault same is = absurd same
@@ -223,13 +223,13 @@ module _ {D O U T : Type 0} (faults : U → ℕ) (fate : U → Option Fate) (ter
   run-refused-handed-on (Err e) fault same is = subst (λ (x : RunFault). RefusedRunFault faults fate terms x made r) (sym same) is
 
 -- and what stops a run stops it still
-pub stops-handed-on : {D O U T : Type 0} (told : Watched D → Option Story) (count : Watched D → ℕ) (falls : Watched D → Option disk.Fate) (telling : Telling O) (faults : U → ℕ) (fate : U → Option Fate) (terms : Terms) (g : Game) (made : ℕ) (r : Run D O U)
+pub stops-handed-on : {D O U A T : Type 0} (told : Watched D → Option Story) (count : Watched D → ℕ) (falls : Watched D → Option disk.Fate) (telling : Telling O) (faults : U → ℕ) (fate : U → Option Fate) (terms : Terms) (g : Game) (made : ℕ) (r : Run D O U A)
     → (result : Result T RunFault) (fault : RunFault) → IsErrAnd result (λ e. e ≡ fault) → StopsBy {T = T} told count falls telling faults fate terms g (Err fault) made r → StopsBy told count falls telling faults fate terms g result made r
 stops-handed-on told count falls telling faults fate terms g made r (Ok x) fault same is = absurd same
 stops-handed-on {T = T} told count falls telling faults fate terms g made r (Err e) fault same is = subst (λ (x : RunFault). StopsBy {T = T} told count falls telling faults fate terms g (Err x) made r) (sym same) is
 
 -- a node that was restarted as often as it may be
-pub used-up-of : {D O U : Type 0} (v : ℕ) (r : Run D O U) → v < length r.stations.items → r.restarts ≤ tries_at r.stations.items v → IsUsedUpOf v r
+pub used-up-of : {D O U A : Type 0} (v : ℕ) (r : Run D O U A) → v < length r.stations.items → r.restarts ≤ tries_at r.stations.items v → IsUsedUpOf v r
 used-up-of v r low many = λ d. let tries = tries-is r.stations.items v d low in omega (arith, many, tries)
 
 -- ---- which calls tell of no outlet

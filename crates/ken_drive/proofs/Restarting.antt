@@ -4,6 +4,7 @@ use Rattle.std.proofs.lemmas.List.{length_push}
 use Rattle.ken_disk.specs.Story.{Story}
 use Rattle.ken_model.specs.declared.messages.Out.{Out}
 use Rattle.ken_model.specs.Game.{Game}
+use Rattle.ken_model.specs.Handler.{Handler}
 use Rattle.ken_record.specs.declared.effects.Effects.{Effects}
 use Rattle.ken_core.specs.declared.events.Event.{Event}
 use Rattle.ken_core.specs.declared.events.Event.TheVariants.{Seal, SealCut, Patch, SyncImage, Turnover, Send, Ack, TakeAck, Emit, Crash, Recover}
@@ -59,19 +60,19 @@ module _ (g : Game) (put : Packet → Type 0) (v : ℕ) where
       let rest = run-grows run.0 n2 es run.1.0 run.1.1.3 in
       omega (arith, one, rest)
 
-module _ {D O U : Type 0} (told : Watched D → Option Story) (size : Watched D → ℕ) (took : U → Option (List Out)) (g : Game) (made : ℕ) (r r2 : Run D O U) (v : ℕ) (s s2 : Station D O U)
-    (stopped : IsStopped told size took g made v r)
+module _ {D O U A : Type 0} (told : Watched D → Option Story) (size : Watched D → ℕ) (took : U → Option (List Out)) (handles : A → Handler) (g : Game) (made : ℕ) (r r2 : Run D O U A) (v : ℕ) (s s2 : Station D O U)
+    (stopped : IsStopped told size took handles g made v r)
     (is : slice_index_or r.stations.items v s ≡ s) (same : (r2.nodes ≡ r.nodes) × (r2.app ≡ r.app)) (stations : r2.stations.items ≡ slice_set r.stations.items v s2) (most : r2.restarts ≡ r.restarts) (may : s.restarts < r.restarts) where
   placed : v < length r.stations.items
   placed = subst (λ (k : ℕ). v < k) (sym stopped.stands.width) stopped.known
 
   had : turns_to_make s.node.stage ≡ g.turns - length (stopped.nodes v).turning.turns
-  had = down-to-make told g v stopped.given (stopped.nodes v) stopped.doubt s.node.stage (down-before told size took g made r r2 v s s2 stopped is same stations)
+  had = down-to-make told g v stopped.given (stopped.nodes v) stopped.doubt s.node.stage (down-before told size took handles g made r r2 v s s2 stopped is same stations)
 
   pub restart-worked : (result : Result (Unit {0}) NodeFault) → RestartsStation told size result g v stopped.given (stopped.nodes v) stopped.doubt s s2 → UnlessMemory result (work_left r2 < work_left r)
   restart-worked (Ok x) b =
       let again = b.1.0 in
-      let down = down-before told size took g made r r2 v s s2 stopped is same stations in
+      let down = down-before told size took handles g made r r2 v s s2 stopped is same stations in
       let up : IsUp told size g v again.after s2.node.stage = record {
         limits = down.limits;
         known = down.known;

@@ -8,9 +8,8 @@ use Rattle.ken_disk.specs.Story.{Story}
 use Rattle.ken_model.specs.declared.messages.Out.{Out}
 use Rattle.ken_model.specs.declared.reports.Emission.{Emission}
 use Rattle.ken_model.specs.declared.facts.TheConstants.{MAX_NODES}
-use Rattle.ken_model.specs.declared.facts.Facts.{Facts}
-use Rattle.ken_model.specs.Game.{Game, game_of}
-use Rattle.ken_model.specs.Kinds.{handler_of}
+use Rattle.ken_model.specs.Game.{Game}
+use Rattle.ken_model.specs.Handler.{Handler}
 use Rattle.ken_model.specs.Limits.{IsWithinLimits}
 use Rattle.ken_model.proofs.First.{first_is_empty}
 use Rattle.ken_model.proofs.ReadBack.{reads_what_stands}
@@ -29,13 +28,14 @@ use Rattle.ken_node.specs.Restarts.{IsUpAgain}
 use Rattle.ken_node.specs.Stages.{refusals_in}
 use Rattle.ken_ship.specs.Fates as ship
 use Rattle.ken_node.specs.Up.{IsUp}
-use Rattle.ken_node.proofs.ShortKinds.{kinds_keep_limits}
 use Rattle.ken_flow.specs.Flows.{AreKnown}
 use Rattle.ken_flow.specs.Groups.{group_of, with_node}
 use Rattle.ken_flow.specs.Laws.{FirstIsInAccord}
 use Rattle.ken_flow.specs.Standstill.{AreModestActs, AreShort}
 use Rattle.ken_flow.proofs.Flows.{first_are_known}
 use Rattle.ken_flow.proofs.Groups.{first_is_in_accord}
+use Rattle.ken_app.specs.Limits.{KeepsLimits}
+use Rattle.ken_app.specs.Lines.{KeepsLines}
 use Rattle.ken_drive.specs.declared.faults.RunFault.{RunFault}
 use Rattle.ken_drive.specs.declared.faults.RunFault.TheVariants.{Damaged, Down, Memory}
 use Rattle.ken_drive.specs.declared.run.Run.{Run}
@@ -107,26 +107,27 @@ new-modest v nodes acts links new modest w = by (nat_lt w nodes) refl
 first-accord : FirstIsInAccord
 first-accord = first_is_in_accord (start_is_in_accord first_is_empty reads_what_stands)
 
-module _ {D O U : Type 0} (told : Watched D → Option Story) (size : Watched D → ℕ) (took : U → Option (List Out)) where
+module _ {D O U A : Type 0} (told : Watched D → Option Story) (size : Watched D → ℕ) (took : U → Option (List Out)) (handles : A → Handler) where
   -- ---- a run without its nodes
 
-  pub none-started : (f : Facts) (r : Run D O U) → IsWithinLimits (game_of f) → r.nodes ≡ 0 → handler_of r.app.0 ≡ handler_of f.kind → r.stations.items ≡ [] → r.waiting.mail ≡ replicate f.nodes [] → r.waiting.acks ≡ replicate f.nodes []
-      → IsStarted told size took (game_of f) 0 r
-  none-started f r limits count handler none mail acks = record {
-    nodes = λ v. first_node (game_of f);
+  pub none-started : (g : Game) (r : Run D O U A) → IsWithinLimits g → KeepsLimits g.nodes g.size g.handler → KeepsLines g.nodes g.size g.handler → r.nodes ≡ 0 → handles r.app ≡ g.handler → r.stations.items ≡ [] → r.waiting.mail ≡ replicate g.nodes [] → r.waiting.acks ≡ replicate g.nodes []
+      → IsStarted told size took handles g 0 r
+  none-started g r limits keeps lines count handler none mail acks = record {
+    nodes = λ v. first_node g;
     stands = record {
       limits = limits;
-      keeps = kinds_keep_limits f.kind f.nodes f.size;
+      keeps = keeps;
+      lines = lines;
       few = omega arith;
       count = count;
       handler = handler;
       width = ap length none;
-      accord = first-accord (game_of f) limits;
-      boxes = (ap length mail ∙ length-replicate f.nodes [], ap length acks ∙ length-replicate f.nodes []);
-      mail = subst (AreKnown (game_of f) (group_of (game_of f) (λ v. first_node (game_of f)) [])) (sym mail) ((first_are_known (game_of f) (group_of (game_of f) (λ v. first_node (game_of f)) [])).boxes f.nodes);
-      acks = subst (AreKnown (game_of f) (group_of (game_of f) (λ v. first_node (game_of f)) [])) (sym acks) ((first_are_known (game_of f) (group_of (game_of f) (λ v. first_node (game_of f)) [])).boxes f.nodes);
+      accord = first-accord g limits;
+      boxes = (ap length mail ∙ length-replicate g.nodes [], ap length acks ∙ length-replicate g.nodes []);
+      mail = subst (AreKnown g (group_of g (λ v. first_node g) [])) (sym mail) ((first_are_known g (group_of g (λ v. first_node g) [])).boxes g.nodes);
+      acks = subst (AreKnown g (group_of g (λ v. first_node g) [])) (sym acks) ((first_are_known g (group_of g (λ v. first_node g) [])).boxes g.nodes);
       each = λ v d below. absurd (omega (arith, below));
-      short = (subst AreShort (sym mail) (first-short f.nodes), subst AreShort (sym acks) (first-short f.nodes));
+      short = (subst AreShort (sym mail) (first-short g.nodes), subst AreShort (sym acks) (first-short g.nodes));
       modest = λ v d below. absurd (omega (arith, below));
     };
     up = λ v d below. absurd (omega (arith, below));
@@ -137,10 +138,10 @@ module _ {D O U : Type 0} (told : Watched D → Option Story) (size : Watched D 
 
   -- ---- one more node
 
-  module _ (g : Game) (made : ℕ) (s s2 : Station D O U) (r r2 : Run D O U) (joins : Joins told size took g made s r) (created : IsCreatedStation told size g made r.restarts s2)
+  module _ (g : Game) (made : ℕ) (s s2 : Station D O U) (r r2 : Run D O U A) (joins : Joins told size took handles g made s r) (created : IsCreatedStation told size g made r.restarts s2)
       (rest : s2 ≡ record s { node = s2.node; restarts = s2.restarts; lines = s2.lines }) (stations : r2.stations.items ≡ r.stations.items ++ s2 ∷ [])
       (count : r2.nodes ≡ r.nodes + 1) (same : (r2.app ≡ r.app) × (r2.waiting ≡ r.waiting) × (r2.restarts ≡ r.restarts)) where
-    abbrev stands : StandsFor told size took g made joins.started.nodes [] r
+    abbrev stands : StandsFor told size took handles g made joins.started.nodes [] r
     stands = joins.started.stands
 
     abbrev before : ℕ → Node
@@ -203,7 +204,7 @@ module _ {D O U : Type 0} (told : Watched D → Option Story) (size : Watched D 
       tell = up.tell;
     }
 
-    pub has-joined : IsStarted told size took g (made + 1) r2
+    pub has-joined : IsStarted told size took handles g (made + 1) r2
     has-joined = record {
       nodes = after;
       stands = record {
@@ -211,7 +212,8 @@ module _ {D O U : Type 0} (told : Watched D → Option Story) (size : Watched D 
         keeps = stands.keeps;
         few = let low = joins.known in omega (arith, low);
         count = count ∙ ap (λ (k : ℕ). k + 1) stands.count;
-        handler = ap (λ a. handler_of a.0) same.0 ∙ stands.handler;
+        lines = stands.lines;
+        handler = ap handles same.0 ∙ stands.handler;
         width = ap length stations ∙ length-append r.stations.items (s2 ∷ []) ∙ ap (λ (k : ℕ). k + 1) stands.width;
         accord = accord2;
         boxes = (ap (λ x. length x.mail) same.1 ∙ stands.boxes.0, ap (λ x. length x.acks) same.1 ∙ stands.boxes.1);
@@ -238,8 +240,8 @@ module _ {D O U : Type 0} (told : Watched D → Option Story) (size : Watched D 
 
 -- ---- a run has as many stations as nodes, and so few that a world takes them back
 
-module _ {D O U : Type 0} (told : Watched D → Option Story) (size : Watched D → ℕ) (took : U → Option (List Out)) (g : Game) (made : ℕ) (nodes : ℕ → Node) (emissions : List Emission) (r : Run D O U) where
-  pub few-stations : StandsFor told size took g made nodes emissions r → length r.stations.items ≤ MAX_NODES
+module _ {D O U A : Type 0} (told : Watched D → Option Story) (size : Watched D → ℕ) (took : U → Option (List Out)) (handles : A → Handler) (g : Game) (made : ℕ) (nodes : ℕ → Node) (emissions : List Emission) (r : Run D O U A) where
+  pub few-stations : StandsFor told size took handles g made nodes emissions r → length r.stations.items ≤ MAX_NODES
   few-stations stands =
       let width = stands.width in
       let few = stands.few in
@@ -248,10 +250,10 @@ module _ {D O U : Type 0} (told : Watched D → Option Story) (size : Watched D 
 
 -- ---- as a run answers
 
-module _ {D O U : Type 0} (told : Watched D → Option Story) (size : Watched D → ℕ) (took : U → Option (List Out)) (g : Game) (made : ℕ) (s s2 : Station D O U) (r r2 : Run D O U) (joins : Joins told size took g made s r)
+module _ {D O U A : Type 0} (told : Watched D → Option Story) (size : Watched D → ℕ) (took : U → Option (List Out)) (handles : A → Handler) (g : Game) (made : ℕ) (s s2 : Station D O U) (r r2 : Run D O U A) (joins : Joins told size took handles g made s r)
     (rest : s2 ≡ record s { node = s2.node; restarts = s2.restarts; lines = s2.lines }) (stations : r2.stations.items ≡ r.stations.items ++ s2 ∷ []) (count : r2.nodes ≡ r.nodes + 1) (same : (r2.app ≡ r.app) × (r2.waiting ≡ r.waiting) × (r2.restarts ≡ r.restarts)) where
-  pub joins-by : (result : Result (Unit {0}) RunFault) → BeginsStation told size result g made r.nodes r.restarts s2 → JoinsBy told size took result g made r2
-  joins-by (Ok x) begins = has-joined told size took g made s s2 r r2 joins begins rest stations count same
+  pub joins-by : (result : Result (Unit {0}) RunFault) → BeginsStation told size result g made r.nodes r.restarts s2 → JoinsBy told size took handles result g made r2
+  joins-by (Ok x) begins = has-joined told size took handles g made s s2 r r2 joins begins rest stations count same
   joins-by (Err (Down u)) begins = begins ∙ joins.started.stands.count
   joins-by (Err Memory) begins = tt
   joins-by (Err (Damaged u disk place)) begins = absurd begins
@@ -265,18 +267,18 @@ module _ {D O U : Type 0} (told : Watched D → Option Story) (size : Watched D 
         (first-refused faults fate terms made s2 (subst (λ (o : U). MayFailAt terms.scripted made (terms.fails made) (fate o)) (sym (ap (λ (x : Station D O U). x.out) rest)) may) none);
   }
 
-module _ {D O U : Type 0} (told : Watched D → Option Story) (size : Watched D → ℕ) (took : U → Option (List Out)) (s s2 : Station D O U) (r r2 : Run D O U)
+module _ {D O U A : Type 0} (told : Watched D → Option Story) (size : Watched D → ℕ) (took : U → Option (List Out)) (handles : A → Handler) (s s2 : Station D O U) (r r2 : Run D O U A)
     (rest : s2 ≡ record s { node = s2.node; restarts = s2.restarts; lines = s2.lines }) (stations : r2.stations.items ≡ r.stations.items ++ s2 ∷ []) where
-  is-last : IsLast told size took s r r2
+  is-last : IsLast told size took handles s r r2
   is-last = record { last = s2; is = rest; stations = stations }
 
-  pub adds-by : (result : Result (Unit {0}) RunFault) → AddsBy told size took result s r r2
+  pub adds-by : (result : Result (Unit {0}) RunFault) → AddsBy told size took handles result s r r2
   adds-by (Ok x) = is-last
   adds-by (Err (Down u)) = is-last
   adds-by (Err Memory) = tt
   adds-by (Err (Damaged u disk place)) = is-last
 
-module _ {D O U : Type 0} (told : Watched D → Option Story) (count : Watched D → ℕ) (fate : Watched D → Option Fate) (telling : Telling O) (terms : Terms) (g : Game) (made : ℕ) (s2 : Station D O U) (r r2 : Run D O U)
+module _ {D O U A : Type 0} (told : Watched D → Option Story) (count : Watched D → ℕ) (fate : Watched D → Option Fate) (telling : Telling O) (terms : Terms) (g : Game) (made : ℕ) (s2 : Station D O U) (r r2 : Run D O U A)
     (width : length r.stations.items ≡ made) (stations : r2.stations.items ≡ r.stations.items ++ s2 ∷ []) (same : r2.restarts ≡ r.restarts) (accounted : AreAccounted told count fate telling terms g made r) where
   last-is : (d : Station D O U) → slice_index_or r2.stations.items made d ≡ s2
   last-is d = ap (λ xs. slice_index_or xs made d) stations ∙ ap (λ (k : ℕ). slice_index_or (r.stations.items ++ s2 ∷ []) k d) (sym width) ∙ last-here r.stations.items s2 d
@@ -302,21 +304,21 @@ module _ {D O U : Type 0} (told : Watched D → Option Story) (count : Watched D
 
 -- ---- want of memory
 
-module _ {D O U : Type 0} (told : Watched D → Option Story) (size : Watched D → ℕ) (took : U → Option (List Out)) where
-  pub memory-joins : (result : Result (Unit {0}) RunFault) → IsErrAnd result (λ e. e ≡ Memory) → (g : Game) (made : ℕ) (r : Run D O U) → JoinsBy told size took result g made r
+module _ {D O U A : Type 0} (told : Watched D → Option Story) (size : Watched D → ℕ) (took : U → Option (List Out)) (handles : A → Handler) where
+  pub memory-joins : (result : Result (Unit {0}) RunFault) → IsErrAnd result (λ e. e ≡ Memory) → (g : Game) (made : ℕ) (r : Run D O U A) → JoinsBy told size took handles result g made r
   memory-joins (Ok x) is g made r = absurd is
   memory-joins (Err (Down v)) is g made r = absurd (cc)
   memory-joins (Err Memory) is g made r = tt
   memory-joins (Err (Damaged v disk place)) is g made r = absurd (cc)
 
-  pub memory-adds : (result : Result (Unit {0}) RunFault) → IsErrAnd result (λ e. e ≡ Memory) → (s : Station D O U) (r r2 : Run D O U) → AddsBy told size took result s r r2
+  pub memory-adds : (result : Result (Unit {0}) RunFault) → IsErrAnd result (λ e. e ≡ Memory) → (s : Station D O U) (r r2 : Run D O U A) → AddsBy told size took handles result s r r2
   memory-adds (Ok x) is s r r2 = absurd is
   memory-adds (Err (Down v)) is s r r2 = absurd (cc)
   memory-adds (Err Memory) is s r r2 = tt
   memory-adds (Err (Damaged v disk place)) is s r r2 = absurd (cc)
 
 module _ {D O U : Type 0} (told : Watched D → Option Story) (count : Watched D → ℕ) (fate : Watched D → Option Fate) (telling : Telling O) (terms : Terms) (g : Game) where
-  pub memory-accounts : (result : Result (Unit {0}) RunFault) → IsErrAnd result (λ e. e ≡ Memory) → (made : ℕ) (r : Run D O U) → JoinsAccountsBy told count fate telling terms g result made r
+  pub memory-accounts : {A : Type 0} (result : Result (Unit {0}) RunFault) → IsErrAnd result (λ e. e ≡ Memory) → (made : ℕ) (r : Run D O U A) → JoinsAccountsBy told count fate telling terms g result made r
   memory-accounts (Ok x) is made r = absurd is
   memory-accounts (Err (Down v)) is made r = absurd (cc)
   memory-accounts (Err Memory) is made r = tt

@@ -9,7 +9,8 @@ use Rattle.ken_disk.specs.Fates as disk
 use Rattle.ken_disk.specs.Story.{Story}
 use Rattle.ken_model.specs.declared.messages.Out.{Out}
 use Rattle.ken_model.specs.declared.reports.Lines.{Lines}
-use Rattle.ken_model.specs.Game.{Game, game_of}
+use Rattle.ken_model.specs.Game.{Game}
+use Rattle.ken_model.specs.Handler.{Handler}
 use Rattle.ken_app.specs.Oracles.{Telling}
 use Rattle.ken_script.specs.declared.scripts.OutFail.{OutFail}
 use Rattle.ken_script.specs.declared.scripts.Script.{Script}
@@ -29,7 +30,7 @@ use Rattle.ken_drive.specs.Finishing.{WasKept, unwatched}
 use Rattle.ken_drive.specs.Refusals.{AreRefused, HasFailedLast, IsWornOut, RefusedRunFault, StopsBy}
 use Rattle.ken_drive.specs.Running.{IsRunning, IsStopped, LeavesRunFault}
 use Rattle.ken_drive.specs.Sparing.{FailsInARow, IsLetBy, LetsGoDown}
-use Rattle.ken_drive.specs.Starting.{StartsAccountsBy, StartsBy, fails_for, terms_of}
+use Rattle.ken_drive.specs.Starting.{StartsAccountsBy, StartsBy, fails_for, game_by, terms_of}
 use Rattle.ken_drive.specs.Worlds.{MayFailAt}
 use Rattle.ken_drive.proofs.StartingAll.{one-of}
 
@@ -74,7 +75,7 @@ told-one faults fate often out f is last = record {
 
 -- ---- a node that has gone down
 
-module _ {D O U : Type 0} (views : Views D O U) (script : Script) (rules : KeepsRules script) where
+module _ {D O U : Type 0} (views : Views D O U) (h : Handler) (script : Script) (rules : KeepsRules script) where
   abbrev falls : Watched D → Option disk.Fate
   falls w = views.fate w.disk
 
@@ -88,10 +89,10 @@ module _ {D O U : Type 0} (views : Views D O U) (script : Script) (rules : Keeps
   terms = terms_of views.scripted script
 
   abbrev Held : ℕ → Station D O U → Type 0
-  Held v s = IsHeld (λ w. views.told w.disk) (λ w. views.faults w.disk) falls views.telling (terms_of scripted script) (game_of script.facts) v s
+  Held v s = IsHeld (λ w. views.told w.disk) (λ w. views.faults w.disk) falls views.telling (terms_of scripted script) (game_by h script) v s
 
   abbrev Books : ℕ → Station D O U → Type 0
-  Books v s = HasBooks (λ w. views.told w.disk) (λ w. views.faults w.disk) falls views.telling terms (game_of script.facts) v s
+  Books v s = HasBooks (λ w. views.told w.disk) (λ w. views.faults w.disk) falls views.telling terms (game_by h script) v s
 
   owned : (v : ℕ) (s : Station D O U) (disks : Disks (Watched D)) → HasDisks disks s.node.stage → Books v s → AreOwnDisks views.fate terms.scripted (terms.origins v) s.restarts (unwatched disks)
   owned v s disks has books = let own = books.own disks has in record { log = own.log; image = own.image; second = own.second }
@@ -138,13 +139,13 @@ module _ {D O U : Type 0} (views : Views D O U) (script : Script) (rules : Keeps
 
   -- ---- at the start
 
-  module _ (kept : ℕ → Option (Disks D × O × U)) (size : Watched D → ℕ) where
+  module _ {A : Type 0} (kept : ℕ → Option (Disks D × O × U)) (size : Watched D → ℕ) (handles : A → Handler) where
     pub start-drives : (result : Result Lines RunFault) (fault : RunFault) → IsErrAnd result (λ e. e ≡ fault)
-        → StartsBy (λ w. views.told w.disk) size views.took scripted views.telling views.refused calls script (Err fault) kept
-        → StartsAccountsBy (λ w. views.told w.disk) (λ w. views.faults w.disk) falls views.telling (terms_of scripted script) (game_of script.facts) (Err fault) kept
-        → DrivesBy views script kept result
+        → StartsBy (λ w. views.told w.disk) size views.took handles scripted views.telling views.refused calls h script (Err fault) kept
+        → StartsAccountsBy (λ w. views.told w.disk) (λ w. views.faults w.disk) falls views.telling (terms_of scripted script) (game_by h script) {A = A} (Err fault) kept
+        → DrivesBy views h script kept result
     start-drives (Ok x) fault same starts accounts = absurd same
-    start-drives (Err e) (Down v) same starts accounts = subst (λ (x : RunFault). DrivesBy views script kept (Err x)) (sym same) (record {
+    start-drives (Err e) (Down v) same starts accounts = subst (λ (x : RunFault). DrivesBy views h script kept (Err x)) (sym same) (record {
       made = v + 1;
       known = omega arith;
       few = omega (arith, starts.0);
@@ -162,12 +163,12 @@ module _ {D O U : Type 0} (views : Views D O U) (script : Script) (rules : Keeps
           (cases_eq u v);
       others = λ u high. starts.2 u (omega (arith, high));
     })
-    start-drives (Err e) Memory same starts accounts = subst (λ (x : RunFault). DrivesBy views script kept (Err x)) (sym same) starts
+    start-drives (Err e) Memory same starts accounts = subst (λ (x : RunFault). DrivesBy views h script kept (Err x)) (sym same) starts
     start-drives (Err e) (Damaged v disk place) same starts accounts = absurd starts
 
     pub start-lets : (result : Result Lines RunFault) (fault : RunFault) → scripted ≡ true → IsErrAnd result (λ e. e ≡ fault)
-        → StartsBy (λ w. views.told w.disk) size views.took scripted views.telling views.refused calls script (Err fault) kept
-        → StartsAccountsBy (λ w. views.told w.disk) (λ w. views.faults w.disk) falls views.telling (terms_of scripted script) (game_of script.facts) (Err fault) kept
+        → StartsBy (λ w. views.told w.disk) size views.took handles scripted views.telling views.refused calls h script (Err fault) kept
+        → StartsAccountsBy (λ w. views.told w.disk) (λ w. views.faults w.disk) falls views.telling (terms_of scripted script) (game_by h script) {A = A} (Err fault) kept
         → IfErr result (IsLetBy script)
     start-lets (Ok x) fault tells same starts accounts = tt
     start-lets (Err e) (Down v) tells same starts accounts = subst (IsLetBy script) (sym same) (held-let v accounts.0.station accounts.0.was.disks tells accounts.0.held accounts.0.none_left accounts.0.was.has)
@@ -176,7 +177,7 @@ module _ {D O U : Type 0} (views : Views D O U) (script : Script) (rules : Keeps
 
   -- ---- and later
 
-  module _ (size : Watched D → ℕ) (v : ℕ) (r : Run D O U) (stopped : HasStoppedAt (λ w. views.told w.disk) size (λ w. views.faults w.disk) falls views.telling views.took views.refused calls (terms_of scripted script) (game_of script.facts) v r) where
+  module _ {A : Type 0} (size : Watched D → ℕ) (handles : A → Handler) (v : ℕ) (r : Run D O U A) (stopped : HasStoppedAt (λ w. views.told w.disk) size (λ w. views.faults w.disk) falls views.telling views.took handles views.refused calls (terms_of scripted script) (game_by h script) v r) where
     abbrev low : v < length r.stations.items
     low = let known = stopped.known in let width = stopped.width in omega (arith, known, width)
 
@@ -187,7 +188,7 @@ module _ {D O U : Type 0} (views : Views D O U) (script : Script) (rules : Keeps
     stopped-gone kept was =
         let d = one-of r.stations.items v low in
         ⊎_elim
-        (λ (used : IsUsedUp (λ w. views.told w.disk) (λ w. views.faults w.disk) falls views.telling (terms_of scripted script) (game_of script.facts) script.facts.nodes v r). held-gone v s kept (used.held.held d) (used.none_left d) was)
+        (λ (used : IsUsedUp (λ w. views.told w.disk) (λ w. views.faults w.disk) falls views.telling (terms_of scripted script) (game_by h script) script.facts.nodes v r). held-gone v s kept (used.held.held d) (used.none_left d) was)
         (λ (worn : IsWornOut views.refused calls (terms_of scripted script) v r). worn-gone v s kept (worn d) was)
         stopped.cause
 
@@ -195,22 +196,22 @@ module _ {D O U : Type 0} (views : Views D O U) (script : Script) (rules : Keeps
     stopped-let disks has tells =
         let d = one-of r.stations.items v low in
         ⊎_elim
-        (λ (used : IsUsedUp (λ w. views.told w.disk) (λ w. views.faults w.disk) falls views.telling (terms_of scripted script) (game_of script.facts) script.facts.nodes v r). held-let v s disks tells (used.held.held d) (used.none_left d) has)
+        (λ (used : IsUsedUp (λ w. views.told w.disk) (λ w. views.faults w.disk) falls views.telling (terms_of scripted script) (game_by h script) script.facts.nodes v r). held-let v s disks tells (used.held.held d) (used.none_left d) has)
         (λ (worn : IsWornOut views.refused calls (terms_of scripted script) v r). worn-let v s.out tells (worn d) (stopped.refusals.each v d stopped.known).fails)
         stopped.cause
 
   -- a run that was driven and may not go on, where its devices are kept
-  module _ (size : Watched D → ℕ) (r : Run D O U) (kept : ℕ → Option (Disks D × O × U)) (given : (v : ℕ) (d : Station D O U) → v < length r.stations.items → WasKept (slice_index_or r.stations.items v d) (kept v)) where
-    pub end-drives : ((v : ℕ) → length r.stations.items ≤ v → kept v ≡ None) → (fault : RunFault) → (fault ≡ Memory → ⊥) → EndsBy (λ w. views.told w.disk) size (λ w. views.faults w.disk) falls views.telling views.took views.refused calls (terms_of scripted script) (game_of script.facts) (Err fault) r → DrivesBy views script kept (Err fault)
+  module _ {A : Type 0} (size : Watched D → ℕ) (handles : A → Handler) (r : Run D O U A) (kept : ℕ → Option (Disks D × O × U)) (given : (v : ℕ) (d : Station D O U) → v < length r.stations.items → WasKept (slice_index_or r.stations.items v d) (kept v)) where
+    pub end-drives : ((v : ℕ) → length r.stations.items ≤ v → kept v ≡ None) → (fault : RunFault) → (fault ≡ Memory → ⊥) → EndsBy (λ w. views.told w.disk) size (λ w. views.faults w.disk) falls views.telling views.took handles views.refused calls (terms_of scripted script) (game_by h script) (Err fault) r → DrivesBy views h script kept (Err fault)
     end-drives others (Down v) not stopped =
-        let known = low size v r stopped in
+        let known = low size handles v r stopped in
         let width = stopped.width in
         record {
           made = script.facts.nodes;
           known = stopped.known;
           few = omega arith;
           which = inl refl;
-          shows = stopped-gone size v r stopped (kept v) (given v (one-of r.stations.items v known) known);
+          shows = stopped-gone size handles v r stopped (kept v) (given v (one-of r.stations.items v known) known);
           each = λ u below.
               let there : u < length r.stations.items = omega (arith, width, below) in
               let d = one-of r.stations.items u there in
@@ -220,19 +221,19 @@ module _ {D O U : Type 0} (views : Views D O U) (script : Script) (rules : Keeps
     end-drives others Memory not stopped = absurd (not refl)
     end-drives others (Damaged v disk place) not stopped = absurd stopped
 
-    pub end-lets : (fault : RunFault) → scripted ≡ true → EndsBy (λ w. views.told w.disk) size (λ w. views.faults w.disk) falls views.telling views.took views.refused calls (terms_of scripted script) (game_of script.facts) (Err fault) r → IsLetBy script fault
+    pub end-lets : (fault : RunFault) → scripted ≡ true → EndsBy (λ w. views.told w.disk) size (λ w. views.faults w.disk) falls views.telling views.took handles views.refused calls (terms_of scripted script) (game_by h script) (Err fault) r → IsLetBy script fault
     end-lets (Down v) tells stopped =
-        let known = low size v r stopped in
+        let known = low size handles v r stopped in
         let was = given v (one-of r.stations.items v known) known in
-        stopped-let size v r stopped was.disks was.has tells
+        stopped-let size handles v r stopped was.disks was.has tells
     end-lets Memory tells stopped = tt
     end-lets (Damaged v disk place) tells stopped = absurd stopped
 
 -- ---- how a run ends that may not go on
 
-module _ {D O U : Type 0} (told : Watched D → Option Story) (size : Watched D → ℕ) (count : Watched D → ℕ) (falls : Watched D → Option disk.Fate) (telling : Telling O) (took : U → Option (List Out)) (refused : U → ℕ) (calls : U → Option Fate) (terms : Terms) (g : Game) (r : Run D O U) where
-  width-of : (v made : ℕ) → LeavesRunFault told size took (Down v) g made r → (v < made) × (length r.stations.items ≡ made)
-  width-of v made leaves = ⊎_elim (λ (stopped : IsStopped told size took g made v r). (stopped.known, stopped.stands.width)) (λ (running : (v < made) × IsRunning told size took g made r). (running.0, running.1.stands.width)) leaves
+module _ {D O U A : Type 0} (told : Watched D → Option Story) (size : Watched D → ℕ) (count : Watched D → ℕ) (falls : Watched D → Option disk.Fate) (telling : Telling O) (took : U → Option (List Out)) (handles : A → Handler) (refused : U → ℕ) (calls : U → Option Fate) (terms : Terms) (g : Game) (r : Run D O U A) where
+  width-of : (v made : ℕ) → LeavesRunFault told size took handles (Down v) g made r → (v < made) × (length r.stations.items ≡ made)
+  width-of v made leaves = ⊎_elim (λ (stopped : IsStopped told size took handles g made v r). (stopped.known, stopped.stands.width)) (λ (running : (v < made) × IsRunning told size took handles g made r). (running.0, running.1.stands.width)) leaves
 
   -- what is kept account of at each
   books-of : (v made : ℕ) → AccountsRunFault told count falls telling terms g (Down v) made r → (u : ℕ) (d : Station D O U) → u < made → HasBooks told count falls telling terms g u (slice_index_or r.stations.items u d)
@@ -246,7 +247,7 @@ module _ {D O U : Type 0} (told : Watched D → Option Story) (size : Watched D 
       (λ (are : AreAccounted told count falls telling terms g made r). (are.each u d low).books)
       accounts
 
-  stopped-at : (v made : ℕ) → made ≡ g.nodes → AccountsRunFault told count falls telling terms g (Down v) made r → LeavesRunFault told size took (Down v) g made r → StopsBy {T = Unit {0}} told count falls telling refused calls terms g (Err (Down v)) made r → RefusedRunFault refused calls terms (Down v) made r → HasStoppedAt told size count falls telling took refused calls terms g v r
+  stopped-at : (v made : ℕ) → made ≡ g.nodes → AccountsRunFault told count falls telling terms g (Down v) made r → LeavesRunFault told size took handles (Down v) g made r → StopsBy {T = Unit {0}} told count falls telling refused calls terms g (Err (Down v)) made r → RefusedRunFault refused calls terms (Down v) made r → HasStoppedAt told size count falls telling took handles refused calls terms g v r
   stopped-at v made all accounts leaves stops refusals =
       let at = width-of v made leaves in
       record {
@@ -257,9 +258,9 @@ module _ {D O U : Type 0} (told : Watched D → Option Story) (size : Watched D 
         cause = subst (λ (k : ℕ). IsUsedUp told count falls telling terms g k v r ⊎ IsWornOut refused calls terms v r) all stops;
       }
 
-  pub end-failed : (made : ℕ) → made ≡ g.nodes → (result : Result Lines RunFault) (fault : RunFault) → IsErrAnd result (λ e. e ≡ fault) → AccountsRunFault told count falls telling terms g fault made r → LeavesRunFault told size took fault g made r → StopsBy {T = Unit {0}} told count falls telling refused calls terms g (Err fault) made r → RefusedRunFault refused calls terms fault made r
-      → EndsBy told size count falls telling took refused calls terms g result r
+  pub end-failed : (made : ℕ) → made ≡ g.nodes → (result : Result Lines RunFault) (fault : RunFault) → IsErrAnd result (λ e. e ≡ fault) → AccountsRunFault told count falls telling terms g fault made r → LeavesRunFault told size took handles fault g made r → StopsBy {T = Unit {0}} told count falls telling refused calls terms g (Err fault) made r → RefusedRunFault refused calls terms fault made r
+      → EndsBy told size count falls telling took handles refused calls terms g result r
   end-failed made all (Ok x) fault same accounts leaves stops refusals = absurd same
-  end-failed made all (Err e) (Down v) same accounts leaves stops refusals = subst (λ (x : RunFault). EndsBy told size count falls telling took refused calls terms g (Err x) r) (sym same) (stopped-at v made all accounts leaves stops refusals)
-  end-failed made all (Err e) Memory same accounts leaves stops refusals = subst (λ (x : RunFault). EndsBy told size count falls telling took refused calls terms g (Err x) r) (sym same) tt
+  end-failed made all (Err e) (Down v) same accounts leaves stops refusals = subst (λ (x : RunFault). EndsBy told size count falls telling took handles refused calls terms g (Err x) r) (sym same) (stopped-at v made all accounts leaves stops refusals)
+  end-failed made all (Err e) Memory same accounts leaves stops refusals = subst (λ (x : RunFault). EndsBy told size count falls telling took handles refused calls terms g (Err x) r) (sym same) tt
   end-failed made all (Err e) (Damaged v disk place) same accounts leaves stops refusals = absurd leaves

@@ -14,15 +14,16 @@ use Rattle.ken_model.specs.declared.values.Value.{Value}
 use Rattle.ken_model.specs.Effects.{Effect, answered, refused}
 use Rattle.ken_model.specs.Heap.{first_gap, with_block, without_block}
 use Rattle.ken_model.specs.KeyValue.{Command, Put, Get, Delete, at_space, put_of, key_of, command_in, command_of, is_key, pair_of, without_pair, put_at, get_from, delete_from, kv}
-use Rattle.ken_model.specs.Kinds.{after, ring, tally, share, mix, mix_counts, without_draws, to_others}
+use Rattle.ken_model.specs.Kinds.{after, handler_of, ring, tally, share, mix, mix_counts, without_draws, to_others}
 use Rattle.ken_model.specs.Report.{IsOneLine}
 use Rattle.ken_model.proofs.Others.{to_others-each}
+use Rattle.ken_app.specs.Lines.{ComesByLines, IsOfLines, KeepsLines, first, next}
 
 -- blocks without line feeds
 abbrev AreTexts : List Block → Type 0
 AreTexts blocks = AllByRecursion (λ (b : Block). IsOneLine b.bytes) blocks
 
-abbrev pub HoldsTexts : Value → Type 0
+abbrev HoldsTexts : Value → Type 0
 HoldsTexts value = AreTexts value.blocks
 
 -- sends without line feeds
@@ -30,10 +31,10 @@ abbrev SendTexts : List Send → Type 0
 SendTexts sends = AllByRecursion (λ (s : Send). IsOneLine s.bytes) sends
 
 -- an effect without line feeds
-pub record IsText (e : Effect) : Type 0 where
-  pub value : HoldsTexts e.value
-  pub sends : AllByRecursion (λ (s : Send). IsOneLine s.bytes) e.sends
-  pub outs : AllByRecursion IsOneLine e.outs
+record IsText (e : Effect) : Type 0 where
+  value : HoldsTexts e.value
+  sends : AllByRecursion (λ (s : Send). IsOneLine s.bytes) e.sends
+  outs : AllByRecursion IsOneLine e.outs
 
 -- what holds of both holds of one
 either : {A : Type 0} (P : A → Type 0) (c : Bool) (x y : A) → P x → P y → P (if c then x else y)
@@ -164,10 +165,22 @@ text_mix nodes value (Some n) (clock ∷ word ∷ []) e texts small is =
     subst IsText same made
 
 -- whatever a handler makes
-pub text_after : (kind : Kind) (node nodes : ℕ) (value : Value) (m : Message) (draws : List ℕ) (e : Effect) → HoldsTexts value → IsOneLine m.bytes → after kind node nodes value m draws ≡ Some e → IsText e
+text_after : (kind : Kind) (node nodes : ℕ) (value : Value) (m : Message) (draws : List ℕ) (e : Effect) → HoldsTexts value → IsOneLine m.bytes → after kind node nodes value m draws ≡ Some e → IsText e
 unfolding after
 text_after Ring node nodes value m draws e texts line is = text_without_draws draws (ring node nodes value (num m.bytes)) e (text_ring node nodes value (num m.bytes) texts (num-lt m.bytes)) is
 text_after Tally node nodes value m draws e texts line is = text_without_draws draws (tally node nodes value m (num m.bytes)) e (text_tally node nodes value m (num m.bytes) texts line) is
 text_after Share node nodes value m draws e texts line is = text_without_draws draws (share node nodes value (num m.bytes)) e (text_share node nodes value (num m.bytes) texts (num-lt m.bytes)) is
 text_after Mix node nodes value m draws e texts line is = text_mix nodes value (num m.bytes) draws e texts (num-lt m.bytes) is
 text_after Kv node nodes value m draws e texts line is = text_without_draws draws (kv value (command_of m.bytes)) e (text_kv value (command_of m.bytes) texts (command_fits m.bytes line)) is
+
+-- so a kind keeps lines
+holds_texts : (kind : Kind) (node nodes size : ℕ) (value : Value) → ComesByLines (handler_of kind) node nodes size value → HoldsTexts value
+holds_texts kind node nodes size _ first = tt
+holds_texts kind node nodes size _ (next {value} {m} {draws} {effect} comes call line is) = (text_after kind node nodes value m draws effect (holds_texts kind node nodes size value comes) line is).value
+
+of_lines : (o : Option Effect) → ((e : Effect) → o ≡ Some e → IsText e) → IfSome o IsOfLines
+of_lines None text = tt
+of_lines (Some e) text = let is = text e refl in record { sends = is.sends; outs = is.outs }
+
+pub kinds_keep_lines : (kind : Kind) (nodes size : ℕ) → KeepsLines nodes size (handler_of kind)
+kinds_keep_lines kind nodes size node value m draws comes call line = of_lines (after kind node nodes value m draws) (λ e is. text_after kind node nodes value m draws e (holds_texts kind node nodes size value comes) line is)

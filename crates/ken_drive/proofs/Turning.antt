@@ -8,6 +8,7 @@ use Rattle.ken_disk.specs.Story.{Story}
 use Rattle.ken_model.specs.declared.messages.Out.{Out}
 use Rattle.ken_model.specs.declared.facts.TheConstants.{MAX_NODES, MAX_TURNS}
 use Rattle.ken_model.specs.Game.{Game}
+use Rattle.ken_model.specs.Handler.{Handler}
 use Rattle.ken_model.specs.Network.{inputs_for, outside}
 use Rattle.ken_record.specs.declared.effects.Effects.{Effects}
 use Rattle.ken_net.specs.Inboxes.{all_filed}
@@ -52,8 +53,8 @@ stamp-low : (most stamp : ℕ) (es : List Effects) → stamp ≤ most → AllByR
 stamp-low most stamp [] low all = low
 stamp-low most stamp (e ∷ es) low all = stamp-low most e.stamp es all.0 all.1
 
-module _ {D O U : Type 0} (told : Watched D → Option Story) (size : Watched D → ℕ) (took : U → Option (List Out)) (g : Game) (made : ℕ) (r r2 : Run D O U) (v : ℕ) (s s2 : Station D O U)
-    (running : IsRunning told size took g made r) (low : v < made)
+module _ {D O U A : Type 0} (told : Watched D → Option Story) (size : Watched D → ℕ) (took : U → Option (List Out)) (handles : A → Handler) (g : Game) (made : ℕ) (r r2 : Run D O U A) (v : ℕ) (s s2 : Station D O U)
+    (running : IsRunning told size took handles g made r) (low : v < made)
     (is : slice_index_or r.stations.items v s ≡ s) (same : (r2.nodes ≡ r.nodes) × (r2.app ≡ r.app)) (stations : r2.stations.items ≡ slice_set r.stations.items v s2) (most : r2.restarts ≡ r.restarts)
     (nones : ℕ) (drew : List ℕ → Type 0) (handler : TurnWorker (Watched D)) (kept : emissions_in s2.node.stage ≡ emissions_in s.node.stage) (refused : refusals_in s2.node.stage ≡ refusals_in s.node.stage) (rest : s2 ≡ record s { node = s2.node; luck = s2.luck; acks = s2.acks }) where
   tries : s2.restarts ≡ s.restarts
@@ -71,27 +72,27 @@ module _ {D O U : Type 0} (told : Watched D → Option Story) (size : Watched D 
   -- what was put is on the links, and what these passed on in the inboxes
   links-after : (puts : List Put) → WasPutBy puts → map (λ (x : Station D O U). x.acks.links) r2.stations.items ≡ slice_set (map (λ (x : Station D O U). x.acks.links) r.stations.items) v (after_puts puts (slice_index_or (map (λ (x : Station D O U). x.acks.links) r.stations.items) v []))
   links-after puts put =
-      one-changed told size took g made r r2 v s s2 running low is same stations most (λ (x : Station D O U). x.acks.links)
-      ∙ ap (λ (l : List Standing). slice_set (map (λ (x : Station D O U). x.acks.links) r.stations.items) v l) (ap (λ (x : Leaving). x.links) put.links_are ∙ ap (λ (l : List Standing). after_puts puts l) (sym (was-own told size took g made r r2 v s s2 running low is same stations most (λ (x : Station D O U). x.acks.links) [])))
+      one-changed told size took handles g made r r2 v s s2 running low is same stations most (λ (x : Station D O U). x.acks.links)
+      ∙ ap (λ (l : List Standing). slice_set (map (λ (x : Station D O U). x.acks.links) r.stations.items) v l) (ap (λ (x : Leaving). x.links) put.links_are ∙ ap (λ (l : List Standing). after_puts puts l) (sym (was-own told size took handles g made r r2 v s s2 running low is same stations most (λ (x : Station D O U). x.acks.links) [])))
 
   boxes-after : (puts : List Put) → WasPutBy puts → r2.waiting.acks ≡ all_filed (all_passed puts (slice_index_or (map (λ (x : Station D O U). x.acks.links) r.stations.items) v [])) r.waiting.acks
-  boxes-after puts put = put.passed_on ∙ ap (λ (l : List Standing). all_filed (all_passed puts l) r.waiting.acks) (sym (was-own told size took g made r r2 v s s2 running low is same stations most (λ (x : Station D O U). x.acks.links) []))
+  boxes-after puts put = put.passed_on ∙ ap (λ (l : List Standing). all_filed (all_passed puts l) r.waiting.acks) (sym (was-own told size took handles g made r r2 v s s2 running low is same stations most (λ (x : Station D O U). x.acks.links) []))
 
   mail-same : map (λ (x : Station D O U). x.mail.links) r2.stations.items ≡ map (λ (x : Station D O U). x.mail.links) r.stations.items
-  mail-same = same-all told size took g made r r2 v s s2 running low is same stations most (λ (x : Station D O U). x.mail.links) (ap (λ (x : Station D O U). x.mail.links) rest)
+  mail-same = same-all told size took handles g made r r2 v s s2 running low is same stations most (λ (x : Station D O U). x.mail.links) (ap (λ (x : Station D O U). x.mail.links) rest)
 
   refusals-same : map (λ (x : Station D O U). refusals_in x.node.stage) r2.stations.items ≡ map (λ (x : Station D O U). refusals_in x.node.stage) r.stations.items
-  refusals-same = same-all told size took g made r r2 v s s2 running low is same stations most (λ (x : Station D O U). refusals_in x.node.stage) refused
+  refusals-same = same-all told size took handles g made r r2 v s s2 running low is same stations most (λ (x : Station D O U). refusals_in x.node.stage) refused
 
   -- nothing waited
-  idle-moves : IdleSteps told size g v (running.nodes v) Gave WasPutBy 0 nones handler s2.node.stage → Moved told size took (Rested g v) g made r r2 running
+  idle-moves : IdleSteps told size g v (running.nodes v) Gave WasPutBy 0 nones handler s2.node.stage → Moved told size took handles (Rested g v) g made r r2 running
   idle-moves t =
       let h = t.call in
       let after : Node = t.call.steps.after in
       let call = t.call.steps.call in
       let packets = packets_from g.nodes t.call.given in
-      let were = mail-were told size took g made r r2 v s s2 running.nodes running.emissions running.stands low is same stations t.call.given nones t.call.was_given in
-      let stands2 = handler-stands told size took g made r r2 v s s2 running.nodes running.emissions running.stands low is same stations t.call.given nones t.call.puts call.events t.call.out t.call.steps.after
+      let were = mail-were told size took handles g made r r2 v s s2 running.nodes running.emissions running.stands low is same stations t.call.given nones t.call.was_given in
+      let stands2 = handler-stands told size took handles g made r r2 v s s2 running.nodes running.emissions running.stands low is same stations t.call.given nones t.call.puts call.events t.call.out t.call.steps.after
       t.call.was_given t.call.were_put call.run t.call.steps.spelled (run-quiet g _ v (running.nodes v) call.events t.call.out t.call.steps.after (idle-quiet v (is_full handler.side) call.events call.which) call.run) kept rest in
       let idle : IsIdle g v (flow_of running.nodes r) (flow_of (with_node v t.call.steps.after running.nodes) r2) = record {
         given = t.call.given;
@@ -109,10 +110,10 @@ module _ {D O U : Type 0} (told : Watched D → Option Story) (size : Watched D 
         flow = same-flow (with_node v t.call.steps.after running.nodes) r2.waiting.mail r2.waiting.mail _ _ _ _ _ _ _ _
             refl (boxes-after t.call.puts t.call.were_put) mail-same (links-after t.call.puts t.call.were_put) refusals-same;
       } in
-      moves-by told size took g made r r2 v s s2 running low is same stations most packets call.events t.call.out t.call.steps.after were call.run stands2 t.call.steps.up (Rested g v) tries t.same_turns
+      moves-by told size took handles g made r r2 v s s2 running low is same stations most packets call.events t.call.out t.call.steps.after were call.run stands2 t.call.steps.up (Rested g v) tries t.same_turns
       (record {
-        no_turn = no-turn told size took g made r r2 v s s2 running low is same stations most t.call.steps.after t.same_turns;
-        sending = sending-kept told size took g made r r2 v s s2 running low is same stations most t.call.steps.after t.same_sending;
+        no_turn = no-turn told size took handles g made r r2 v s s2 running low is same stations most t.call.steps.after t.same_turns;
+        sending = sending-kept told size took handles g made r r2 v s s2 running low is same stations most t.call.steps.after t.same_sending;
         how = inl idle;
       })
 
@@ -125,48 +126,48 @@ module _ {D O U : Type 0} (told : Watched D → Option Story) (size : Watched D 
       absurd (omega (arith, low, high))
 
   -- no turn is made any more
-  capped-moves : g.turns ≤ length (running.nodes v).turning.turns → CappedSteps told size g v (running.nodes v) Gave WasPutBy handler s2.node.stage → Moved told size took (Rested g v) g made r r2 running
+  capped-moves : g.turns ≤ length (running.nodes v).turning.turns → CappedSteps told size g v (running.nodes v) Gave WasPutBy handler s2.node.stage → Moved told size took handles (Rested g v) g made r r2 running
   capped-moves over t =
       let after : Node = t.steps.after in
       let call = t.steps.call in
       let all : t.steps.after ≡ running.nodes v = none_keeps g v [] (running.nodes v) t.steps.after nothing t.steps.call in
-      let were = mail-were told size took g made r r2 v s s2 running.nodes running.emissions running.stands low is same stations [] nones t.none_given in
-      let stands2 = handler-stands told size took g made r r2 v s s2 running.nodes running.emissions running.stands low is same stations [] nones [] call.events nothing t.steps.after
+      let were = mail-were told size took handles g made r r2 v s s2 running.nodes running.emissions running.stands low is same stations [] nones t.none_given in
+      let stands2 = handler-stands told size took handles g made r r2 v s s2 running.nodes running.emissions running.stands low is same stations [] nones [] call.events nothing t.steps.after
       t.none_given t.none_put call.run t.steps.spelled refl kept rest in
       let over_is : IsOver g v (flow_of running.nodes r) (flow_of (with_node v t.steps.after running.nodes) r2) = record {
         made = over;
         flow = same-flow (with_node v t.steps.after running.nodes) _ _ _ _ _ _ _ _ _ _
             (none-taken v nones r.waiting.mail r2.waiting.mail t.none_given) t.none_put.passed_on mail-same
-            (same-all told size took g made r r2 v s s2 running low is same stations most (λ (x : Station D O U). x.acks.links) (ap (λ (x : Leaving). x.links) t.none_put.links_are)) refusals-same;
+            (same-all told size took handles g made r r2 v s s2 running low is same stations most (λ (x : Station D O U). x.acks.links) (ap (λ (x : Leaving). x.links) t.none_put.links_are)) refusals-same;
       } in
-      moves-by told size took g made r r2 v s s2 running low is same stations most [] call.events nothing t.steps.after were call.run stands2 t.steps.up (Rested g v) tries (ap (λ (x : Node). x.turning.turns) all)
+      moves-by told size took handles g made r r2 v s s2 running low is same stations most [] call.events nothing t.steps.after were call.run stands2 t.steps.up (Rested g v) tries (ap (λ (x : Node). x.turning.turns) all)
       (record {
-        no_turn = no-turn told size took g made r r2 v s s2 running low is same stations most t.steps.after (ap (λ (x : Node). x.turning.turns) all);
-        sending = sending-kept told size took g made r r2 v s s2 running low is same stations most t.steps.after (ap (λ (x : Node). x.sending) all);
+        no_turn = no-turn told size took handles g made r r2 v s s2 running low is same stations most t.steps.after (ap (λ (x : Node). x.turning.turns) all);
+        sending = sending-kept told size took handles g made r r2 v s s2 running low is same stations most t.steps.after (ap (λ (x : Node). x.sending) all);
         how = inr over_is;
       })
 
   -- a turn was made
-  turned-moves : TurnSteps told size g v (running.nodes v) Gave WasPutBy drew 0 nones handler s2.node.stage → turns_to_make s2.node.stage < turns_to_make s.node.stage → Moved told size took (Rested g v) g made r r2 running
+  turned-moves : TurnSteps told size g v (running.nodes v) Gave WasPutBy drew 0 nones handler s2.node.stage → turns_to_make s2.node.stage < turns_to_make s.node.stage → Moved told size took handles (Rested g v) g made r r2 running
   turned-moves t fewer =
       let call = t.call.steps.call in
       let packets = packets_from g.nodes t.call.given in
-      let were = mail-were told size took g made r r2 v s s2 running.nodes running.emissions running.stands low is same stations t.call.given nones t.call.was_given in
-      let stands2 = handler-stands told size took g made r r2 v s s2 running.nodes running.emissions running.stands low is same stations t.call.given nones t.call.puts call.events t.call.out t.call.steps.after
+      let were = mail-were told size took handles g made r r2 v s s2 running.nodes running.emissions running.stands low is same stations t.call.given nones t.call.was_given in
+      let stands2 = handler-stands told size took handles g made r r2 v s s2 running.nodes running.emissions running.stands low is same stations t.call.given nones t.call.puts call.events t.call.out t.call.steps.after
       t.call.was_given t.call.were_put call.run t.call.steps.spelled (run-quiet g _ v (running.nodes v) call.events t.call.out t.call.steps.after (turn-quiet v (is_full handler.side) call.events call.which) call.run) kept rest in
-      moves-turn told size took g made r r2 v s s2 running low is same stations most packets call.events t.call.out t.call.steps.after were call.run stands2 t.call.steps.up (Rested g v) tries fewer
+      moves-turn told size took handles g made r r2 v s s2 running low is same stations most packets call.events t.call.out t.call.steps.after were call.run stands2 t.call.steps.up (Rested g v) tries fewer
 
   fewer-to-make : TurnSteps told size g v (running.nodes v) Gave WasPutBy drew 0 nones handler s2.node.stage → turns_to_make s2.node.stage < turns_to_make s.node.stage
   fewer-to-make t =
-      let less = turn-fewer told size took g made r r2 v s s2 running low is same stations nones drew handler kept rest (Ok Turn) refl t in
-      let own = own-up told size took g made r r2 v s s2 running low is same stations most in
+      let less = turn-fewer told size took handles g made r r2 v s s2 running low is same stations nones drew handler kept rest (Ok Turn) refl t in
+      let own = own-up told size took handles g made r r2 v s s2 running low is same stations most in
       let was = to-make-is told size g v (running.nodes v) s.node.stage own in
       let was2 = turns-left-are told size g v (running.nodes v) s.node.stage own in
       let now = to-make-is told size g v t.call.steps.after s2.node.stage t.call.steps.up in
       let now2 = turns-left-are told size g v t.call.steps.after s2.node.stage t.call.steps.up in
       omega (arith, less, was, was2, now, now2)
 
-  pub turn-moves : (result : Result Took NodeFault) → TurnStepsBy told size g v (running.nodes v) Gave WasPutBy result drew 0 nones handler s2.node.stage → OnOk result (Moved told size took (Rested g v) g made r r2 running)
+  pub turn-moves : (result : Result Took NodeFault) → TurnStepsBy told size g v (running.nodes v) Gave WasPutBy result drew 0 nones handler s2.node.stage → OnOk result (Moved told size took handles (Rested g v) g made r r2 running)
   turn-moves (Ok Turn) t = turned-moves t (fewer-to-make t)
   turn-moves (Ok Idle) t = idle-moves t
   turn-moves (Ok Capped) t = capped-moves (over-turns t.over) t
@@ -174,7 +175,7 @@ module _ {D O U : Type 0} (told : Watched D → Option Story) (size : Watched D 
 
   -- a turn takes work away
   pub turn-worked : (result : Result Took NodeFault) → result ≡ Ok Turn → TurnStepsBy told size g v (running.nodes v) Gave WasPutBy result drew 0 nones handler s2.node.stage → work_left r2 < work_left r
-  turn-worked (Ok Turn) was t = work-turn r r2 v s s2 (placed told size took g made r r2 v s s2 running low is same stations most) is most stations tries (fewer-to-make t)
+  turn-worked (Ok Turn) was t = work-turn r r2 v s s2 (placed told size took handles g made r r2 v s s2 running low is same stations most) is most stations tries (fewer-to-make t)
   turn-worked (Ok Idle) was t = absurd (cc)
   turn-worked (Ok Capped) was t = absurd (cc)
   turn-worked (Err fault) was t = absurd (cc)
@@ -184,9 +185,9 @@ module _ {D O U : Type 0} (told : Watched D → Option Story) (size : Watched D 
   turn-less (Err Disk) was t = ⊎_elim
       (λ (f : TurnoverFails told size g v (running.nodes v) Gave WasPutBy s2.node.stage).
       let all : f.down.after ≡ running.nodes v = none_keeps g v [] (running.nodes v) f.down.after nothing f.down.call in
-      less-down told size took g made r r2 v s s2 running low is same stations most [] f.down.after _ f.down.down (ap (λ (x : Node). x.turning.turns) all) tries)
+      less-down told size took handles g made r r2 v s s2 running low is same stations most [] f.down.after _ f.down.down (ap (λ (x : Node). x.turning.turns) all) tries)
       (λ (f : SealFails told size g v (running.nodes v) Gave WasPutBy drew handler s2.node.stage).
-      less-down told size took g made r r2 v s s2 running low is same stations most (packets_from g.nodes f.given) f.down.after _ f.down.down (idle_keeps_turns g v (packets_from g.nodes f.given) (running.nodes v) f.down.after f.out (is_full handler.side) f.down.call) tries)
+      less-down told size took handles g made r r2 v s s2 running low is same stations most (packets_from g.nodes f.given) f.down.after _ f.down.down (idle_keeps_turns g v (packets_from g.nodes f.given) (running.nodes v) f.down.after f.out (is_full handler.side) f.down.call) tries)
       t
   turn-less (Err Memory) was t = absurd (cc)
   turn-less (Err Outlet) was t = absurd (cc)
@@ -195,11 +196,11 @@ module _ {D O U : Type 0} (told : Watched D → Option Story) (size : Watched D 
   -- ---- a call that made no turn: none can be made now
 
   own-now : (d : Station D O U) → slice_index_or r2.stations.items v d ≡ s2
-  own-now d = station-now v v r r2 s s2 refl (placed told size took g made r r2 v s s2 running low is same stations most) is stations d
+  own-now d = station-now v v r r2 s s2 refl (placed told size took handles g made r r2 v s s2 running low is same stations most) is stations d
 
   made-none : (after : Node) → IsUp told size g v after s2.node.stage → g.turns ≤ length after.turning.turns → left_at turns_left r2.stations.items v ≡ 0
   made-none after up over =
-      let low2 : v < length r2.stations.items = subst (λ (k : ℕ). v < k) (sym (ap length stations ∙ length-set r.stations.items v s2)) (placed told size took g made r r2 v s s2 running low is same stations most) in
+      let low2 : v < length r2.stations.items = subst (λ (k : ℕ). v < k) (sym (ap length stations ∙ length-set r.stations.items v s2)) (placed told size took handles g made r r2 v s s2 running low is same stations most) in
       let left = left-is turns_left r2.stations.items v s low2 ∙ ap (λ (x : Station D O U). turns_left x.node.stage) (own-now s) ∙ turns-left-are told size g v after s2.node.stage up in
       omega (arith, left, over)
 

@@ -177,49 +177,49 @@ module _ {D O U : Type 0} (told : Watched D → Option Story) (count : Watched D
   -- ---- of a run
 
   -- all nodes that were made are up
-  pub record AreAccounted (made : ℕ) (r : Run D O U) : Type 0 where
+  pub record AreAccounted {A : Type 0} (made : ℕ) (r : Run D O U A) : Type 0 where
     pub most : r.restarts ≡ terms.most
     pub each : (v : ℕ) (d : Station D O U) → v < made → IsAccounted v (slice_index_or r.stations.items v d)
 
   -- node v is down, and the others are up
-  pub record OneIsHeld (made v : ℕ) (r : Run D O U) : Type 0 where
+  pub record OneIsHeld {A : Type 0} (made v : ℕ) (r : Run D O U A) : Type 0 where
     pub most : r.restarts ≡ terms.most
     pub held : (d : Station D O U) → IsHeld v (slice_index_or r.stations.items v d)
     pub others : (u : ℕ) (d : Station D O U) → u < made → u ≢ v → IsAccounted u (slice_index_or r.stations.items u d)
 
   -- by the answer of a call of node v, or several. After want of memory nothing is said
-  abbrev pub AccountsFault : NodeFault → ℕ → ℕ → Run D O U → Type 0
+  abbrev pub AccountsFault : {A : Type 0} → NodeFault → ℕ → ℕ → Run D O U A → Type 0
   AccountsFault Disk made v r = OneIsHeld made v r
   AccountsFault Memory made v r = Unit {0}
   AccountsFault Outlet made v r = AreAccounted made r
   AccountsFault (Damaged disk place) made v r = Unit {0}
 
-  abbrev pub AccountsBy : {T : Type 0} → Result T NodeFault → ℕ → ℕ → Run D O U → Type 0
+  abbrev pub AccountsBy : {A T : Type 0} → Result T NodeFault → ℕ → ℕ → Run D O U A → Type 0
   AccountsBy (Ok x) made v r = AreAccounted made r
   AccountsBy (Err fault) made v r = AccountsFault fault made v r
 
   -- node v is down and has used up its restarts, so its disks failed more often than it may be restarted
-  pub record IsUsedUp (made v : ℕ) (r : Run D O U) : Type 0 where
+  pub record IsUsedUp {A : Type 0} (made v : ℕ) (r : Run D O U A) : Type 0 where
     pub held : OneIsHeld made v r
     pub none_left : (d : Station D O U) → (slice_index_or r.stations.items v d).restarts ≡ terms.most
 
   -- by the answer of visits
-  abbrev pub AccountsRunFault : RunFault → ℕ → Run D O U → Type 0
+  abbrev pub AccountsRunFault : {A : Type 0} → RunFault → ℕ → Run D O U A → Type 0
   AccountsRunFault (run_faults.Damaged v disk place) made r = Unit {0}
   AccountsRunFault (Down v) made r = IsUsedUp made v r ⊎ AreAccounted made r
   AccountsRunFault run_faults.Memory made r = Unit {0}
 
-  abbrev pub AccountsRunBy : {T : Type 0} → Result T RunFault → ℕ → Run D O U → Type 0
+  abbrev pub AccountsRunBy : {A T : Type 0} → Result T RunFault → ℕ → Run D O U A → Type 0
   AccountsRunBy (Ok x) made r = AreAccounted made r
   AccountsRunBy (Err fault) made r = AccountsRunFault fault made r
 
 -- where all were up and accounted for, they still are; and where node v was down
-module _ {D O U : Type 0} (told : Watched D → Option Story) (size : Watched D → ℕ) (took : U → Option (List Out)) (count : Watched D → ℕ) (fate : Watched D → Option Fate) (telling : Telling O) where
-  abbrev pub StaysAccounted : ℕ → Run D O U → Run D O U → Type 0
-  StaysAccounted v old new = (terms : Terms) (g : Game) (made : ℕ) → IsRunning told size took g made old → v < made → AreAccounted told count fate telling terms g made old → AreAccounted told count fate telling terms g made new
+module _ {D O U A : Type 0} (told : Watched D → Option Story) (size : Watched D → ℕ) (took : U → Option (List Out)) (handles : A → Handler) (count : Watched D → ℕ) (fate : Watched D → Option Fate) (telling : Telling O) where
+  abbrev pub StaysAccounted : ℕ → Run D O U A → Run D O U A → Type 0
+  StaysAccounted v old new = (terms : Terms) (g : Game) (made : ℕ) → IsRunning told size took handles g made old → v < made → AreAccounted told count fate telling terms g made old → AreAccounted told count fate telling terms g made new
 
-  abbrev pub StayAccounted : Run D O U → Run D O U → Type 0
-  StayAccounted old new = (terms : Terms) (g : Game) (made : ℕ) → IsRunning told size took g made old → AreAccounted told count fate telling terms g made old → AreAccounted told count fate telling terms g made new
+  abbrev pub StayAccounted : Run D O U A → Run D O U A → Type 0
+  StayAccounted old new = (terms : Terms) (g : Game) (made : ℕ) → IsRunning told size took handles g made old → AreAccounted told count fate telling terms g made old → AreAccounted told count fate telling terms g made new
 
-  abbrev pub StaysHeld : ℕ → Run D O U → Run D O U → Type 0
-  StaysHeld v old new = (terms : Terms) (g : Game) (made : ℕ) → IsStopped told size took g made v old → OneIsHeld told count fate telling terms g made v old → OneIsHeld told count fate telling terms g made v new
+  abbrev pub StaysHeld : ℕ → Run D O U A → Run D O U A → Type 0
+  StaysHeld v old new = (terms : Terms) (g : Game) (made : ℕ) → IsStopped told size took handles g made v old → OneIsHeld told count fate telling terms g made v old → OneIsHeld told count fate telling terms g made v new

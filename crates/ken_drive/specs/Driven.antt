@@ -7,7 +7,7 @@ use Rattle.ken_model.specs.declared.messages.Step.{Step}
 use Rattle.ken_model.specs.declared.reports.Emission.{Emission}
 use Rattle.ken_model.specs.declared.reports.RestartLine.{RestartLine}
 use Rattle.ken_model.specs.Emissions.{emitted_by}
-use Rattle.ken_model.specs.Game.{Game, game_of}
+use Rattle.ken_model.specs.Game.{Game}
 use Rattle.ken_model.specs.Handler.{Handler}
 use Rattle.ken_model.specs.Schedule.{play}
 use Rattle.ken_app.specs.Oracles.{Telling}
@@ -30,7 +30,7 @@ use Rattle.ken_drive.specs.Finishing.{WasKept}
 use Rattle.ken_drive.specs.Recovering.{RecoversAt}
 use Rattle.ken_drive.specs.Refusals.{AreRefused, IsWornOut}
 use Rattle.ken_drive.specs.Sequences.{IsSubsequence, NeverFall, descents}
-use Rattle.ken_drive.specs.Starting.{terms_of}
+use Rattle.ken_drive.specs.Starting.{game_by, terms_of}
 use Rattle.ken_drive.specs.Worlds.{HasKeptNothing, IsOf, IsTold, MayFailAt}
 
 -- what contracts see of a node's devices: the stories of its disks, with their faults and fates; what its oracle tells; what its outlet
@@ -134,46 +134,46 @@ pub record HasGoneDown {D O U : Type 0} (views : Views D O U) (g : Game) (terms 
 
 -- what a run leaves that was drained and then told what it says, by the answer: it has ended, with a report and its accounts; or a node has
 -- failed too often
-module _ {D O U : Type 0} (told : Watched D → Option Story) (size : Watched D → ℕ) (count : Watched D → ℕ) (fate : Watched D → Option Fate) (telling : Telling O) (took : U → Option (List Out)) (refused : U → ℕ) (calls : U → Option ship.Fate) (terms : Terms) (g : Game) where
-  pub record HasToldOf (l : Lines) (r : Run D O U) : Type 0 where
-    pub ended : IsEnded told size took g r
-    pub report : IsReportOf told size took g r ended l
+module _ {D O U A : Type 0} (told : Watched D → Option Story) (size : Watched D → ℕ) (count : Watched D → ℕ) (fate : Watched D → Option Fate) (telling : Telling O) (took : U → Option (List Out)) (handles : A → Handler) (refused : U → ℕ) (calls : U → Option ship.Fate) (terms : Terms) (g : Game) where
+  pub record HasToldOf (l : Lines) (r : Run D O U A) : Type 0 where
+    pub ended : IsEnded told size took handles g r
+    pub report : IsReportOf told size took handles g r ended l
     pub accounts : AreAccounted told count fate telling terms g ended.made r
     pub refusals : AreRefused refused calls terms ended.made r
 
-  pub record HasStoppedAt (v : ℕ) (r : Run D O U) : Type 0 where
+  pub record HasStoppedAt (v : ℕ) (r : Run D O U A) : Type 0 where
     pub known : v < g.nodes
     pub width : length r.stations.items ≡ g.nodes
     pub refusals : AreRefused refused calls terms g.nodes r
     pub books : (u : ℕ) (d : Station D O U) → u < g.nodes → HasBooks told count fate telling terms g u (slice_index_or r.stations.items u d)
     pub cause : IsUsedUp told count fate telling terms g g.nodes v r ⊎ IsWornOut refused calls terms v r
 
-  abbrev pub EndsBy : Result Lines RunFault → Run D O U → Type 0
+  abbrev pub EndsBy : Result Lines RunFault → Run D O U A → Type 0
   EndsBy (Ok l) r = HasToldOf l r
   EndsBy (Err (Down v)) r = HasStoppedAt v r
   EndsBy (Err run_faults.Memory) r = Unit {0}
   EndsBy (Err (run_faults.Damaged v disk place)) r = ⊥
 
--- what a whole run of a script leaves, by the answer: its lines are the report of a run, and the devices that are kept show it; or a node has
+-- what a whole run of a script with a handler leaves, by the answer: its lines are the report of a run, and the devices that are kept show it; or a node has
 -- gone down, as those that are kept show. After want of memory nothing is kept
-module _ {D O U : Type 0} (views : Views D O U) (script : Script) (kept : ℕ → Option (Disks D × O × U)) where
+module _ {D O U : Type 0} (views : Views D O U) (h : Handler) (script : Script) (kept : ℕ → Option (Disks D × O × U)) where
   pub record HasDriven (l : Lines) : Type 0 where
-    pub run : IsRunOf (game_of script.facts) l
-    pub keeps : KeepsRun views (game_of script.facts) (terms_of views.scripted script) (steps_of l.turns) l.emissions l.restarts kept
+    pub run : IsRunOf (game_by h script) l
+    pub keeps : KeepsRun views (game_by h script) (terms_of views.scripted script) (steps_of l.turns) l.emissions l.restarts kept
 
   abbrev pub DrivesBy : Result Lines RunFault → Type 0
   DrivesBy (Ok l) = HasDriven l
-  DrivesBy (Err (Down v)) = HasGoneDown views (game_of script.facts) (terms_of views.scripted script) v kept
+  DrivesBy (Err (Down v)) = HasGoneDown views (game_by h script) (terms_of views.scripted script) v kept
   DrivesBy (Err run_faults.Memory) = HasKeptNothing kept
   DrivesBy (Err (run_faults.Damaged v disk place)) = ⊥
 
 -- ---- how they follow
 
 -- a run that has ended and is accounted for leaves them, where its devices are kept
-abbrev pub EndedRunsKeep : {D O U : Type 0} → Views D O U → (D → ℕ) → Type 0
-EndedRunsKeep {D} {O} {U} views size =
-    (g : Game) (r : Run D O U) (terms : Terms) (l : Lines) (ended : IsEnded (λ w. views.told w.disk) (λ w. size w.disk) views.took g r)
-    → IsReportOf (λ w. views.told w.disk) (λ w. size w.disk) views.took g r ended l
+abbrev pub EndedRunsKeep : {D O U A : Type 0} → Views D O U → (D → ℕ) → (A → Handler) → Type 0
+EndedRunsKeep {D} {O} {U} {A} views size handles =
+    (g : Game) (r : Run D O U A) (terms : Terms) (l : Lines) (ended : IsEnded (λ w. views.told w.disk) (λ w. size w.disk) views.took handles g r)
+    → IsReportOf (λ w. views.told w.disk) (λ w. size w.disk) views.took handles g r ended l
     → AreAccounted (λ w. views.told w.disk) (λ w. views.faults w.disk) (λ w. views.fate w.disk) views.telling terms g ended.made r
     → AreRefused views.refused views.calls terms ended.made r
     → terms.most ≤ 1000

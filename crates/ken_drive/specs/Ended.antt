@@ -12,6 +12,7 @@ use Rattle.ken_model.specs.declared.values.Value.{Value}
 use Rattle.ken_model.specs.Emissions.{AreByNode, AreLegalEmissions, emitted_by}
 use Rattle.ken_model.specs.Ending.{Ends, nodes_of}
 use Rattle.ken_model.specs.Game.{Game}
+use Rattle.ken_model.specs.Handler.{Handler}
 use Rattle.ken_model.specs.History.{lines_by}
 use Rattle.ken_model.specs.Laws.{steps_of}
 use Rattle.ken_model.specs.Network.{outside}
@@ -89,21 +90,21 @@ module _ {D O U : Type 0} where
     pub width : length s.heaps.items ≡ count
     pub heaps : (v : ℕ) (value : Value) (d : Station D O U) → v < count → HasValue (slice_index_or s.heaps.items v value) (slice_index_or stations v d).node.stage
 
-module _ {D O U : Type 0} (told : Watched D → Option Story) (size : Watched D → ℕ) (took : U → Option (List Out)) where
+module _ {D O U A : Type 0} (told : Watched D → Option Story) (size : Watched D → ℕ) (took : U → Option (List Out)) (handles : A → Handler) where
   -- all nodes were made and are up, each output was emitted, and what waits is for nodes that have made all their turns
-  pub record IsEnded (g : Game) (r : Run D O U) : Type 0 where
+  pub record IsEnded (g : Game) (r : Run D O U A) : Type 0 where
     pub made : ℕ
-    pub running : IsRunning told size took g made r
+    pub running : IsRunning told size took handles g made r
     pub all : made ≡ g.nodes
     pub ended : HasEnded g running.emissions running.nodes
 
   -- a run of some game has ended, and tells what it says
-  pub record MayTell (r : Run D O U) : Type 0 where
+  pub record MayTell (r : Run D O U A) : Type 0 where
     pub game : Game
     pub ended : IsEnded game r
 
   -- the lines are a report, of the turns that the nodes have sealed, of what they have emitted and of their restarts
-  pub record IsReportOf (g : Game) (r : Run D O U) (e : IsEnded g r) (l : Lines) : Type 0 where
+  pub record IsReportOf (g : Game) (r : Run D O U A) (e : IsEnded g r) (l : Lines) : Type 0 where
     pub run : IsRunOf g l
     pub history : IsHistoryOf (group_of g e.running.nodes e.running.emissions) l.turns
     pub emissions : l.emissions ≡ emissions_of r.stations.items

@@ -27,5 +27,5 @@ module _ {D O U : Type 0} where
       + (65 * outputs_left s.node.stage - refusals_in s.node.stage)
 
   -- and at all
-  abbrev pub open_left : Run D O U → ℕ
+  abbrev pub open_left : {A : Type 0} → Run D O U A → ℕ
   open_left r = sum_by (open_station r.nodes) r.stations.items

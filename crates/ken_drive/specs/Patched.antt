@@ -29,17 +29,17 @@ module _ {D : Type 0} where
 
 module _ {D O U : Type 0} where
   -- node v can't make a turn now: it has made all its turns, or neither mail nor an input waits for it
-  abbrev pub MakesNone : ℕ → Run D O U → Type 0
+  abbrev pub MakesNone : {A : Type 0} → ℕ → Run D O U A → Type 0
   MakesNone v r =
       (left_at turns_left r.stations.items v ≡ 0)
       ⊎ ((slice_index_or r.waiting.mail v [] ≡ []) × ((d : Station D O U) → HasNoInput (slice_index_or r.stations.items v d).node.stage))
 
   -- no page waits to be written to the image of node v
-  abbrev pub IsPatchedAt : ℕ → Run D O U → Type 0
+  abbrev pub IsPatchedAt : {A : Type 0} → ℕ → Run D O U A → Type 0
   IsPatchedAt v r = (d : Station D O U) → IsPatched (slice_index_or r.stations.items v d).node.stage
 
   -- the station of node v changed so, and no other
-  pub record Changes (how : Station D O U → Station D O U → Type 0) (v : ℕ) (old new : Run D O U) : Type 0 where
+  pub record Changes {A : Type 0} (how : Station D O U → Station D O U → Type 0) (v : ℕ) (old new : Run D O U A) : Type 0 where
     pub width : length new.stations.items ≡ length old.stations.items
     pub others : (u : ℕ) (d : Station D O U) → u ≢ v → slice_index_or new.stations.items u d ≡ slice_index_or old.stations.items u d
     pub own : (d : Station D O U) → how (slice_index_or old.stations.items v d) (slice_index_or new.stations.items v d)
@@ -50,7 +50,7 @@ module _ {D O U : Type 0} where
     pub lines : new.lines.items ≡ old.lines.items
 
   -- a call of node v that is no restart, by its answer
-  abbrev pub IsCall : {T E : Type 0} → Result T E → (Station D O U → Station D O U → Type 0) → ℕ → Run D O U → Run D O U → Type 0
+  abbrev pub IsCall : {A T E : Type 0} → Result T E → (Station D O U → Station D O U → Type 0) → ℕ → Run D O U A → Run D O U A → Type 0
   IsCall result how v old new = Changes (λ a b. IsNotRestarted a b × OnOk result (how a b)) v old new
 
   -- it was restarted, and is up again
@@ -96,6 +96,6 @@ module _ {D O U : Type 0} (told : Watched D → Option Story) where
   WasVisited old new = WasRestarted old new ⊎ IsSettledSince old new
 
   -- each node of a run was
-  pub record AllVisited (old new : Run D O U) : Type 0 where
+  pub record AllVisited {A : Type 0} (old new : Run D O U A) : Type 0 where
     pub width : length new.stations.items ≡ length old.stations.items
     pub each : (v : ℕ) (d : Station D O U) → v < length old.stations.items → WasVisited (slice_index_or old.stations.items v d) (slice_index_or new.stations.items v d)

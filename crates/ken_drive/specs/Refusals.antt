@@ -37,7 +37,7 @@ pub record HasFailedLast {U : Type 0} (faults : U → ℕ) (fate : U → Option 
   pub listed : 0 < often → (f : Fate) → fate out ≡ Some f → IsListedLate f
 
 -- node v was restarted as often as it may be
-abbrev pub IsUsedUpOf : {D O U : Type 0} → ℕ → Run D O U → Type 0
+abbrev pub IsUsedUpOf : {D O U A : Type 0} → ℕ → Run D O U A → Type 0
 IsUsedUpOf {D} {O} {U} v r = (d : Station D O U) → r.restarts ≤ (slice_index_or r.stations.items v d).restarts
 
 module _ {D O U : Type 0} (faults : U → ℕ) (fate : U → Option Fate) (terms : Terms) where
@@ -48,36 +48,36 @@ module _ {D O U : Type 0} (faults : U → ℕ) (fate : U → Option Fate) (terms
     pub fails : MayFailAt terms.scripted v (terms.fails v) (fate s.out)
 
   -- so of each node that was made, up or down
-  pub record AreRefused (made : ℕ) (r : Run D O U) : Type 0 where
+  pub record AreRefused {A : Type 0} (made : ℕ) (r : Run D O U A) : Type 0 where
     pub each : (v : ℕ) (d : Station D O U) → v < made → IsRefused v (slice_index_or r.stations.items v d)
 
   -- the outlet of node v has failed 65 times
-  abbrev pub IsWornOut : ℕ → Run D O U → Type 0
+  abbrev pub IsWornOut : {A : Type 0} → ℕ → Run D O U A → Type 0
   IsWornOut v r = (d : Station D O U) → HasFailedLast faults fate 65 (slice_index_or r.stations.items v d).out
 
   -- by the answer of a call of node v, or several. After want of memory nothing is said
-  abbrev pub RefusedFault : NodeFault → ℕ → ℕ → Run D O U → Type 0
+  abbrev pub RefusedFault : {A : Type 0} → NodeFault → ℕ → ℕ → Run D O U A → Type 0
   RefusedFault Disk made v r = AreRefused made r
   RefusedFault Memory made v r = Unit {0}
   RefusedFault Outlet made v r = AreRefused made r × IsWornOut v r
   RefusedFault (Damaged disk place) made v r = Unit {0}
 
-  abbrev pub RefusedBy : {T : Type 0} → Result T NodeFault → ℕ → ℕ → Run D O U → Type 0
+  abbrev pub RefusedBy : {A T : Type 0} → Result T NodeFault → ℕ → ℕ → Run D O U A → Type 0
   RefusedBy (Ok x) made v r = AreRefused made r
   RefusedBy (Err fault) made v r = RefusedFault fault made v r
 
   -- by the answer of visits
-  abbrev pub RefusedRunFault : RunFault → ℕ → Run D O U → Type 0
+  abbrev pub RefusedRunFault : {A : Type 0} → RunFault → ℕ → Run D O U A → Type 0
   RefusedRunFault (Down v) made r = AreRefused made r × (IsWornOut v r ⊎ IsUsedUpOf v r)
   RefusedRunFault run_faults.Memory made r = Unit {0}
   RefusedRunFault (run_faults.Damaged v disk place) made r = Unit {0}
 
-  abbrev pub RefusedRunBy : {T : Type 0} → Result T RunFault → ℕ → Run D O U → Type 0
+  abbrev pub RefusedRunBy : {A T : Type 0} → Result T RunFault → ℕ → Run D O U A → Type 0
   RefusedRunBy (Ok x) made r = AreRefused made r
   RefusedRunBy (Err fault) made r = RefusedRunFault fault made r
 
 -- by the answer of visits: node v is down and has used up its restarts, or its outlet has failed 65 times
-abbrev pub StopsBy : {D O U T : Type 0} → (Watched D → Option Story) → (Watched D → ℕ) → (Watched D → Option disk.Fate) → Telling O → (U → ℕ) → (U → Option Fate) → Terms → Game → Result T RunFault → ℕ → Run D O U → Type 0
+abbrev pub StopsBy : {D O U A T : Type 0} → (Watched D → Option Story) → (Watched D → ℕ) → (Watched D → Option disk.Fate) → Telling O → (U → ℕ) → (U → Option Fate) → Terms → Game → Result T RunFault → ℕ → Run D O U A → Type 0
 StopsBy told count falls telling faults fate terms g (Ok x) made r = Unit {0}
 StopsBy told count falls telling faults fate terms g (Err (Down v)) made r = IsUsedUp told count falls telling terms g made v r ⊎ IsWornOut faults fate terms v r
 StopsBy told count falls telling faults fate terms g (Err run_faults.Memory) made r = Unit {0}
@@ -85,8 +85,8 @@ StopsBy told count falls telling faults fate terms g (Err (run_faults.Damaged v 
 
 -- where this holds before, it does after
 module _ {D O U : Type 0} (faults : U → ℕ) (fate : U → Option Fate) where
-  abbrev pub StaysRefused : ℕ → Run D O U → Run D O U → Type 0
+  abbrev pub StaysRefused : {A : Type 0} → ℕ → Run D O U A → Run D O U A → Type 0
   StaysRefused v old new = (terms : Terms) (made : ℕ) → v < made → AreRefused faults fate terms made old → AreRefused faults fate terms made new
 
-  abbrev pub StayRefused : Run D O U → Run D O U → Type 0
+  abbrev pub StayRefused : {A : Type 0} → Run D O U A → Run D O U A → Type 0
   StayRefused old new = (terms : Terms) (made : ℕ) → old.nodes ≤ made → AreRefused faults fate terms made old → AreRefused faults fate terms made new

@@ -6,6 +6,8 @@ use Rattle.ken_memdisk.specs.declared.cut.Cut.{Cut}
 use Rattle.ken_memdisk.specs.Calls.{origin_of}
 use Rattle.ken_model.specs.declared.messages.Out.{Out}
 use Rattle.ken_model.specs.Game.{Game, game_of}
+use Rattle.ken_model.specs.Handler.{Handler}
+use Rattle.ken_model.specs.Kinds.{handler_of}
 use Rattle.ken_net.specs.declared.act.Act.TheVariants.{Hold}
 use Rattle.ken_net.specs.declared.act.LinkAct.{LinkAct}
 use Rattle.ken_net.specs.Acts.{act_of}
@@ -13,6 +15,8 @@ use Rattle.ken_net.specs.History.{AreNew}
 use Rattle.ken_core.specs.Calls.{Doubt, no_doubt}
 use Rattle.ken_core.specs.Nodes.{Node, first_node}
 use Rattle.ken_core.specs.Packets.{Packet}
+use Rattle.ken_app.specs.Limits.{KeepsLimits}
+use Rattle.ken_app.specs.Lines.{KeepsLines}
 use Rattle.ken_app.specs.Oracles.{HasTold, Telling}
 use Rattle.ken_store.specs.declared.disks.Disks.{Disks}
 use Rattle.ken_ship.specs.Fates as ship
@@ -37,6 +41,19 @@ use Rattle.ken_drive.specs.Ends.{AreModest}
 use Rattle.ken_drive.specs.Finishing.{WasKept}
 use Rattle.ken_drive.specs.Running.{IsRunning, StandsFor}
 use Rattle.ken_drive.specs.Worlds.{HasKeptNothing, IsFatedOutlet, IsNewOracle, TellsNothing}
+
+-- what the run of a script is of, with a handler
+abbrev pub game_by : Handler → Script → Game
+game_by h script = record (game_of script.facts) { handler = h }
+
+-- a handler that nodes of a script's run can have: it keeps the limits of a turn, and its report can be printed
+pub record Serves (h : Handler) (script : Script) : Type 0 where
+  pub keeps : KeepsLimits script.facts.nodes script.facts.size h
+  pub lines : KeepsLines script.facts.nodes script.facts.size h
+
+-- so of the kinds
+abbrev pub KindsServe : Type 0
+KindsServe = (script : Script) → Serves (handler_of script.facts.kind) script
 
 -- ---- what a script lets fail at one node
 
@@ -75,7 +92,7 @@ module _ {D O U : Type 0} (scripted : Bool) (telling : Telling O) (took : U → 
     pub acks : AreNew v script.facts.nodes script.acks s.acks
 
   -- so of the first nodes of a run
-  abbrev pub HaveOwn : Script → ℕ → Run D O U → Type 0
+  abbrev pub HaveOwn : {A : Type 0} → Script → ℕ → Run D O U A → Type 0
   HaveOwn script made r = (v : ℕ) (d : Station D O U) → v < made → HasOwn script v (slice_index_or r.stations.items v d)
 
 -- it was restarted no more than so often, while it was created, and went on with no turn where it was at all
@@ -167,14 +184,14 @@ module _ {D O U : Type 0} (told : Watched D → Option Story) (count : Watched D
   BeginsAccounts (Err (run_faults.Damaged u disk place)) v s = Unit {0}
 
   -- and of those of all, of which it is the last
-  abbrev pub JoinsAccountsBy : Result (Unit {0}) RunFault → ℕ → Run D O U → Type 0
+  abbrev pub JoinsAccountsBy : {A : Type 0} → Result (Unit {0}) RunFault → ℕ → Run D O U A → Type 0
   JoinsAccountsBy (Ok x) made r = AreAccounted told count fate telling terms g (made + 1) r
   JoinsAccountsBy (Err (Down v)) made r = IsUsedUp told count fate telling terms g (made + 1) made r
   JoinsAccountsBy (Err run_faults.Memory) made r = Unit {0}
   JoinsAccountsBy (Err (run_faults.Damaged v disk place)) made r = Unit {0}
 
   -- so of all nodes of a run
-  abbrev pub FillsAccountsBy : Result (Unit {0}) RunFault → Run D O U → Type 0
+  abbrev pub FillsAccountsBy : {A : Type 0} → Result (Unit {0}) RunFault → Run D O U A → Type 0
   FillsAccountsBy (Ok x) r = AreAccounted told count fate telling terms g g.nodes r
   FillsAccountsBy (Err (Down v)) r = IsUsedUp told count fate telling terms g (v + 1) v r
   FillsAccountsBy (Err run_faults.Memory) r = Unit {0}
@@ -193,7 +210,7 @@ module _ {D O U : Type 0} (told : Watched D → Option Story) (count : Watched D
     pub none_left : station.restarts ≡ terms.most
     pub was : WasKept station kept
 
-  abbrev pub StartsAccountsBy : Result (Run D O U) RunFault → (ℕ → Option (Disks D × O × U)) → Type 0
+  abbrev pub StartsAccountsBy : {A : Type 0} → Result (Run D O U A) RunFault → (ℕ → Option (Disks D × O × U)) → Type 0
   StartsAccountsBy (Ok r) kept = AreAccounted told count fate telling terms g g.nodes r
   StartsAccountsBy (Err (Down v)) kept = IsKeptDown v (kept v) × ((u : ℕ) → u < v → IsKeptUp u (kept u))
   StartsAccountsBy (Err run_faults.Memory) kept = Unit {0}
@@ -201,22 +218,22 @@ module _ {D O U : Type 0} (told : Watched D → Option Story) (count : Watched D
 
 -- ---- the run
 
-module _ {D O U : Type 0} (told : Watched D → Option Story) (size : Watched D → ℕ) (took : U → Option (List Out)) where
+module _ {D O U A : Type 0} (told : Watched D → Option Story) (size : Watched D → ℕ) (took : U → Option (List Out)) (handles : A → Handler) where
   -- so many nodes of a run have started, in rising order: they are up and made no turn, and nothing was emitted
-  pub record IsStarted (g : Game) (made : ℕ) (r : Run D O U) : Type 0 where
+  pub record IsStarted (g : Game) (made : ℕ) (r : Run D O U A) : Type 0 where
     pub nodes : ℕ → Node
-    pub stands : StandsFor told size took g made nodes [] r
+    pub stands : StandsFor told size took handles g made nodes [] r
     pub up : (v : ℕ) (d : Station D O U) → v < made → IsUp told size g v (nodes v) (slice_index_or r.stations.items v d).node.stage
     pub no_turn : (v : ℕ) → (nodes v).turning.turns ≡ []
     pub unmade : (v : ℕ) → made ≤ v → nodes v ≡ first_node g
     pub tried : (v : ℕ) (d : Station D O U) → v < made → HasTried r.restarts (slice_index_or r.stations.items v d)
 
   -- so it runs
-  abbrev pub running_of : (g : Game) (made : ℕ) (r : Run D O U) → IsStarted g made r → IsRunning told size took g made r
+  abbrev pub running_of : (g : Game) (made : ℕ) (r : Run D O U A) → IsStarted g made r → IsRunning told size took handles g made r
   running_of g made r is = record { nodes = is.nodes; emissions = []; stands = is.stands; up = is.up }
 
   -- a node that isn't created yet may join a run as its next one
-  pub record Joins (g : Game) (made : ℕ) (s : Station D O U) (r : Run D O U) : Type 0 where
+  pub record Joins (g : Game) (made : ℕ) (s : Station D O U) (r : Run D O U A) : Type 0 where
     pub started : IsStarted g made r
     pub known : made < g.nodes
     pub born : IsBorn told g made s
@@ -225,48 +242,48 @@ module _ {D O U : Type 0} (told : Watched D → Option Story) (size : Watched D 
     pub acks : (acts : List LinkAct) × AreNew made g.nodes acts s.acks
     pub modest : AreModest s.mail × AreModest s.acks
 
-  pub record MayJoin (s : Station D O U) (r : Run D O U) : Type 0 where
+  pub record MayJoin (s : Station D O U) (r : Run D O U A) : Type 0 where
     pub game : Game
     pub made : ℕ
     pub joins : Joins game made s r
 
   -- what its creation leaves of the run, by the answer: it is one of the nodes that have started, or it has failed too often
-  abbrev pub JoinsBy : Result (Unit {0}) RunFault → Game → ℕ → Run D O U → Type 0
+  abbrev pub JoinsBy : Result (Unit {0}) RunFault → Game → ℕ → Run D O U A → Type 0
   JoinsBy (Ok x) g made r = IsStarted g (made + 1) r
   JoinsBy (Err (Down v)) g made r = v ≡ made
   JoinsBy (Err run_faults.Memory) g made r = Unit {0}
   JoinsBy (Err (run_faults.Damaged v disk place)) g made r = ⊥
 
   -- its station is the last one, whether its creation has failed or not
-  pub record IsLast (s : Station D O U) (old new : Run D O U) : Type 0 where
+  pub record IsLast (s : Station D O U) (old new : Run D O U A) : Type 0 where
     pub last : Station D O U
     pub is : last ≡ record s { node = last.node; restarts = last.restarts; lines = last.lines }
     pub stations : new.stations.items ≡ old.stations.items ++ last ∷ []
 
-  abbrev pub AddsBy : Result (Unit {0}) RunFault → Station D O U → Run D O U → Run D O U → Type 0
+  abbrev pub AddsBy : Result (Unit {0}) RunFault → Station D O U → Run D O U A → Run D O U A → Type 0
   AddsBy (Ok x) s old new = IsLast s old new
   AddsBy (Err (Down v)) s old new = IsLast s old new
   AddsBy (Err run_faults.Memory) s old new = Unit {0}
   AddsBy (Err (run_faults.Damaged v disk place)) s old new = IsLast s old new
 
-  module _ (scripted : Bool) (telling : Telling O) (faults : U → ℕ) (fate : U → Option ship.Fate) (script : Script) where
+  module _ (scripted : Bool) (telling : Telling O) (faults : U → ℕ) (fate : U → Option ship.Fate) (h : Handler) (script : Script) where
     -- so many nodes of the script's run have started, and the devices of each are its own
-    pub record HaveStarted (made : ℕ) (r : Run D O U) : Type 0 where
-      pub started : IsStarted (game_of script.facts) made r
+    pub record HaveStarted (made : ℕ) (r : Run D O U A) : Type 0 where
+      pub started : IsStarted (game_by h script) made r
       pub own : HaveOwn scripted telling took faults fate script made r
       pub most : r.restarts ≡ script.restarts
 
     -- all have
-    abbrev pub HasStarted : Run D O U → Type 0
+    abbrev pub HasStarted : Run D O U A → Type 0
     HasStarted r = HaveStarted script.facts.nodes r
 
     -- the nodes up to v have joined, of which v has failed too often
-    pub record HasFailedAt (v : ℕ) (r : Run D O U) : Type 0 where
+    pub record HasFailedAt (v : ℕ) (r : Run D O U A) : Type 0 where
       pub known : v < script.facts.nodes
       pub width : length r.stations.items ≡ v + 1
       pub own : HaveOwn scripted telling took faults fate script (v + 1) r
 
-    abbrev pub FillsBy : Result (Unit {0}) RunFault → Run D O U → Type 0
+    abbrev pub FillsBy : Result (Unit {0}) RunFault → Run D O U A → Type 0
     FillsBy (Ok x) r = HasStarted r
     FillsBy (Err (Down v)) r = HasFailedAt v r
     FillsBy (Err run_faults.Memory) r = Unit {0}
@@ -280,7 +297,7 @@ module _ {D O U : Type 0} (told : Watched D → Option Story) (size : Watched D 
 
     -- what a start leaves, by the answer, and what its world has kept then: where a node has failed too often the devices of it and
     -- of those before it
-    abbrev pub StartsBy : Result (Run D O U) RunFault → (ℕ → Option (Disks D × O × U)) → Type 0
+    abbrev pub StartsBy : Result (Run D O U A) RunFault → (ℕ → Option (Disks D × O × U)) → Type 0
     StartsBy (Ok r) kept = HasStarted r × HasKeptNothing kept
     StartsBy (Err (Down v)) kept = (v < script.facts.nodes) × ((u : ℕ) → u ≤ v → IsGivenBack u (kept u)) × ((u : ℕ) → v < u → kept u ≡ None)
     StartsBy (Err run_faults.Memory) kept = HasKeptNothing kept

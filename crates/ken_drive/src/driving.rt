@@ -1,6 +1,7 @@
 // A whole run.
 ghost use Rattle.std.specs.Prelude.{◌≡◌, ◌<◌, ◌≤◌, ℕ, true, length, IfErr};
 ghost use Rattle.ken_model.specs.Game.{Game};
+ghost use Rattle.ken_model.specs.Kinds.{handler_of};
 ghost use Rattle.ken_model.specs.Limits.{IsPlainRun};
 ghost use Rattle.ken_script.specs.Within.{KeepsRules};
 ghost use Rattle.ken_drive.specs.Accounts.{AreAccounted, Terms};
@@ -9,15 +10,17 @@ ghost use Rattle.ken_drive.specs.Driven.{DrivesBy, EndsBy};
 ghost use Rattle.ken_drive.specs.Refusals.{AreRefused};
 ghost use Rattle.ken_drive.specs.Running.{IsRunning};
 ghost use Rattle.ken_drive.specs.Sparing.{IsLetBy};
+ghost use Rattle.ken_drive.specs.Starting.{Serves};
 ghost use Rattle.ken_drive.specs.Worlds.{HasKeptNothing};
 
 use crate::faults::RunFault;
 use crate::finishing::finish;
-use crate::laws::ended_runs_keep;
+use crate::laws::{ended_runs_keep, kinds_serve};
 use crate::run::Run;
 use crate::starting::start;
 use crate::world::World;
-use ken_app::Oracle;
+use ken_app::{App, Oracle};
+use ken_apps::KindApp;
 use ken_disk::Disk;
 use ken_model::Lines;
 use ken_node::Watched;
@@ -25,31 +28,37 @@ use ken_script::Script;
 use ken_ship::Outlet;
 use std::alloc::Global;
 
-impl<D: Disk, O: Oracle, U: Outlet> Run<D, O, U> {
+impl<D: Disk, O: Oracle, U: Outlet, A: App> Run<D, O, U, A> {
     /// Drains the run, and answers what it says then. The errors are those of `drain` and `lines`.
     fn told(&mut self) -> Result<Lines, RunFault>
-        requires { MayDrain ⟦<Watched<D> as Disk>⟧.told ⟦<Watched<D> as Disk>⟧.size U.took self.old }
-        ensures { (terms : Terms) (g : Game) (made : ℕ) → IsRunning ⟦<Watched<D> as Disk>⟧.told ⟦<Watched<D> as Disk>⟧.size U.took g made self.old → made ≡ g.nodes → AreAccounted ⟦<Watched<D> as Disk>⟧.told ⟦<Watched<D> as Disk>⟧.faults ⟦<Watched<D> as Disk>⟧.fate O.telling terms g made self.old → AreRefused U.faults U.fate terms made self.old → IsPlainRun g → EndsBy ⟦<Watched<D> as Disk>⟧.told ⟦<Watched<D> as Disk>⟧.size ⟦<Watched<D> as Disk>⟧.faults ⟦<Watched<D> as Disk>⟧.fate O.telling U.took U.faults U.fate terms g result self.new }
+        requires { MayDrain ⟦<Watched<D> as Disk>⟧.told ⟦<Watched<D> as Disk>⟧.size U.took A.handler self.old }
+        ensures { (terms : Terms) (g : Game) (made : ℕ) → IsRunning ⟦<Watched<D> as Disk>⟧.told ⟦<Watched<D> as Disk>⟧.size U.took A.handler g made self.old → made ≡ g.nodes → AreAccounted ⟦<Watched<D> as Disk>⟧.told ⟦<Watched<D> as Disk>⟧.faults ⟦<Watched<D> as Disk>⟧.fate O.telling terms g made self.old → AreRefused U.faults U.fate terms made self.old → IsPlainRun g → EndsBy ⟦<Watched<D> as Disk>⟧.told ⟦<Watched<D> as Disk>⟧.size ⟦<Watched<D> as Disk>⟧.faults ⟦<Watched<D> as Disk>⟧.fate O.telling U.took A.handler U.faults U.fate terms g result self.new }
     {
         self.drain()?;
         Ok(self.lines()?)
     }
 }
 
-/// Runs a script over the devices of a world, and answers the lines of its report. The disks, the oracle and the outlet of each node are
-/// given to `World::keep` then. `Down`: that node's disks failed once more than it may be restarted, or its outlet refused one output 65
+/// Runs a script with an application over the devices of a world, and answers the lines of its report. The script's kind isn't looked at.
+/// The disks, the oracle and the outlet of each node are given to `World::keep` then. `Down`: that node's disks failed once more than it may be restarted, or its outlet refused one output 65
 /// times in a row; the devices of each node that was made are given back too. After `Memory` nothing is kept.
-pub fn drive<W: World>(alloc: Global, script: &Script, world: &mut W) -> Result<Lines, RunFault>
+pub fn drive<W: World, A: App + Drop>(
+    alloc: Global,
+    app: A,
+    script: &Script,
+    world: &mut W,
+) -> Result<Lines, RunFault>
+    requires serves { Serves (A.handler app) script.now }
     requires rules { KeepsRules script.now }
     requires none { HasKeptNothing (W.kept world.old) }
-    ensures drives { DrivesBy (record { told = W.Dev.told; faults = W.Dev.faults; fate = W.Dev.fate; telling = W.Luck.telling; took = W.Out.took; refused = W.Out.faults; calls = W.Out.fate; scripted = W.scripted }) script.now (W.kept world.new) result }
+    ensures drives { DrivesBy (record { told = W.Dev.told; faults = W.Dev.faults; fate = W.Dev.fate; telling = W.Luck.telling; took = W.Out.took; refused = W.Out.faults; calls = W.Out.fate; scripted = W.scripted }) (A.handler app) script.now (W.kept world.new) result }
     ensures lets { W.scripted ≡ true → IfErr result (IsLetBy script.now) }
 {
-    let mut run = start(alloc, script, world)?;
+    let mut run = start(alloc, app, script, world)?;
     match run.told() {
         Ok(lines) => {
             finish(run, world);
-            ended_runs_keep::<W::Dev, W::Luck, W::Out>();
+            ended_runs_keep::<W::Dev, W::Luck, W::Out, A>();
             Ok(lines)
         }
         Err(RunFault::Memory) => Err(RunFault::Memory),
@@ -62,4 +71,19 @@ pub fn drive<W: World>(alloc: Global, script: &Script, world: &mut W) -> Result<
             Err(RunFault::Damaged { node, disk, place })
         }
     }
+}
+
+/// Runs a script with the handler of its kind, as `drive` does with an application.
+pub fn drive_kind<W: World>(
+    alloc: Global,
+    script: &Script,
+    world: &mut W,
+) -> Result<Lines, RunFault>
+    requires rules { KeepsRules script.now }
+    requires none { HasKeptNothing (W.kept world.old) }
+    ensures drives { DrivesBy (record { told = W.Dev.told; faults = W.Dev.faults; fate = W.Dev.fate; telling = W.Luck.telling; took = W.Out.took; refused = W.Out.faults; calls = W.Out.fate; scripted = W.scripted }) (handler_of script.now.facts.kind) script.now (W.kept world.new) result }
+    ensures lets { W.scripted ≡ true → IfErr result (IsLetBy script.now) }
+{
+    kinds_serve();
+    drive(alloc, KindApp(script.facts.kind), script, world)
 }

@@ -2,8 +2,9 @@
 ghost use Rattle.std.specs.Prelude.{Bool};
 ghost use Rattle.ken_drive.specs.Driven.{EndedRunsKeep};
 ghost use Rattle.ken_drive.specs.Recovering.{UpRecovers};
+ghost use Rattle.ken_drive.specs.Starting.{KindsServe};
 
-use ken_app::Oracle;
+use ken_app::{App, Oracle};
 use ken_disk::Disk;
 use ken_node::Watched;
 use ken_ship::Outlet;
@@ -16,10 +17,15 @@ pub fn a_node_is_recovered<D: Disk>()
 }
 
 /// What a run that has ended leaves with its world, where its devices are kept.
-pub fn ended_runs_keep<D: Disk, O: Oracle, U: Outlet>()
-    ensures { (scripted : Bool) → EndedRunsKeep (record { told = D.told; faults = D.faults; fate = D.fate; telling = O.telling; took = U.took; refused = U.faults; calls = U.fate; scripted = scripted }) D.size }
+pub fn ended_runs_keep<D: Disk, O: Oracle, U: Outlet, A: App>()
+    ensures { (scripted : Bool) → EndedRunsKeep (record { told = D.told; faults = D.faults; fate = D.fate; telling = O.telling; took = U.took; refused = U.faults; calls = U.fate; scripted = scripted }) D.size A.handler }
 {
     ken_store::apart_recovers::<Watched<D>>();
     ken_node::a_node_has_synced::<Watched<D>>();
     ken_core::history_is_legal();
 }
+
+/// Nodes of a script's run can have the handler of its kind.
+pub fn kinds_serve()
+    ensures { KindsServe }
+{}

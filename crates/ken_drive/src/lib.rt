@@ -20,10 +20,10 @@ mod starting;
 mod station;
 mod world;
 
-pub use driving::drive;
+pub use driving::{drive, drive_kind};
 pub use faults::RunFault;
 pub use finishing::finish;
-pub use laws::{a_node_is_recovered, ended_runs_keep};
+pub use laws::{a_node_is_recovered, ended_runs_keep, kinds_serve};
 pub use memory::{Kept, MemWorld};
 pub use oracle::MemOracle;
 pub use outlet::MemOutlet;

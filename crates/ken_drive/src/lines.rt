@@ -11,7 +11,7 @@ ghost use Rattle.ken_drive.specs.Ended.{AddsHeap, AreWords, MayTell, HaveSaid, I
 use crate::copies;
 use crate::run::Run;
 use crate::station::Station;
-use ken_app::Oracle;
+use ken_app::{App, Oracle};
 use ken_core::Timeline;
 use ken_disk::Disk;
 use ken_model::{Emission, Ending, Items, Lines, OUTSIDE, RestartLine, Value};
@@ -108,10 +108,10 @@ fn ending_of(waiting: u64) -> Ending
     }
 }
 
-impl<D: Disk, O: Oracle, U: Outlet> Run<D, O, U> {
+impl<D: Disk, O: Oracle, U: Outlet, A: App> Run<D, O, U, A> {
     /// What all nodes say.
     fn gather(&self) -> Result<Summary, AllocError>
-        requires { MayTell ⟦<Watched<D> as Disk>⟧.told ⟦<Watched<D> as Disk>⟧.size U.took self.now }
+        requires { MayTell ⟦<Watched<D> as Disk>⟧.told ⟦<Watched<D> as Disk>⟧.size U.took A.handler self.now }
         ensures { IfOk result (HaveSaid (length self.now.stations.items) self.now.stations.items) }
     {
         let mut summary = Summary::new(self.alloc);
@@ -123,9 +123,9 @@ impl<D: Disk, O: Oracle, U: Outlet> Run<D, O, U> {
 
     /// How many messages and inputs wait for a node.
     fn waiting_for(&self, node: u8) -> u64
-        requires ended { MayTell ⟦<Watched<D> as Disk>⟧.told ⟦<Watched<D> as Disk>⟧.size U.took self.now }
+        requires ended { MayTell ⟦<Watched<D> as Disk>⟧.told ⟦<Watched<D> as Disk>⟧.size U.took A.handler self.now }
         requires known { node < self.now.nodes }
-        ensures { (g : Game) (e : IsEnded ⟦<Watched<D> as Disk>⟧.told ⟦<Watched<D> as Disk>⟧.size U.took g self.now) → result ≡ waits_for g e.running.nodes node }
+        ensures { (g : Game) (e : IsEnded ⟦<Watched<D> as Disk>⟧.told ⟦<Watched<D> as Disk>⟧.size U.took A.handler g self.now) → result ≡ waits_for g e.running.nodes node }
     {
         let receiver = &self.stations[usize::from(node)].node;
         let mut waiting = receiver.inputs() - receiver.consumed(OUTSIDE);
@@ -138,8 +138,8 @@ impl<D: Disk, O: Oracle, U: Outlet> Run<D, O, U> {
 
     /// How many messages and inputs wait.
     fn waiting(&self) -> u64
-        requires { MayTell ⟦<Watched<D> as Disk>⟧.told ⟦<Watched<D> as Disk>⟧.size U.took self.now }
-        ensures { (g : Game) (e : IsEnded ⟦<Watched<D> as Disk>⟧.told ⟦<Watched<D> as Disk>⟧.size U.took g self.now) → result ≡ waits_in g e.running.nodes }
+        requires { MayTell ⟦<Watched<D> as Disk>⟧.told ⟦<Watched<D> as Disk>⟧.size U.took A.handler self.now }
+        ensures { (g : Game) (e : IsEnded ⟦<Watched<D> as Disk>⟧.told ⟦<Watched<D> as Disk>⟧.size U.took A.handler g self.now) → result ≡ waits_in g e.running.nodes }
     {
         let mut waiting = 0;
         for node in 0..self.nodes {
@@ -150,8 +150,8 @@ impl<D: Disk, O: Oracle, U: Outlet> Run<D, O, U> {
 
     /// How the run has ended: `Settled` where nothing waits, and else `Cut`.
     pub fn end(&self) -> Ending
-        requires { MayTell ⟦<Watched<D> as Disk>⟧.told ⟦<Watched<D> as Disk>⟧.size U.took self.now }
-        ensures { (g : Game) (e : IsEnded ⟦<Watched<D> as Disk>⟧.told ⟦<Watched<D> as Disk>⟧.size U.took g self.now) → result ≡ ending_of (waits_in g e.running.nodes) }
+        requires { MayTell ⟦<Watched<D> as Disk>⟧.told ⟦<Watched<D> as Disk>⟧.size U.took A.handler self.now }
+        ensures { (g : Game) (e : IsEnded ⟦<Watched<D> as Disk>⟧.told ⟦<Watched<D> as Disk>⟧.size U.took A.handler g self.now) → result ≡ ending_of (waits_in g e.running.nodes) }
     {
         ending_of(self.waiting())
     }
@@ -159,8 +159,8 @@ impl<D: Disk, O: Oracle, U: Outlet> Run<D, O, U> {
     /// The lines of the run's report: the turns of all nodes in the order of their stamps, and at equal stamps of their nodes; what
     /// each node has emitted and how it was restarted, node by node; the heaps; and how the run has ended.
     pub fn lines(&self) -> Result<Lines, AllocError>
-        requires { MayTell ⟦<Watched<D> as Disk>⟧.told ⟦<Watched<D> as Disk>⟧.size U.took self.now }
-        ensures { (g : Game) (e : IsEnded ⟦<Watched<D> as Disk>⟧.told ⟦<Watched<D> as Disk>⟧.size U.took g self.now) → IsPlainRun g → IfOk result (IsReportOf ⟦<Watched<D> as Disk>⟧.told ⟦<Watched<D> as Disk>⟧.size U.took g self.now e) }
+        requires { MayTell ⟦<Watched<D> as Disk>⟧.told ⟦<Watched<D> as Disk>⟧.size U.took A.handler self.now }
+        ensures { (g : Game) (e : IsEnded ⟦<Watched<D> as Disk>⟧.told ⟦<Watched<D> as Disk>⟧.size U.took A.handler g self.now) → IsPlainRun g → IfOk result (IsReportOf ⟦<Watched<D> as Disk>⟧.told ⟦<Watched<D> as Disk>⟧.size U.took A.handler g self.now e) }
     {
         let summary = self.gather()?;
         let turns = summary.timeline.into_lines(self.alloc)?;

@@ -14,8 +14,7 @@ ghost use Rattle.ken_drive.specs.Running.{IsRunning, IsStopped, LeavesBy, Leaves
 use crate::faults::RunFault;
 use crate::inboxes::InFlight;
 use crate::station::Station;
-use ken_app::Oracle;
-use ken_apps::KindApp;
+use ken_app::{App, Oracle};
 use ken_disk::Disk;
 use ken_node::{Took, Watched};
 use ken_ship::{Emit, NodeFault, Outlet};
@@ -23,25 +22,26 @@ use std::alloc::Global;
 
 /// The nodes of a run with their devices, and what is on its way between them.
 #[derive(Drop)]
-pub struct Run<D, O, U> {
+pub struct Run<D, O, U, A> {
     pub(crate) alloc: Global,
     pub(crate) nodes: u8,
-    pub(crate) app: KindApp,
+    /// What all nodes run.
+    pub(crate) app: A,
     /// How often a node may be restarted.
     pub(crate) restarts: u64,
     pub(crate) stations: Vec<Station<D, O, U>>,
     pub(crate) waiting: InFlight,
 }
 
-impl<D: Disk, O: Oracle, U: Outlet> Run<D, O, U> {
+impl<D: Disk, O: Oracle, U: Outlet, A: App> Run<D, O, U, A> {
     /// A turn of a node.
     fn turn(&mut self, node: u8) -> Result<Took, NodeFault>
-        requires { MayWork ⟦<Watched<D> as Disk>⟧.told ⟦<Watched<D> as Disk>⟧.size U.took node self.old }
-        ensures leaves { (g : Game) (made : ℕ) → IsRunning ⟦<Watched<D> as Disk>⟧.told ⟦<Watched<D> as Disk>⟧.size U.took g made self.old → node < made → LeavesBy ⟦<Watched<D> as Disk>⟧.told ⟦<Watched<D> as Disk>⟧.size U.took result g made node self.new }
-        ensures accounts { (terms : Terms) (g : Game) (made : ℕ) → IsRunning ⟦<Watched<D> as Disk>⟧.told ⟦<Watched<D> as Disk>⟧.size U.took g made self.old → node < made → AreAccounted ⟦<Watched<D> as Disk>⟧.told ⟦<Watched<D> as Disk>⟧.faults ⟦<Watched<D> as Disk>⟧.fate O.telling terms g made self.old → AccountsBy ⟦<Watched<D> as Disk>⟧.told ⟦<Watched<D> as Disk>⟧.faults ⟦<Watched<D> as Disk>⟧.fate O.telling terms g result made node self.new }
+        requires { MayWork ⟦<Watched<D> as Disk>⟧.told ⟦<Watched<D> as Disk>⟧.size U.took A.handler node self.old }
+        ensures leaves { (g : Game) (made : ℕ) → IsRunning ⟦<Watched<D> as Disk>⟧.told ⟦<Watched<D> as Disk>⟧.size U.took A.handler g made self.old → node < made → LeavesBy ⟦<Watched<D> as Disk>⟧.told ⟦<Watched<D> as Disk>⟧.size U.took A.handler result g made node self.new }
+        ensures accounts { (terms : Terms) (g : Game) (made : ℕ) → IsRunning ⟦<Watched<D> as Disk>⟧.told ⟦<Watched<D> as Disk>⟧.size U.took A.handler g made self.old → node < made → AreAccounted ⟦<Watched<D> as Disk>⟧.told ⟦<Watched<D> as Disk>⟧.faults ⟦<Watched<D> as Disk>⟧.fate O.telling terms g made self.old → AccountsBy ⟦<Watched<D> as Disk>⟧.told ⟦<Watched<D> as Disk>⟧.faults ⟦<Watched<D> as Disk>⟧.fate O.telling terms g result made node self.new }
         ensures refused { (terms : Terms) (made : ℕ) → node < made → AreRefused U.faults U.fate terms made self.old → RefusedBy U.faults U.fate terms result made node self.new }
         ensures fewer { result ≡ Ok Took.Turn → left_at turns_left self.new.stations.items node < left_at turns_left self.old.stations.items node }
-        ensures moves { OnOk result (Moves ⟦<Watched<D> as Disk>⟧.told ⟦<Watched<D> as Disk>⟧.size U.took (λ g. Rested g node) node self.old self.new) }
+        ensures moves { OnOk result (Moves ⟦<Watched<D> as Disk>⟧.told ⟦<Watched<D> as Disk>⟧.size U.took A.handler (λ g. Rested g node) node self.old self.new) }
         ensures worked { result ≡ Ok Took.Turn → work_left self.new < work_left self.old }
         ensures less { IsErrOf result NodeFault.Disk → work_left self.new ≤ work_left self.old }
         ensures called { IsCall result (MaySync ⟦<Watched<D> as Disk>⟧.told) node self.old self.new }
@@ -52,12 +52,12 @@ impl<D: Disk, O: Oracle, U: Outlet> Run<D, O, U> {
 
     /// A page of a node is written to its image.
     fn patch(&mut self, node: u8) -> Result<bool, NodeFault>
-        requires { MayWork ⟦<Watched<D> as Disk>⟧.told ⟦<Watched<D> as Disk>⟧.size U.took node self.old }
-        ensures leaves { (g : Game) (made : ℕ) → IsRunning ⟦<Watched<D> as Disk>⟧.told ⟦<Watched<D> as Disk>⟧.size U.took g made self.old → node < made → LeavesBy ⟦<Watched<D> as Disk>⟧.told ⟦<Watched<D> as Disk>⟧.size U.took result g made node self.new }
-        ensures accounts { (terms : Terms) (g : Game) (made : ℕ) → IsRunning ⟦<Watched<D> as Disk>⟧.told ⟦<Watched<D> as Disk>⟧.size U.took g made self.old → node < made → AreAccounted ⟦<Watched<D> as Disk>⟧.told ⟦<Watched<D> as Disk>⟧.faults ⟦<Watched<D> as Disk>⟧.fate O.telling terms g made self.old → AccountsBy ⟦<Watched<D> as Disk>⟧.told ⟦<Watched<D> as Disk>⟧.faults ⟦<Watched<D> as Disk>⟧.fate O.telling terms g result made node self.new }
+        requires { MayWork ⟦<Watched<D> as Disk>⟧.told ⟦<Watched<D> as Disk>⟧.size U.took A.handler node self.old }
+        ensures leaves { (g : Game) (made : ℕ) → IsRunning ⟦<Watched<D> as Disk>⟧.told ⟦<Watched<D> as Disk>⟧.size U.took A.handler g made self.old → node < made → LeavesBy ⟦<Watched<D> as Disk>⟧.told ⟦<Watched<D> as Disk>⟧.size U.took A.handler result g made node self.new }
+        ensures accounts { (terms : Terms) (g : Game) (made : ℕ) → IsRunning ⟦<Watched<D> as Disk>⟧.told ⟦<Watched<D> as Disk>⟧.size U.took A.handler g made self.old → node < made → AreAccounted ⟦<Watched<D> as Disk>⟧.told ⟦<Watched<D> as Disk>⟧.faults ⟦<Watched<D> as Disk>⟧.fate O.telling terms g made self.old → AccountsBy ⟦<Watched<D> as Disk>⟧.told ⟦<Watched<D> as Disk>⟧.faults ⟦<Watched<D> as Disk>⟧.fate O.telling terms g result made node self.new }
         ensures refused { (terms : Terms) (made : ℕ) → node < made → AreRefused U.faults U.fate terms made self.old → RefusedBy U.faults U.fate terms result made node self.new }
         ensures fewer { result ≡ Ok true → left_at pages_left self.new.stations.items node < left_at pages_left self.old.stations.items node }
-        ensures moves { OnOk result (Moves ⟦<Watched<D> as Disk>⟧.told ⟦<Watched<D> as Disk>⟧.size U.took (λ g. Written node) node self.old self.new) }
+        ensures moves { OnOk result (Moves ⟦<Watched<D> as Disk>⟧.told ⟦<Watched<D> as Disk>⟧.size U.took A.handler (λ g. Written node) node self.old self.new) }
         ensures less { IsErrOf result NodeFault.Disk → work_left self.new ≤ work_left self.old }
         ensures called { IsCall result (MaySync ⟦<Watched<D> as Disk>⟧.told) node self.old self.new }
         ensures patched { result ≡ Ok false → IsPatchedAt node self.new }
@@ -67,10 +67,10 @@ impl<D: Disk, O: Oracle, U: Outlet> Run<D, O, U> {
 
     /// The image of a node is synced.
     fn settle(&mut self, node: u8) -> Result<(), NodeFault>
-        requires { MayWork ⟦<Watched<D> as Disk>⟧.told ⟦<Watched<D> as Disk>⟧.size U.took node self.old }
-        ensures leaves { (g : Game) (made : ℕ) → IsRunning ⟦<Watched<D> as Disk>⟧.told ⟦<Watched<D> as Disk>⟧.size U.took g made self.old → node < made → LeavesBy ⟦<Watched<D> as Disk>⟧.told ⟦<Watched<D> as Disk>⟧.size U.took result g made node self.new }
-        ensures accounts { (terms : Terms) (g : Game) (made : ℕ) → IsRunning ⟦<Watched<D> as Disk>⟧.told ⟦<Watched<D> as Disk>⟧.size U.took g made self.old → node < made → AreAccounted ⟦<Watched<D> as Disk>⟧.told ⟦<Watched<D> as Disk>⟧.faults ⟦<Watched<D> as Disk>⟧.fate O.telling terms g made self.old → AccountsBy ⟦<Watched<D> as Disk>⟧.told ⟦<Watched<D> as Disk>⟧.faults ⟦<Watched<D> as Disk>⟧.fate O.telling terms g result made node self.new }
-        ensures moves { OnOk result (Moves ⟦<Watched<D> as Disk>⟧.told ⟦<Watched<D> as Disk>⟧.size U.took (λ g. Written node) node self.old self.new) }
+        requires { MayWork ⟦<Watched<D> as Disk>⟧.told ⟦<Watched<D> as Disk>⟧.size U.took A.handler node self.old }
+        ensures leaves { (g : Game) (made : ℕ) → IsRunning ⟦<Watched<D> as Disk>⟧.told ⟦<Watched<D> as Disk>⟧.size U.took A.handler g made self.old → node < made → LeavesBy ⟦<Watched<D> as Disk>⟧.told ⟦<Watched<D> as Disk>⟧.size U.took A.handler result g made node self.new }
+        ensures accounts { (terms : Terms) (g : Game) (made : ℕ) → IsRunning ⟦<Watched<D> as Disk>⟧.told ⟦<Watched<D> as Disk>⟧.size U.took A.handler g made self.old → node < made → AreAccounted ⟦<Watched<D> as Disk>⟧.told ⟦<Watched<D> as Disk>⟧.faults ⟦<Watched<D> as Disk>⟧.fate O.telling terms g made self.old → AccountsBy ⟦<Watched<D> as Disk>⟧.told ⟦<Watched<D> as Disk>⟧.faults ⟦<Watched<D> as Disk>⟧.fate O.telling terms g result made node self.new }
+        ensures moves { OnOk result (Moves ⟦<Watched<D> as Disk>⟧.told ⟦<Watched<D> as Disk>⟧.size U.took A.handler (λ g. Written node) node self.old self.new) }
         ensures less { IsErrOf result NodeFault.Disk → work_left self.new ≤ work_left self.old }
         ensures refused { (terms : Terms) (made : ℕ) → node < made → AreRefused U.faults U.fate terms made self.old → RefusedBy U.faults U.fate terms result made node self.new }
         ensures called { IsCall result (HasSettled ⟦<Watched<D> as Disk>⟧.told) node self.old self.new }
@@ -80,10 +80,10 @@ impl<D: Disk, O: Oracle, U: Outlet> Run<D, O, U> {
 
     /// A node sends what is due.
     fn send(&mut self, node: u8) -> Result<(), NodeFault>
-        requires { MayWork ⟦<Watched<D> as Disk>⟧.told ⟦<Watched<D> as Disk>⟧.size U.took node self.old }
-        ensures leaves { (g : Game) (made : ℕ) → IsRunning ⟦<Watched<D> as Disk>⟧.told ⟦<Watched<D> as Disk>⟧.size U.took g made self.old → node < made → LeavesBy ⟦<Watched<D> as Disk>⟧.told ⟦<Watched<D> as Disk>⟧.size U.took result g made node self.new }
-        ensures accounts { (terms : Terms) (g : Game) (made : ℕ) → IsRunning ⟦<Watched<D> as Disk>⟧.told ⟦<Watched<D> as Disk>⟧.size U.took g made self.old → node < made → AreAccounted ⟦<Watched<D> as Disk>⟧.told ⟦<Watched<D> as Disk>⟧.faults ⟦<Watched<D> as Disk>⟧.fate O.telling terms g made self.old → AccountsBy ⟦<Watched<D> as Disk>⟧.told ⟦<Watched<D> as Disk>⟧.faults ⟦<Watched<D> as Disk>⟧.fate O.telling terms g result made node self.new }
-        ensures moves { OnOk result (Moves ⟦<Watched<D> as Disk>⟧.told ⟦<Watched<D> as Disk>⟧.size U.took (λ g. Posted g node) node self.old self.new) }
+        requires { MayWork ⟦<Watched<D> as Disk>⟧.told ⟦<Watched<D> as Disk>⟧.size U.took A.handler node self.old }
+        ensures leaves { (g : Game) (made : ℕ) → IsRunning ⟦<Watched<D> as Disk>⟧.told ⟦<Watched<D> as Disk>⟧.size U.took A.handler g made self.old → node < made → LeavesBy ⟦<Watched<D> as Disk>⟧.told ⟦<Watched<D> as Disk>⟧.size U.took A.handler result g made node self.new }
+        ensures accounts { (terms : Terms) (g : Game) (made : ℕ) → IsRunning ⟦<Watched<D> as Disk>⟧.told ⟦<Watched<D> as Disk>⟧.size U.took A.handler g made self.old → node < made → AreAccounted ⟦<Watched<D> as Disk>⟧.told ⟦<Watched<D> as Disk>⟧.faults ⟦<Watched<D> as Disk>⟧.fate O.telling terms g made self.old → AccountsBy ⟦<Watched<D> as Disk>⟧.told ⟦<Watched<D> as Disk>⟧.faults ⟦<Watched<D> as Disk>⟧.fate O.telling terms g result made node self.new }
+        ensures moves { OnOk result (Moves ⟦<Watched<D> as Disk>⟧.told ⟦<Watched<D> as Disk>⟧.size U.took A.handler (λ g. Posted g node) node self.old self.new) }
         ensures less { IsErrOf result NodeFault.Disk → work_left self.new ≤ work_left self.old }
         ensures refused { (terms : Terms) (made : ℕ) → node < made → AreRefused U.faults U.fate terms made self.old → RefusedBy U.faults U.fate terms result made node self.new }
         ensures called { IsCall result (KeepsImage ⟦<Watched<D> as Disk>⟧.told) node self.old self.new }
@@ -94,10 +94,10 @@ impl<D: Disk, O: Oracle, U: Outlet> Run<D, O, U> {
 
     /// A node takes acknowledgements.
     fn hear(&mut self, node: u8) -> Result<(), NodeFault>
-        requires { MayWork ⟦<Watched<D> as Disk>⟧.told ⟦<Watched<D> as Disk>⟧.size U.took node self.old }
-        ensures leaves { (g : Game) (made : ℕ) → IsRunning ⟦<Watched<D> as Disk>⟧.told ⟦<Watched<D> as Disk>⟧.size U.took g made self.old → node < made → LeavesBy ⟦<Watched<D> as Disk>⟧.told ⟦<Watched<D> as Disk>⟧.size U.took result g made node self.new }
-        ensures accounts { (terms : Terms) (g : Game) (made : ℕ) → IsRunning ⟦<Watched<D> as Disk>⟧.told ⟦<Watched<D> as Disk>⟧.size U.took g made self.old → node < made → AreAccounted ⟦<Watched<D> as Disk>⟧.told ⟦<Watched<D> as Disk>⟧.faults ⟦<Watched<D> as Disk>⟧.fate O.telling terms g made self.old → AccountsBy ⟦<Watched<D> as Disk>⟧.told ⟦<Watched<D> as Disk>⟧.faults ⟦<Watched<D> as Disk>⟧.fate O.telling terms g result made node self.new }
-        ensures moves { OnOk result (Moves ⟦<Watched<D> as Disk>⟧.told ⟦<Watched<D> as Disk>⟧.size U.took (λ g. Heard g node) node self.old self.new) }
+        requires { MayWork ⟦<Watched<D> as Disk>⟧.told ⟦<Watched<D> as Disk>⟧.size U.took A.handler node self.old }
+        ensures leaves { (g : Game) (made : ℕ) → IsRunning ⟦<Watched<D> as Disk>⟧.told ⟦<Watched<D> as Disk>⟧.size U.took A.handler g made self.old → node < made → LeavesBy ⟦<Watched<D> as Disk>⟧.told ⟦<Watched<D> as Disk>⟧.size U.took A.handler result g made node self.new }
+        ensures accounts { (terms : Terms) (g : Game) (made : ℕ) → IsRunning ⟦<Watched<D> as Disk>⟧.told ⟦<Watched<D> as Disk>⟧.size U.took A.handler g made self.old → node < made → AreAccounted ⟦<Watched<D> as Disk>⟧.told ⟦<Watched<D> as Disk>⟧.faults ⟦<Watched<D> as Disk>⟧.fate O.telling terms g made self.old → AccountsBy ⟦<Watched<D> as Disk>⟧.told ⟦<Watched<D> as Disk>⟧.faults ⟦<Watched<D> as Disk>⟧.fate O.telling terms g result made node self.new }
+        ensures moves { OnOk result (Moves ⟦<Watched<D> as Disk>⟧.told ⟦<Watched<D> as Disk>⟧.size U.took A.handler (λ g. Heard g node) node self.old self.new) }
         ensures less { IsErrOf result NodeFault.Disk → work_left self.new ≤ work_left self.old }
         ensures refused { (terms : Terms) (made : ℕ) → node < made → AreRefused U.faults U.fate terms made self.old → RefusedBy U.faults U.fate terms result made node self.new }
         ensures called { IsCall result (KeepsImage ⟦<Watched<D> as Disk>⟧.told) node self.old self.new }
@@ -108,12 +108,12 @@ impl<D: Disk, O: Oracle, U: Outlet> Run<D, O, U> {
 
     /// A node emits the output that is due.
     fn emit(&mut self, node: u8) -> Result<Emit, NodeFault>
-        requires { MayWork ⟦<Watched<D> as Disk>⟧.told ⟦<Watched<D> as Disk>⟧.size U.took node self.old }
-        ensures leaves { (g : Game) (made : ℕ) → IsRunning ⟦<Watched<D> as Disk>⟧.told ⟦<Watched<D> as Disk>⟧.size U.took g made self.old → node < made → LeavesBy ⟦<Watched<D> as Disk>⟧.told ⟦<Watched<D> as Disk>⟧.size U.took result g made node self.new }
-        ensures accounts { (terms : Terms) (g : Game) (made : ℕ) → IsRunning ⟦<Watched<D> as Disk>⟧.told ⟦<Watched<D> as Disk>⟧.size U.took g made self.old → node < made → AreAccounted ⟦<Watched<D> as Disk>⟧.told ⟦<Watched<D> as Disk>⟧.faults ⟦<Watched<D> as Disk>⟧.fate O.telling terms g made self.old → AccountsBy ⟦<Watched<D> as Disk>⟧.told ⟦<Watched<D> as Disk>⟧.faults ⟦<Watched<D> as Disk>⟧.fate O.telling terms g result made node self.new }
+        requires { MayWork ⟦<Watched<D> as Disk>⟧.told ⟦<Watched<D> as Disk>⟧.size U.took A.handler node self.old }
+        ensures leaves { (g : Game) (made : ℕ) → IsRunning ⟦<Watched<D> as Disk>⟧.told ⟦<Watched<D> as Disk>⟧.size U.took A.handler g made self.old → node < made → LeavesBy ⟦<Watched<D> as Disk>⟧.told ⟦<Watched<D> as Disk>⟧.size U.took A.handler result g made node self.new }
+        ensures accounts { (terms : Terms) (g : Game) (made : ℕ) → IsRunning ⟦<Watched<D> as Disk>⟧.told ⟦<Watched<D> as Disk>⟧.size U.took A.handler g made self.old → node < made → AreAccounted ⟦<Watched<D> as Disk>⟧.told ⟦<Watched<D> as Disk>⟧.faults ⟦<Watched<D> as Disk>⟧.fate O.telling terms g made self.old → AccountsBy ⟦<Watched<D> as Disk>⟧.told ⟦<Watched<D> as Disk>⟧.faults ⟦<Watched<D> as Disk>⟧.fate O.telling terms g result made node self.new }
         ensures refused { (terms : Terms) (made : ℕ) → node < made → AreRefused U.faults U.fate terms made self.old → RefusedBy U.faults U.fate terms result made node self.new }
         ensures fewer { (number : ℕ) → result ≡ Ok (Done number) → left_at outputs_left self.new.stations.items node < left_at outputs_left self.old.stations.items node }
-        ensures moves { OnOk result (Moves ⟦<Watched<D> as Disk>⟧.told ⟦<Watched<D> as Disk>⟧.size U.took (λ g. Emits node) node self.old self.new) }
+        ensures moves { OnOk result (Moves ⟦<Watched<D> as Disk>⟧.told ⟦<Watched<D> as Disk>⟧.size U.took A.handler (λ g. Emits node) node self.old self.new) }
         ensures less { IsErrOf result NodeFault.Disk → work_left self.new ≤ work_left self.old }
         ensures called { IsCall result (KeepsImage ⟦<Watched<D> as Disk>⟧.told) node self.old self.new }
     {
@@ -122,10 +122,10 @@ impl<D: Disk, O: Oracle, U: Outlet> Run<D, O, U> {
 
     /// All turns that a node can make.
     fn turns(&mut self, node: u8) -> Result<(), NodeFault>
-        requires { MayWork ⟦<Watched<D> as Disk>⟧.told ⟦<Watched<D> as Disk>⟧.size U.took node self.old }
-        ensures leaves { (g : Game) (made : ℕ) → IsRunning ⟦<Watched<D> as Disk>⟧.told ⟦<Watched<D> as Disk>⟧.size U.took g made self.old → node < made → LeavesBy ⟦<Watched<D> as Disk>⟧.told ⟦<Watched<D> as Disk>⟧.size U.took result g made node self.new }
-        ensures accounts { (terms : Terms) (g : Game) (made : ℕ) → IsRunning ⟦<Watched<D> as Disk>⟧.told ⟦<Watched<D> as Disk>⟧.size U.took g made self.old → node < made → AreAccounted ⟦<Watched<D> as Disk>⟧.told ⟦<Watched<D> as Disk>⟧.faults ⟦<Watched<D> as Disk>⟧.fate O.telling terms g made self.old → AccountsBy ⟦<Watched<D> as Disk>⟧.told ⟦<Watched<D> as Disk>⟧.faults ⟦<Watched<D> as Disk>⟧.fate O.telling terms g result made node self.new }
-        ensures moves { OnOk result (Moves ⟦<Watched<D> as Disk>⟧.told ⟦<Watched<D> as Disk>⟧.size U.took (λ g. Rested g node) node self.old self.new) }
+        requires { MayWork ⟦<Watched<D> as Disk>⟧.told ⟦<Watched<D> as Disk>⟧.size U.took A.handler node self.old }
+        ensures leaves { (g : Game) (made : ℕ) → IsRunning ⟦<Watched<D> as Disk>⟧.told ⟦<Watched<D> as Disk>⟧.size U.took A.handler g made self.old → node < made → LeavesBy ⟦<Watched<D> as Disk>⟧.told ⟦<Watched<D> as Disk>⟧.size U.took A.handler result g made node self.new }
+        ensures accounts { (terms : Terms) (g : Game) (made : ℕ) → IsRunning ⟦<Watched<D> as Disk>⟧.told ⟦<Watched<D> as Disk>⟧.size U.took A.handler g made self.old → node < made → AreAccounted ⟦<Watched<D> as Disk>⟧.told ⟦<Watched<D> as Disk>⟧.faults ⟦<Watched<D> as Disk>⟧.fate O.telling terms g made self.old → AccountsBy ⟦<Watched<D> as Disk>⟧.told ⟦<Watched<D> as Disk>⟧.faults ⟦<Watched<D> as Disk>⟧.fate O.telling terms g result made node self.new }
+        ensures moves { OnOk result (Moves ⟦<Watched<D> as Disk>⟧.told ⟦<Watched<D> as Disk>⟧.size U.took A.handler (λ g. Rested g node) node self.old self.new) }
         ensures less { IsErrOf result NodeFault.Disk → work_left self.new ≤ work_left self.old }
         ensures refused { (terms : Terms) (made : ℕ) → node < made → AreRefused U.faults U.fate terms made self.old → RefusedBy U.faults U.fate terms result made node self.new }
         ensures called { IsCall result (MaySync ⟦<Watched<D> as Disk>⟧.told) node self.old self.new }
@@ -137,10 +137,10 @@ impl<D: Disk, O: Oracle, U: Outlet> Run<D, O, U> {
 
     /// All pages that a node has to write.
     fn pages(&mut self, node: u8) -> Result<(), NodeFault>
-        requires { MayWork ⟦<Watched<D> as Disk>⟧.told ⟦<Watched<D> as Disk>⟧.size U.took node self.old }
-        ensures leaves { (g : Game) (made : ℕ) → IsRunning ⟦<Watched<D> as Disk>⟧.told ⟦<Watched<D> as Disk>⟧.size U.took g made self.old → node < made → LeavesBy ⟦<Watched<D> as Disk>⟧.told ⟦<Watched<D> as Disk>⟧.size U.took result g made node self.new }
-        ensures accounts { (terms : Terms) (g : Game) (made : ℕ) → IsRunning ⟦<Watched<D> as Disk>⟧.told ⟦<Watched<D> as Disk>⟧.size U.took g made self.old → node < made → AreAccounted ⟦<Watched<D> as Disk>⟧.told ⟦<Watched<D> as Disk>⟧.faults ⟦<Watched<D> as Disk>⟧.fate O.telling terms g made self.old → AccountsBy ⟦<Watched<D> as Disk>⟧.told ⟦<Watched<D> as Disk>⟧.faults ⟦<Watched<D> as Disk>⟧.fate O.telling terms g result made node self.new }
-        ensures moves { OnOk result (Moves ⟦<Watched<D> as Disk>⟧.told ⟦<Watched<D> as Disk>⟧.size U.took (λ g. Written node) node self.old self.new) }
+        requires { MayWork ⟦<Watched<D> as Disk>⟧.told ⟦<Watched<D> as Disk>⟧.size U.took A.handler node self.old }
+        ensures leaves { (g : Game) (made : ℕ) → IsRunning ⟦<Watched<D> as Disk>⟧.told ⟦<Watched<D> as Disk>⟧.size U.took A.handler g made self.old → node < made → LeavesBy ⟦<Watched<D> as Disk>⟧.told ⟦<Watched<D> as Disk>⟧.size U.took A.handler result g made node self.new }
+        ensures accounts { (terms : Terms) (g : Game) (made : ℕ) → IsRunning ⟦<Watched<D> as Disk>⟧.told ⟦<Watched<D> as Disk>⟧.size U.took A.handler g made self.old → node < made → AreAccounted ⟦<Watched<D> as Disk>⟧.told ⟦<Watched<D> as Disk>⟧.faults ⟦<Watched<D> as Disk>⟧.fate O.telling terms g made self.old → AccountsBy ⟦<Watched<D> as Disk>⟧.told ⟦<Watched<D> as Disk>⟧.faults ⟦<Watched<D> as Disk>⟧.fate O.telling terms g result made node self.new }
+        ensures moves { OnOk result (Moves ⟦<Watched<D> as Disk>⟧.told ⟦<Watched<D> as Disk>⟧.size U.took A.handler (λ g. Written node) node self.old self.new) }
         ensures less { IsErrOf result NodeFault.Disk → work_left self.new ≤ work_left self.old }
         ensures refused { (terms : Terms) (made : ℕ) → node < made → AreRefused U.faults U.fate terms made self.old → RefusedBy U.faults U.fate terms result made node self.new }
         ensures called { IsCall result (HasPatched ⟦<Watched<D> as Disk>⟧.told) node self.old self.new }
@@ -151,10 +151,10 @@ impl<D: Disk, O: Oracle, U: Outlet> Run<D, O, U> {
 
     /// All outputs that a node has to emit, until its outlet refuses one.
     fn outputs(&mut self, node: u8) -> Result<(), NodeFault>
-        requires { MayWork ⟦<Watched<D> as Disk>⟧.told ⟦<Watched<D> as Disk>⟧.size U.took node self.old }
-        ensures leaves { (g : Game) (made : ℕ) → IsRunning ⟦<Watched<D> as Disk>⟧.told ⟦<Watched<D> as Disk>⟧.size U.took g made self.old → node < made → LeavesBy ⟦<Watched<D> as Disk>⟧.told ⟦<Watched<D> as Disk>⟧.size U.took result g made node self.new }
-        ensures accounts { (terms : Terms) (g : Game) (made : ℕ) → IsRunning ⟦<Watched<D> as Disk>⟧.told ⟦<Watched<D> as Disk>⟧.size U.took g made self.old → node < made → AreAccounted ⟦<Watched<D> as Disk>⟧.told ⟦<Watched<D> as Disk>⟧.faults ⟦<Watched<D> as Disk>⟧.fate O.telling terms g made self.old → AccountsBy ⟦<Watched<D> as Disk>⟧.told ⟦<Watched<D> as Disk>⟧.faults ⟦<Watched<D> as Disk>⟧.fate O.telling terms g result made node self.new }
-        ensures moves { OnOk result (Moves ⟦<Watched<D> as Disk>⟧.told ⟦<Watched<D> as Disk>⟧.size U.took (λ g. Emits node) node self.old self.new) }
+        requires { MayWork ⟦<Watched<D> as Disk>⟧.told ⟦<Watched<D> as Disk>⟧.size U.took A.handler node self.old }
+        ensures leaves { (g : Game) (made : ℕ) → IsRunning ⟦<Watched<D> as Disk>⟧.told ⟦<Watched<D> as Disk>⟧.size U.took A.handler g made self.old → node < made → LeavesBy ⟦<Watched<D> as Disk>⟧.told ⟦<Watched<D> as Disk>⟧.size U.took A.handler result g made node self.new }
+        ensures accounts { (terms : Terms) (g : Game) (made : ℕ) → IsRunning ⟦<Watched<D> as Disk>⟧.told ⟦<Watched<D> as Disk>⟧.size U.took A.handler g made self.old → node < made → AreAccounted ⟦<Watched<D> as Disk>⟧.told ⟦<Watched<D> as Disk>⟧.faults ⟦<Watched<D> as Disk>⟧.fate O.telling terms g made self.old → AccountsBy ⟦<Watched<D> as Disk>⟧.told ⟦<Watched<D> as Disk>⟧.faults ⟦<Watched<D> as Disk>⟧.fate O.telling terms g result made node self.new }
+        ensures moves { OnOk result (Moves ⟦<Watched<D> as Disk>⟧.told ⟦<Watched<D> as Disk>⟧.size U.took A.handler (λ g. Emits node) node self.old self.new) }
         ensures less { IsErrOf result NodeFault.Disk → work_left self.new ≤ work_left self.old }
         ensures refused { (terms : Terms) (made : ℕ) → node < made → AreRefused U.faults U.fate terms made self.old → RefusedBy U.faults U.fate terms result made node self.new }
         ensures called { IsCall result (KeepsImage ⟦<Watched<D> as Disk>⟧.told) node self.old self.new }
@@ -165,10 +165,10 @@ impl<D: Disk, O: Oracle, U: Outlet> Run<D, O, U> {
 
     /// All calls of a node in a visit.
     fn work(&mut self, node: u8) -> Result<(), NodeFault>
-        requires { MayWork ⟦<Watched<D> as Disk>⟧.told ⟦<Watched<D> as Disk>⟧.size U.took node self.old }
-        ensures leaves { (g : Game) (made : ℕ) → IsRunning ⟦<Watched<D> as Disk>⟧.told ⟦<Watched<D> as Disk>⟧.size U.took g made self.old → node < made → LeavesBy ⟦<Watched<D> as Disk>⟧.told ⟦<Watched<D> as Disk>⟧.size U.took result g made node self.new }
-        ensures accounts { (terms : Terms) (g : Game) (made : ℕ) → IsRunning ⟦<Watched<D> as Disk>⟧.told ⟦<Watched<D> as Disk>⟧.size U.took g made self.old → node < made → AreAccounted ⟦<Watched<D> as Disk>⟧.told ⟦<Watched<D> as Disk>⟧.faults ⟦<Watched<D> as Disk>⟧.fate O.telling terms g made self.old → AccountsBy ⟦<Watched<D> as Disk>⟧.told ⟦<Watched<D> as Disk>⟧.faults ⟦<Watched<D> as Disk>⟧.fate O.telling terms g result made node self.new }
-        ensures moves { OnOk result (Moves ⟦<Watched<D> as Disk>⟧.told ⟦<Watched<D> as Disk>⟧.size U.took (λ g. Visited g node) node self.old self.new) }
+        requires { MayWork ⟦<Watched<D> as Disk>⟧.told ⟦<Watched<D> as Disk>⟧.size U.took A.handler node self.old }
+        ensures leaves { (g : Game) (made : ℕ) → IsRunning ⟦<Watched<D> as Disk>⟧.told ⟦<Watched<D> as Disk>⟧.size U.took A.handler g made self.old → node < made → LeavesBy ⟦<Watched<D> as Disk>⟧.told ⟦<Watched<D> as Disk>⟧.size U.took A.handler result g made node self.new }
+        ensures accounts { (terms : Terms) (g : Game) (made : ℕ) → IsRunning ⟦<Watched<D> as Disk>⟧.told ⟦<Watched<D> as Disk>⟧.size U.took A.handler g made self.old → node < made → AreAccounted ⟦<Watched<D> as Disk>⟧.told ⟦<Watched<D> as Disk>⟧.faults ⟦<Watched<D> as Disk>⟧.fate O.telling terms g made self.old → AccountsBy ⟦<Watched<D> as Disk>⟧.told ⟦<Watched<D> as Disk>⟧.faults ⟦<Watched<D> as Disk>⟧.fate O.telling terms g result made node self.new }
+        ensures moves { OnOk result (Moves ⟦<Watched<D> as Disk>⟧.told ⟦<Watched<D> as Disk>⟧.size U.took A.handler (λ g. Visited g node) node self.old self.new) }
         ensures less { IsErrOf result NodeFault.Disk → work_left self.new ≤ work_left self.old }
         ensures refused { (terms : Terms) (made : ℕ) → node < made → AreRefused U.faults U.fate terms made self.old → RefusedBy U.faults U.fate terms result made node self.new }
         ensures called { IsCall result (IsSettledSince ⟦<Watched<D> as Disk>⟧.told) node self.old self.new }
@@ -183,10 +183,10 @@ impl<D: Disk, O: Oracle, U: Outlet> Run<D, O, U> {
 
     /// Restarts a node once. It was restarted less often than it may be.
     fn restart_once(&mut self, node: u8, most: u64) -> Result<(), NodeFault>
-        requires may { MayBeRestarted ⟦<Watched<D> as Disk>⟧.told ⟦<Watched<D> as Disk>⟧.size U.took node self.old }
+        requires may { MayBeRestarted ⟦<Watched<D> as Disk>⟧.told ⟦<Watched<D> as Disk>⟧.size U.took A.handler node self.old }
         requires left { tries_at self.old.stations.items node < most }
-        ensures leaves { (g : Game) (made : ℕ) → IsStopped ⟦<Watched<D> as Disk>⟧.told ⟦<Watched<D> as Disk>⟧.size U.took g made node self.old → LeavesBy ⟦<Watched<D> as Disk>⟧.told ⟦<Watched<D> as Disk>⟧.size U.took result g made node self.new }
-        ensures accounts { (terms : Terms) (g : Game) (made : ℕ) → IsStopped ⟦<Watched<D> as Disk>⟧.told ⟦<Watched<D> as Disk>⟧.size U.took g made node self.old → most ≡ terms.most → OneIsHeld ⟦<Watched<D> as Disk>⟧.told ⟦<Watched<D> as Disk>⟧.faults ⟦<Watched<D> as Disk>⟧.fate O.telling terms g made node self.old → AccountsBy ⟦<Watched<D> as Disk>⟧.told ⟦<Watched<D> as Disk>⟧.faults ⟦<Watched<D> as Disk>⟧.fate O.telling terms g result made node self.new }
+        ensures leaves { (g : Game) (made : ℕ) → IsStopped ⟦<Watched<D> as Disk>⟧.told ⟦<Watched<D> as Disk>⟧.size U.took A.handler g made node self.old → LeavesBy ⟦<Watched<D> as Disk>⟧.told ⟦<Watched<D> as Disk>⟧.size U.took A.handler result g made node self.new }
+        ensures accounts { (terms : Terms) (g : Game) (made : ℕ) → IsStopped ⟦<Watched<D> as Disk>⟧.told ⟦<Watched<D> as Disk>⟧.size U.took A.handler g made node self.old → most ≡ terms.most → OneIsHeld ⟦<Watched<D> as Disk>⟧.told ⟦<Watched<D> as Disk>⟧.faults ⟦<Watched<D> as Disk>⟧.fate O.telling terms g made node self.old → AccountsBy ⟦<Watched<D> as Disk>⟧.told ⟦<Watched<D> as Disk>⟧.faults ⟦<Watched<D> as Disk>⟧.fate O.telling terms g result made node self.new }
         ensures refused { (terms : Terms) (made : ℕ) → node < made → AreRefused U.faults U.fate terms made self.old → RefusedBy U.faults U.fate terms result made node self.new }
         ensures tried { IsErrOf result NodeFault.Disk → tries_at self.new.stations.items node ≡ tries_at self.old.stations.items node + 1 }
         ensures same { self.new.restarts ≡ self.old.restarts }
@@ -206,12 +206,12 @@ impl<D: Disk, O: Oracle, U: Outlet> Run<D, O, U> {
 
     /// Restarts a node, and again where a disk fails in the restart.
     fn restart(&mut self, node: u8) -> Result<(), RunFault>
-        requires { MayBeRestarted ⟦<Watched<D> as Disk>⟧.told ⟦<Watched<D> as Disk>⟧.size U.took node self.old }
-        ensures leaves { (g : Game) (made : ℕ) → IsStopped ⟦<Watched<D> as Disk>⟧.told ⟦<Watched<D> as Disk>⟧.size U.took g made node self.old → LeavesRunBy ⟦<Watched<D> as Disk>⟧.told ⟦<Watched<D> as Disk>⟧.size U.took result g made self.new }
-        ensures accounts { (terms : Terms) (g : Game) (made : ℕ) → IsStopped ⟦<Watched<D> as Disk>⟧.told ⟦<Watched<D> as Disk>⟧.size U.took g made node self.old → OneIsHeld ⟦<Watched<D> as Disk>⟧.told ⟦<Watched<D> as Disk>⟧.faults ⟦<Watched<D> as Disk>⟧.fate O.telling terms g made node self.old → AccountsRunBy ⟦<Watched<D> as Disk>⟧.told ⟦<Watched<D> as Disk>⟧.faults ⟦<Watched<D> as Disk>⟧.fate O.telling terms g result made self.new }
+        requires { MayBeRestarted ⟦<Watched<D> as Disk>⟧.told ⟦<Watched<D> as Disk>⟧.size U.took A.handler node self.old }
+        ensures leaves { (g : Game) (made : ℕ) → IsStopped ⟦<Watched<D> as Disk>⟧.told ⟦<Watched<D> as Disk>⟧.size U.took A.handler g made node self.old → LeavesRunBy ⟦<Watched<D> as Disk>⟧.told ⟦<Watched<D> as Disk>⟧.size U.took A.handler result g made self.new }
+        ensures accounts { (terms : Terms) (g : Game) (made : ℕ) → IsStopped ⟦<Watched<D> as Disk>⟧.told ⟦<Watched<D> as Disk>⟧.size U.took A.handler g made node self.old → OneIsHeld ⟦<Watched<D> as Disk>⟧.told ⟦<Watched<D> as Disk>⟧.faults ⟦<Watched<D> as Disk>⟧.fate O.telling terms g made node self.old → AccountsRunBy ⟦<Watched<D> as Disk>⟧.told ⟦<Watched<D> as Disk>⟧.faults ⟦<Watched<D> as Disk>⟧.fate O.telling terms g result made self.new }
         ensures worked { OnOk result (work_left self.new < work_left self.old) }
         ensures refused { (terms : Terms) (made : ℕ) → node < made → AreRefused U.faults U.fate terms made self.old → RefusedRunBy U.faults U.fate terms result made self.new }
-        ensures stops { (terms : Terms) (g : Game) (made : ℕ) → IsStopped ⟦<Watched<D> as Disk>⟧.told ⟦<Watched<D> as Disk>⟧.size U.took g made node self.old → OneIsHeld ⟦<Watched<D> as Disk>⟧.told ⟦<Watched<D> as Disk>⟧.faults ⟦<Watched<D> as Disk>⟧.fate O.telling terms g made node self.old → StopsBy ⟦<Watched<D> as Disk>⟧.told ⟦<Watched<D> as Disk>⟧.faults ⟦<Watched<D> as Disk>⟧.fate O.telling U.faults U.fate terms g result made self.new }
+        ensures stops { (terms : Terms) (g : Game) (made : ℕ) → IsStopped ⟦<Watched<D> as Disk>⟧.told ⟦<Watched<D> as Disk>⟧.size U.took A.handler g made node self.old → OneIsHeld ⟦<Watched<D> as Disk>⟧.told ⟦<Watched<D> as Disk>⟧.faults ⟦<Watched<D> as Disk>⟧.fate O.telling terms g made node self.old → StopsBy ⟦<Watched<D> as Disk>⟧.told ⟦<Watched<D> as Disk>⟧.faults ⟦<Watched<D> as Disk>⟧.fate O.telling U.faults U.fate terms g result made self.new }
         ensures restarted { OnOk result (Changes WasRestarted node self.old self.new) }
     {
         let most = self.restarts;
@@ -230,12 +230,12 @@ impl<D: Disk, O: Oracle, U: Outlet> Run<D, O, U> {
 
     /// Visits a node: it does what there is to do, and is restarted where a disk of it failed.
     fn visit(&mut self, node: u8) -> Result<(), RunFault>
-        requires { MayWork ⟦<Watched<D> as Disk>⟧.told ⟦<Watched<D> as Disk>⟧.size U.took node self.old }
-        ensures leaves { (g : Game) (made : ℕ) → IsRunning ⟦<Watched<D> as Disk>⟧.told ⟦<Watched<D> as Disk>⟧.size U.took g made self.old → node < made → LeavesRunBy ⟦<Watched<D> as Disk>⟧.told ⟦<Watched<D> as Disk>⟧.size U.took result g made self.new }
-        ensures accounts { (terms : Terms) (g : Game) (made : ℕ) → IsRunning ⟦<Watched<D> as Disk>⟧.told ⟦<Watched<D> as Disk>⟧.size U.took g made self.old → node < made → AreAccounted ⟦<Watched<D> as Disk>⟧.told ⟦<Watched<D> as Disk>⟧.faults ⟦<Watched<D> as Disk>⟧.fate O.telling terms g made self.old → AccountsRunBy ⟦<Watched<D> as Disk>⟧.told ⟦<Watched<D> as Disk>⟧.faults ⟦<Watched<D> as Disk>⟧.fate O.telling terms g result made self.new }
-        ensures moves { OnOk result (Moves ⟦<Watched<D> as Disk>⟧.told ⟦<Watched<D> as Disk>⟧.size U.took (λ g. Visited g node) node self.old self.new) }
+        requires { MayWork ⟦<Watched<D> as Disk>⟧.told ⟦<Watched<D> as Disk>⟧.size U.took A.handler node self.old }
+        ensures leaves { (g : Game) (made : ℕ) → IsRunning ⟦<Watched<D> as Disk>⟧.told ⟦<Watched<D> as Disk>⟧.size U.took A.handler g made self.old → node < made → LeavesRunBy ⟦<Watched<D> as Disk>⟧.told ⟦<Watched<D> as Disk>⟧.size U.took A.handler result g made self.new }
+        ensures accounts { (terms : Terms) (g : Game) (made : ℕ) → IsRunning ⟦<Watched<D> as Disk>⟧.told ⟦<Watched<D> as Disk>⟧.size U.took A.handler g made self.old → node < made → AreAccounted ⟦<Watched<D> as Disk>⟧.told ⟦<Watched<D> as Disk>⟧.faults ⟦<Watched<D> as Disk>⟧.fate O.telling terms g made self.old → AccountsRunBy ⟦<Watched<D> as Disk>⟧.told ⟦<Watched<D> as Disk>⟧.faults ⟦<Watched<D> as Disk>⟧.fate O.telling terms g result made self.new }
+        ensures moves { OnOk result (Moves ⟦<Watched<D> as Disk>⟧.told ⟦<Watched<D> as Disk>⟧.size U.took A.handler (λ g. Visited g node) node self.old self.new) }
         ensures refused { (terms : Terms) (made : ℕ) → node < made → AreRefused U.faults U.fate terms made self.old → RefusedRunBy U.faults U.fate terms result made self.new }
-        ensures stops { (terms : Terms) (g : Game) (made : ℕ) → IsRunning ⟦<Watched<D> as Disk>⟧.told ⟦<Watched<D> as Disk>⟧.size U.took g made self.old → node < made → AreAccounted ⟦<Watched<D> as Disk>⟧.told ⟦<Watched<D> as Disk>⟧.faults ⟦<Watched<D> as Disk>⟧.fate O.telling terms g made self.old → AreRefused U.faults U.fate terms made self.old → StopsBy ⟦<Watched<D> as Disk>⟧.told ⟦<Watched<D> as Disk>⟧.faults ⟦<Watched<D> as Disk>⟧.fate O.telling U.faults U.fate terms g result made self.new }
+        ensures stops { (terms : Terms) (g : Game) (made : ℕ) → IsRunning ⟦<Watched<D> as Disk>⟧.told ⟦<Watched<D> as Disk>⟧.size U.took A.handler g made self.old → node < made → AreAccounted ⟦<Watched<D> as Disk>⟧.told ⟦<Watched<D> as Disk>⟧.faults ⟦<Watched<D> as Disk>⟧.fate O.telling terms g made self.old → AreRefused U.faults U.fate terms made self.old → StopsBy ⟦<Watched<D> as Disk>⟧.told ⟦<Watched<D> as Disk>⟧.faults ⟦<Watched<D> as Disk>⟧.fate O.telling U.faults U.fate terms g result made self.new }
         ensures visited { OnOk result (Changes (WasVisited ⟦<Watched<D> as Disk>⟧.told) node self.old self.new) }
     {
         match self.work(node) {
@@ -252,12 +252,12 @@ impl<D: Disk, O: Oracle, U: Outlet> Run<D, O, U> {
     /// answers, and the pass goes on with the next one. `Down`: a disk of that node failed and it has no restart left, or its outlet
     /// refused one output 65 times in a row; the run may not go on. After `Memory` nothing is known of the run.
     pub fn pass(&mut self) -> Result<(), RunFault>
-        requires { MayGoOn ⟦<Watched<D> as Disk>⟧.told ⟦<Watched<D> as Disk>⟧.size U.took self.old }
-        ensures leaves { (g : Game) (made : ℕ) → IsRunning ⟦<Watched<D> as Disk>⟧.told ⟦<Watched<D> as Disk>⟧.size U.took g made self.old → LeavesRunBy ⟦<Watched<D> as Disk>⟧.told ⟦<Watched<D> as Disk>⟧.size U.took result g made self.new }
-        ensures accounts { (terms : Terms) (g : Game) (made : ℕ) → IsRunning ⟦<Watched<D> as Disk>⟧.told ⟦<Watched<D> as Disk>⟧.size U.took g made self.old → AreAccounted ⟦<Watched<D> as Disk>⟧.told ⟦<Watched<D> as Disk>⟧.faults ⟦<Watched<D> as Disk>⟧.fate O.telling terms g made self.old → AccountsRunBy ⟦<Watched<D> as Disk>⟧.told ⟦<Watched<D> as Disk>⟧.faults ⟦<Watched<D> as Disk>⟧.fate O.telling terms g result made self.new }
-        ensures moves { OnOk result (AllMoved ⟦<Watched<D> as Disk>⟧.told ⟦<Watched<D> as Disk>⟧.size U.took Passed self.old self.new) }
+        requires { MayGoOn ⟦<Watched<D> as Disk>⟧.told ⟦<Watched<D> as Disk>⟧.size U.took A.handler self.old }
+        ensures leaves { (g : Game) (made : ℕ) → IsRunning ⟦<Watched<D> as Disk>⟧.told ⟦<Watched<D> as Disk>⟧.size U.took A.handler g made self.old → LeavesRunBy ⟦<Watched<D> as Disk>⟧.told ⟦<Watched<D> as Disk>⟧.size U.took A.handler result g made self.new }
+        ensures accounts { (terms : Terms) (g : Game) (made : ℕ) → IsRunning ⟦<Watched<D> as Disk>⟧.told ⟦<Watched<D> as Disk>⟧.size U.took A.handler g made self.old → AreAccounted ⟦<Watched<D> as Disk>⟧.told ⟦<Watched<D> as Disk>⟧.faults ⟦<Watched<D> as Disk>⟧.fate O.telling terms g made self.old → AccountsRunBy ⟦<Watched<D> as Disk>⟧.told ⟦<Watched<D> as Disk>⟧.faults ⟦<Watched<D> as Disk>⟧.fate O.telling terms g result made self.new }
+        ensures moves { OnOk result (AllMoved ⟦<Watched<D> as Disk>⟧.told ⟦<Watched<D> as Disk>⟧.size U.took A.handler Passed self.old self.new) }
         ensures refused { (terms : Terms) (made : ℕ) → self.old.nodes ≤ made → AreRefused U.faults U.fate terms made self.old → RefusedRunBy U.faults U.fate terms result made self.new }
-        ensures stops { (terms : Terms) (g : Game) (made : ℕ) → IsRunning ⟦<Watched<D> as Disk>⟧.told ⟦<Watched<D> as Disk>⟧.size U.took g made self.old → AreAccounted ⟦<Watched<D> as Disk>⟧.told ⟦<Watched<D> as Disk>⟧.faults ⟦<Watched<D> as Disk>⟧.fate O.telling terms g made self.old → AreRefused U.faults U.fate terms made self.old → StopsBy ⟦<Watched<D> as Disk>⟧.told ⟦<Watched<D> as Disk>⟧.faults ⟦<Watched<D> as Disk>⟧.fate O.telling U.faults U.fate terms g result made self.new }
+        ensures stops { (terms : Terms) (g : Game) (made : ℕ) → IsRunning ⟦<Watched<D> as Disk>⟧.told ⟦<Watched<D> as Disk>⟧.size U.took A.handler g made self.old → AreAccounted ⟦<Watched<D> as Disk>⟧.told ⟦<Watched<D> as Disk>⟧.faults ⟦<Watched<D> as Disk>⟧.fate O.telling terms g made self.old → AreRefused U.faults U.fate terms made self.old → StopsBy ⟦<Watched<D> as Disk>⟧.told ⟦<Watched<D> as Disk>⟧.faults ⟦<Watched<D> as Disk>⟧.fate O.telling U.faults U.fate terms g result made self.new }
         ensures visited { OnOk result (AllVisited ⟦<Watched<D> as Disk>⟧.told self.old self.new) }
     {
         for node in 0..self.nodes {

@@ -1,10 +1,12 @@
 ghost use Rattle.std.specs.Prelude.{IfSome};
 ghost use Rattle.ken_model.specs.Game.{game_of};
+ghost use Rattle.ken_model.specs.Kinds.{handler_of};
 ghost use Rattle.ken_model.specs.Limits.{IsWithinLimits};
-ghost use Rattle.ken_drive.specs.Starting.{HasModestActs};
+ghost use Rattle.ken_drive.specs.Starting.{HasModestActs, Serves};
 
+use ken_apps::KindApp;
 use ken_disk::Disk;
-use ken_drive::{MemWorld, RunFault, finish, start};
+use ken_drive::{MemWorld, RunFault, finish, kinds_serve, start};
 use ken_script::Script;
 use std::alloc::Global;
 use std::test::Fail;
@@ -23,7 +25,9 @@ const TOO_OFTEN: &str =
 fn script(alloc: Global, text: &str) -> Option<Script>
     ensures limits { IfSome result (λ s. IsWithinLimits (game_of s.facts)) }
     ensures modest { IfSome result HasModestActs }
+    ensures serves { IfSome result (λ s. Serves (handler_of s.facts.kind) s) }
 {
+    kinds_serve();
     match ken_script::read(alloc, text.as_bytes()) {
         Ok(script) => Some(script),
         Err(_) => None,
@@ -35,7 +39,7 @@ fn a_run_that_has_started_gives_its_devices_back(rt: HostRuntime) -> Result<(), 
     for text in [FAULTLESS, TWICE] {
         let script = script(rt.alloc(), text).ok_or("script")?;
         let mut world = MemWorld::new(rt.alloc());
-        let run = start(rt.alloc(), &script, &mut world)?;
+        let run = start(rt.alloc(), KindApp(script.facts.kind), &script, &mut world)?;
         assert!(rt; world.kept(0).is_none());
         finish(run, &mut world);
         for node in 0..3 {
@@ -60,7 +64,7 @@ fn a_run_that_has_started_gives_its_devices_back(rt: HostRuntime) -> Result<(), 
 fn a_node_goes_down_at_its_creation(rt: HostRuntime) -> Result<(), Fail> {
     let script = script(rt.alloc(), TOO_OFTEN).ok_or("script")?;
     let mut world = MemWorld::new(rt.alloc());
-    let answer = start(rt.alloc(), &script, &mut world);
+    let answer = start(rt.alloc(), KindApp(script.facts.kind), &script, &mut world);
     assert_eq!(rt; answer.err(), Some(RunFault::Down { node: 0 }));
     assert!(rt; world.kept(0).is_some());
     assert!(rt; world.kept(1).is_none());

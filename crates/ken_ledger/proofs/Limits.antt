@@ -7,7 +7,7 @@ use Rattle.ken_model.specs.declared.messages.Message.{Message}
 use Rattle.ken_model.specs.declared.messages.Send.{Send}
 use Rattle.ken_model.specs.declared.messages.TheConstants.{OUTSIDE}
 use Rattle.ken_model.specs.declared.values.Value.{Value}
-use Rattle.ken_model.specs.Effects.{Effect, answered, refused}
+use Rattle.ken_model.specs.Effects.{Effect, answered}
 use Rattle.ken_model.specs.Kinds.{without_draws}
 use Rattle.ken_model.specs.Report.{IsOneLine}
 use Rattle.ken_num.specs.Numbers.{num}

@@ -1,5 +1,5 @@
 -- What a payment takes from one balance its receiver adds to its own.
-use Rattle.std.proofs.Common.{◌≡◌, ℕ, zero, suc, ◌+◌, ◌-◌, ◌<◌, ◌≤◌, ◌^◌, List, [], ◌∷◌, length, get_or, slice_index, Bool, true, false, ◌==◌, ◌&&◌, ◌||◌, not, nat_lt, nat_le, if◌then◌else◌, Option, Some, None, option_map, codes, decimal, refl, sym, ◌∙◌, ap, subst, arith, ne_eqb, lt-ltb}
+use Rattle.std.proofs.Common.{◌≡◌, ℕ, zero, suc, ◌+◌, ◌-◌, ◌<◌, ◌≤◌, ◌^◌, List, [], ◌∷◌, length, slice_index, Bool, true, false, ◌==◌, ◌&&◌, ◌||◌, not, nat_lt, nat_le, if◌then◌else◌, Option, Some, None, option_map, codes, decimal, refl, sym, ◌∙◌, ap, subst, arith, ne_eqb, lt-ltb}
 use Rattle.std.specs.List.{AllByRecursion}
 use Rattle.std.specs.Str.{all_ascii_digits}
 use Rattle.std.proofs.lemmas.Fmt.{decimal_is_IsNumeral, decimal_nonempty, first_decimal, length-decimal-le}
@@ -9,7 +9,7 @@ use Rattle.ken_model.specs.declared.messages.TheConstants.{OUTSIDE}
 use Rattle.ken_model.specs.declared.values.Value.{Value}
 use Rattle.ken_model.specs.Effects.{Effect, answered, refused}
 use Rattle.ken_model.specs.Kinds.{without_draws}
-use Rattle.ken_num.specs.Numbers.{num, is_num, value_from}
+use Rattle.ken_num.specs.Numbers.{num, is_num}
 use Rattle.ken_num.proofs.Decimals.{numerals, value_from-decimal}
 use Rattle.ken_num.proofs.Small.{num-lt}
 use Rattle.ken_ledger.specs.Laws.{IsCredit, IsPayment, NoPaymentIsLost}

@@ -31,6 +31,7 @@ use Rattle.ken_top.specs.declared.status.Status.TheVariants as status
 use Rattle.ken_top.specs.Statuses.{of_running, of_script}
 use Rattle.ken_top.specs.Headline.{AreTold, IsReport, IsFront, IsLet, IsQuiet, IsRunOfSource, IsRefusal, IsOut, Wrote, Ran}
 use Rattle.ken_model.specs.Game.{game_of}
+use Rattle.ken_model.specs.Kinds.{handler_of}
 
 -- what a text spells, by the run that it spells
 record IsReportOf {D O U : Type 0} (views : Views D O U) (kept : ℕ → Option (Disks D × O × U)) (b : List ℕ) (script : Script) (ending : Ending) (w : List ℕ) (run : Spelling) : Type 0 where
@@ -116,13 +117,13 @@ module _ {D O U : Type 0} (views : Views D O U) (kept : ℕ → Option (Disks D 
   refusal_by left read script.Memory told broken none = none
 
   -- a run that didn't go on, as a refusal of what the source gives
-  pub refusal_of-run : (left : Option (List ℕ)) (read : List ℕ) (s : Script) (fault : RunFault) → IsTold left read → Says read s → DrivesBy views s kept (Err fault) → IsRefusal views kept left (of_running fault)
+  pub refusal_of-run : (left : Option (List ℕ)) (read : List ℕ) (s : Script) (fault : RunFault) → IsTold left read → Says read s → DrivesBy views (handler_of s.facts.kind) s kept (Err fault) → IsRefusal views kept left (of_running fault)
   refusal_of-run left read s (running.Damaged v disk place) told says driven = absurd driven
   refusal_of-run left read s (running.Down v) told says down = (told.whole, told.told, record { script = s; says = told.says s says; down = down })
   refusal_of-run left read s running.Memory told says none = none
 
   -- a script that was run, as what the source gives
-  pub run_by : (left : Option (List ℕ)) (read : List ℕ) (s : Script) (l : Lines) → IsTold left read → Says read s → HasDriven views s kept l → IsRunOfSource views kept left l
+  pub run_by : (left : Option (List ℕ)) (read : List ℕ) (s : Script) (l : Lines) → IsTold left read → Says read s → HasDriven views (handler_of s.facts.kind) s kept l → IsRunOfSource views kept left l
   run_by left read s l told says driven = record { read = told.whole; told = told.told; script = s; says = told.says s says; driven = driven }
 
 -- the node that is down in a run is one that what the source gives lets go down

@@ -7,6 +7,7 @@ use Rattle.ken_model.specs.declared.reports.Lines.{Lines}
 use Rattle.ken_model.specs.Emissions.{AreLegalEmissions, AreByNode}
 use Rattle.ken_model.specs.Ending.{Ends}
 use Rattle.ken_model.specs.Game.{game_of}
+use Rattle.ken_model.specs.Kinds.{handler_of}
 use Rattle.ken_model.specs.Report.{report, text}
 use Rattle.ken_model.specs.Schedule.{IsLegal, play}
 use Rattle.ken_model.specs.Spelling.{spell}
@@ -87,7 +88,7 @@ module _ {D O U : Type 0} (views : Views D O U) (kept : ℕ → Option (Disks D 
     pub told : AreTold left read
     pub script : Script
     pub says : Says read script
-    pub driven : HasDriven views script kept l
+    pub driven : HasDriven views (handler_of script.facts.kind) script kept l
 
   -- why there are none
   abbrev pub IsRefusal : Option (List ℕ) → Status → Type 0

@@ -1,8 +1,11 @@
-//! The top call: a script is read, run over the devices of a world, and its report written.
+//! The top calls: a script is read, run over the devices of a world with the handler of its kind or with one of one's own, and its report
+//! written.
 #![tactic(auto)]
 
+mod service;
 mod status;
 mod top;
 
+pub use service::serve;
 pub use status::Status;
 pub use top::ken;

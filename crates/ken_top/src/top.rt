@@ -6,7 +6,7 @@ ghost use Rattle.ken_drive.specs.Worlds.{HasKeptNothing};
 ghost use Rattle.ken_top.specs.Headline.{are_plain, Ran, IsQuiet, IsComplete, IsLet, IsRunOfSource, IsRefusal, IsOut};
 
 use crate::status::Status;
-use ken_drive::{World, drive};
+use ken_drive::{World, drive_kind};
 use ken_io::{Sink, Source, read_all};
 use ken_model::Lines;
 use ken_report::print;
@@ -77,12 +77,12 @@ fn run<S: Source, W: World>(alloc: Global, source: &mut S, world: &mut W) -> Res
 {
     let bytes = read_all(alloc, source, LIMIT)?;
     let script = ken_script::read(alloc, bytes.as_slice())?;
-    let lines = drive(alloc, &script, world)?;
+    let lines = drive_kind(alloc, &script, world)?;
     Ok(lines)
 }
 
 /// Writes a report, and answers how its run ended.
-fn written<K: Sink>(alloc: Global, sink: &mut K, lines: &Lines) -> Status
+pub(crate) fn written<K: Sink>(alloc: Global, sink: &mut K, lines: &Lines) -> Status
     ensures out { IsOut (K.took sink.old) (K.took sink.new) lines.now result }
     ensures write { result ≡ Status.Write → Rose (K.faults sink.old) (K.faults sink.new) }
     ensures no_failed_write { result ≢ Status.Write → K.faults sink.new ≡ K.faults sink.old }

@@ -64,7 +64,7 @@ fn random_inputs(
 }
 
 // A few cuts. No two are at one call, and no node has more than it may have restarts.
-fn random_cuts(alloc: Global, dice: &mut Lcg, nodes: u64) -> Result<String, AllocError>
+pub(crate) fn random_cuts(alloc: Global, dice: &mut Lcg, nodes: u64) -> Result<String, AllocError>
     requires { 1 ≤ nodes }
 {
     let mut items = String::new(alloc);
@@ -78,7 +78,7 @@ fn random_cuts(alloc: Global, dice: &mut Lcg, nodes: u64) -> Result<String, Allo
 }
 
 // Acts on a few of the first puts of links, no two on one.
-fn random_acts(alloc: Global, dice: &mut Lcg, nodes: u64) -> Result<String, AllocError>
+pub(crate) fn random_acts(alloc: Global, dice: &mut Lcg, nodes: u64) -> Result<String, AllocError>
     requires { 1 ≤ nodes }
 {
     let mut items = String::new(alloc);
@@ -97,7 +97,11 @@ fn random_acts(alloc: Global, dice: &mut Lcg, nodes: u64) -> Result<String, Allo
 }
 
 // A few calls of outlets that fail, no two alike.
-fn random_refusals(alloc: Global, dice: &mut Lcg, nodes: u64) -> Result<String, AllocError>
+pub(crate) fn random_refusals(
+    alloc: Global,
+    dice: &mut Lcg,
+    nodes: u64,
+) -> Result<String, AllocError>
     requires { 1 ≤ nodes }
 {
     let mut items = String::new(alloc);

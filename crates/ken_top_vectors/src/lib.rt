@@ -10,6 +10,8 @@ mod cuts;
 #[cfg(test)]
 mod faults;
 #[cfg(test)]
+mod ledgers;
+#[cfg(test)]
 mod own_world;
 #[cfg(test)]
 mod rows;

@@ -1,4 +1,5 @@
 -- The devices of one node after the other.
+use mir.Syntax.{of_param}
 use Rattle.std.proofs.Common.{◌∷◌, sym, ap, subst, ◌∙◌, arith, ⊎_elim, inl, inr}
 use Rattle.ken_drive.specs.Finishing.{WasKept}
 use Rattle.ken_drive.proofs.Giving.{none-given, one-given, room-left, all-given, AreGiven}
@@ -19,7 +20,7 @@ keep_station-requires g c =
     let room = room-left (λ s k. WasKept s k) c.args.run.stations.items c.in-Some.station c.next.new.self.b.rest.items c.loop-node.node-iterator.a.start 8 (g.W.World.kept c.args.world.now) (g.W.World.kept c.loop-node.world)
     (subst (λ xs. AreGiven (λ s k. WasKept s k) c.args.run.stations.items xs c.loop-node.node-iterator.a.start (g.W.World.kept c.args.world.now) (g.W.World.kept c.loop-node.world)) steps.1.0 c.loop-node.invariant) c.requires in
     let at = steps.0.0 in
-    (c.type_bounds.send-W-Dev, (c.type_bounds.send-W-Luck, (c.type_bounds.send-W-Out, omega (arith, at, room))))
+    (record { owned = c.type_bounds.send-W-Dev.owned; leaving = λ k. c.type_bounds.send-W-Dev.leaving (λ _. k (of_param 1)) }, (record { owned = c.type_bounds.send-W-Luck.owned; leaving = λ k. c.type_bounds.send-W-Luck.leaving (λ _. k (of_param 2)) }, (record { owned = c.type_bounds.send-W-Out.owned; leaving = λ k. c.type_bounds.send-W-Out.leaving (λ _. k (of_param 3)) }, omega (arith, at, room))))
 
 pub loop-node-preserved : goal.loop-node-preserved
 loop-node-preserved g c =

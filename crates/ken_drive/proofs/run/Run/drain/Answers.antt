@@ -7,24 +7,24 @@ use Rattle.ken_drive.proofs.Drained.{drained-after, going-on}
 use Rattle.ken_drive.proofs.run.Run.drain.Goals as goal
 
 pub until_progress-requires : goal.until_progress-requires
-until_progress-requires g c = may-still (λ w. g.D.Disk.told w.disk) (λ w. g.D.Disk.size w.disk) g.U.Outlet.took c.args.self.now c.passes.self c.passes.invariant.stays c.requires
+until_progress-requires g c = may-still (λ w. g.D.Disk.told w.disk) (λ w. g.D.Disk.size w.disk) g.U.Outlet.took g.A.App.handler c.args.self.now c.passes.self c.passes.invariant.stays c.requires
 
 pub returns-in_err-until_progress-clause-drains : goal.returns-in_err-until_progress-clause-drains
 returns-in_err-until_progress-clause-drains g c = λ game made running all.
-    drain-failed (λ w. g.D.Disk.told w.disk) (λ w. g.D.Disk.size w.disk) g.U.Outlet.took game made c.until_progress.new.self c.from_residual.result c.in_err-until_progress.field-0.0 c.from_residual.ensures.1
+    drain-failed (λ w. g.D.Disk.told w.disk) (λ w. g.D.Disk.size w.disk) g.U.Outlet.took g.A.App.handler game made c.until_progress.new.self c.from_residual.result c.in_err-until_progress.field-0.0 c.from_residual.ensures.1
     (c.in_err-until_progress.ensures.progresses game made (c.passes.invariant.stays game made running all) all)
 
 pub passes-preserved : goal.passes-preserved
 passes-preserved g c = record {
-  stays = drain-on (λ w. g.D.Disk.told w.disk) (λ w. g.D.Disk.size w.disk) g.U.Outlet.took c.args.self.now c.passes.self c.until_progress.new.self c.in_ok-until_progress.field-0 c.passes.invariant.stays c.in_ok-until_progress.ensures.progresses;
-  on = going-on (λ w. g.D.Disk.told w.disk) (λ w. g.D.Disk.size w.disk) g.U.Outlet.took c.args.self.now c.passes.self c.until_progress.new.self c.in_ok-until_progress.field-0 c.if-not-branch.true c.passes.invariant.on c.in_ok-until_progress.ensures.passes;
+  stays = drain-on (λ w. g.D.Disk.told w.disk) (λ w. g.D.Disk.size w.disk) g.U.Outlet.took g.A.App.handler c.args.self.now c.passes.self c.until_progress.new.self c.in_ok-until_progress.field-0 c.passes.invariant.stays c.in_ok-until_progress.ensures.progresses;
+  on = going-on (λ w. g.D.Disk.told w.disk) (λ w. g.D.Disk.size w.disk) g.U.Outlet.took g.A.App.handler c.args.self.now c.passes.self c.until_progress.new.self c.in_ok-until_progress.field-0 c.if-not-branch.true c.passes.invariant.on c.in_ok-until_progress.ensures.passes;
   accounts = λ terms game made running all accounted. c.in_ok-until_progress.ensures.accounts terms game made (c.passes.invariant.stays game made running all) all (c.passes.invariant.accounts terms game made running all accounted);
   refused = λ terms game made running all are. c.in_ok-until_progress.ensures.refused terms game made (c.passes.invariant.stays game made running all) all (c.passes.invariant.refused terms game made running all are);
 }
 
 pub returns-clause-drains : goal.returns-clause-drains
 returns-clause-drains g c = λ game made running all.
-    drain-done (λ w. g.D.Disk.told w.disk) (λ w. g.D.Disk.size w.disk) g.U.Outlet.took c.args.self.now c.passes.self c.until_progress.new.self c.in_ok-until_progress.field-0 c.if-not-branch.false c.passes.invariant.stays c.in_ok-until_progress.ensures.progresses game made running all
+    drain-done (λ w. g.D.Disk.told w.disk) (λ w. g.D.Disk.size w.disk) g.U.Outlet.took g.A.App.handler c.args.self.now c.passes.self c.until_progress.new.self c.in_ok-until_progress.field-0 c.if-not-branch.false c.passes.invariant.stays c.in_ok-until_progress.ensures.progresses game made running all
 
 pub returns-clause-accounts : goal.returns-clause-accounts
 returns-clause-accounts g c = λ terms game made running all accounted.
@@ -50,7 +50,7 @@ returns-in_err-until_progress-clause-stops g c = λ terms game made running all 
     (c.in_err-until_progress.ensures.stops terms game made (c.passes.invariant.stays game made running all) all (c.passes.invariant.accounts terms game made running all accounted) (c.passes.invariant.refused terms game made running all are))
 
 pub returns-clause-passes : goal.returns-clause-passes
-returns-clause-passes g c = drained-after (λ w. g.D.Disk.told w.disk) (λ w. g.D.Disk.size w.disk) g.U.Outlet.took c.args.self.now c.passes.self c.until_progress.new.self c.in_ok-until_progress.field-0 c.if-not-branch.false c.passes.invariant.on c.in_ok-until_progress.ensures.passes
+returns-clause-passes g c = drained-after (λ w. g.D.Disk.told w.disk) (λ w. g.D.Disk.size w.disk) g.U.Outlet.took g.A.App.handler c.args.self.now c.passes.self c.until_progress.new.self c.in_ok-until_progress.field-0 c.if-not-branch.false c.passes.invariant.on c.in_ok-until_progress.ensures.passes
 
 pub passes-init : goal.passes-init
-passes-init g c = record { stays = stays-whole (λ w. g.D.Disk.told w.disk) (λ w. g.D.Disk.size w.disk) g.U.Outlet.took c.args.self.now; on = none; accounts = λ terms game made running all accounted. accounted; refused = λ terms game made running all are. are }
+passes-init g c = record { stays = stays-whole (λ w. g.D.Disk.told w.disk) (λ w. g.D.Disk.size w.disk) g.U.Outlet.took g.A.App.handler c.args.self.now; on = none; accounts = λ terms game made running all accounted. accounted; refused = λ terms game made running all are. are }

@@ -10,14 +10,14 @@ loop-node-init g c = none_said c.args.self.now.stations.items c.new-summary.resu
 pub add-requires-clause-created : goal.add-requires-clause-created
 add-requires-clause-created g c =
     let is : slice_index_or c.args.self.now.stations.items c.loop-node.node c.index.result.now ≡ c.index.result.now = sym (c.index.ensures ∙ ap (λ k. slice_index_or c.args.self.now.stations.items k c.index.result.now) c.from.ensures) in
-    created_there (λ w. g.D.Disk.told w.disk) (λ w. g.D.Disk.size w.disk) g.U.Outlet.took c.requires.game c.args.self.now c.requires.ended c.loop-node.node c.index.result.now
-    (subst (λ n. c.loop-node.node < n) (ended_count (λ w. g.D.Disk.told w.disk) (λ w. g.D.Disk.size w.disk) g.U.Outlet.took c.requires.game c.args.self.now c.requires.ended) c.loop-node-test.true) is
+    created_there (λ w. g.D.Disk.told w.disk) (λ w. g.D.Disk.size w.disk) g.U.Outlet.took g.A.App.handler c.requires.game c.args.self.now c.requires.ended c.loop-node.node c.index.result.now
+    (subst (λ n. c.loop-node.node < n) (ended_count (λ w. g.D.Disk.told w.disk) (λ w. g.D.Disk.size w.disk) g.U.Outlet.took g.A.App.handler c.requires.game c.args.self.now c.requires.ended) c.loop-node-test.true) is
 
 pub add-requires-clause-rise : goal.add-requires-clause-rise
 add-requires-clause-rise g c =
     let is : slice_index_or c.args.self.now.stations.items c.loop-node.node c.index.result.now ≡ c.index.result.now = sym (c.index.ensures ∙ ap (λ k. slice_index_or c.args.self.now.stations.items k c.index.result.now) c.from.ensures) in
-    rise_there (λ w. g.D.Disk.told w.disk) (λ w. g.D.Disk.size w.disk) g.U.Outlet.took c.requires.game c.args.self.now c.requires.ended c.loop-node.node c.index.result.now
-    (subst (λ n. c.loop-node.node < n) (ended_count (λ w. g.D.Disk.told w.disk) (λ w. g.D.Disk.size w.disk) g.U.Outlet.took c.requires.game c.args.self.now c.requires.ended) c.loop-node-test.true) is
+    rise_there (λ w. g.D.Disk.told w.disk) (λ w. g.D.Disk.size w.disk) g.U.Outlet.took g.A.App.handler c.requires.game c.args.self.now c.requires.ended c.loop-node.node c.index.result.now
+    (subst (λ n. c.loop-node.node < n) (ended_count (λ w. g.D.Disk.told w.disk) (λ w. g.D.Disk.size w.disk) g.U.Outlet.took g.A.App.handler c.requires.game c.args.self.now c.requires.ended) c.loop-node-test.true) is
 
 pub add-requires-clause-fresh : goal.add-requires-clause-fresh
 add-requires-clause-fresh g c = c.loop-node.invariant.others c.loop-node.node (omega arith)
@@ -25,15 +25,15 @@ add-requires-clause-fresh g c = c.loop-node.invariant.others c.loop-node.node (o
 pub loop-node-preserved : goal.loop-node-preserved
 loop-node-preserved g c =
     let is : c.index.result.now ≡ slice_index_or c.args.self.now.stations.items c.loop-node.node c.index.result.now = c.index.ensures ∙ ap (λ k. slice_index_or c.args.self.now.stations.items k c.index.result.now) c.from.ensures in
-    let count = ended_count (λ w. g.D.Disk.told w.disk) (λ w. g.D.Disk.size w.disk) g.U.Outlet.took c.requires.game c.args.self.now c.requires.ended in
-    let width = ended_width (λ w. g.D.Disk.told w.disk) (λ w. g.D.Disk.size w.disk) g.U.Outlet.took c.requires.game c.args.self.now c.requires.ended in
+    let count = ended_count (λ w. g.D.Disk.told w.disk) (λ w. g.D.Disk.size w.disk) g.U.Outlet.took g.A.App.handler c.requires.game c.args.self.now c.requires.ended in
+    let width = ended_width (λ w. g.D.Disk.told w.disk) (λ w. g.D.Disk.size w.disk) g.U.Outlet.took g.A.App.handler c.requires.game c.args.self.now c.requires.ended in
     let within : c.loop-node.node < length c.args.self.now.stations.items = subst (λ n. c.loop-node.node < n) (count ∙ sym width) c.loop-node-test.true in
     let added = c.in_ok-add.ensures in
     one_said c.loop-node.node c.args.self.now.stations.items c.index.result.now c.loop-node.summary c.add.new.self within is added.its_turns added.others added.emissions added.restarts added.words added.heap c.loop-node.invariant
 
 pub returns : goal.returns
 returns g c =
-    let count = ended_count (λ w. g.D.Disk.told w.disk) (λ w. g.D.Disk.size w.disk) g.U.Outlet.took c.requires.game c.args.self.now c.requires.ended in
-    let width = ended_width (λ w. g.D.Disk.told w.disk) (λ w. g.D.Disk.size w.disk) g.U.Outlet.took c.requires.game c.args.self.now c.requires.ended in
+    let count = ended_count (λ w. g.D.Disk.told w.disk) (λ w. g.D.Disk.size w.disk) g.U.Outlet.took g.A.App.handler c.requires.game c.args.self.now c.requires.ended in
+    let width = ended_width (λ w. g.D.Disk.told w.disk) (λ w. g.D.Disk.size w.disk) g.U.Outlet.took g.A.App.handler c.requires.game c.args.self.now c.requires.ended in
     let all : c.loop-node.node ≡ length c.args.self.now.stations.items = omega (arith, c.loop-node-test.false, c.loop-node.auto.node-end, count, width) in
     subst (λ n. HaveSaid n c.args.self.now.stations.items c.loop-node.summary) all c.loop-node.invariant

@@ -9,16 +9,16 @@ pub returns-then-has_input-clause-some : goal.returns-then-has_input-clause-some
 returns-then-has_input-clause-some g c = λ yes game made is low all. record { from = outside; known = inr refl; waits = c.has_input.ensures.some c.if-has_input.true game made is low }
 
 pub has_message-requires-clause-from : goal.has_message-requires-clause-from
-has_message-requires-clause-from g c = may-work-too (λ w. g.D.Disk.told w.disk) (λ w. g.D.Disk.size w.disk) g.U.Outlet.took c.args.self.now c.args.node c.loop-from.from c.loop-from-test.true c.requires
+has_message-requires-clause-from g c = may-work-too (λ w. g.D.Disk.told w.disk) (λ w. g.D.Disk.size w.disk) g.U.Outlet.took g.A.App.handler c.args.self.now c.args.node c.loop-from.from c.loop-from-test.true c.requires
 
 pub returns-then-has_message-clause-some : goal.returns-then-has_message-clause-some
 returns-then-has_message-clause-some g c = λ yes game made is low all.
-    let below = below-made (λ w. g.D.Disk.told w.disk) (λ w. g.D.Disk.size w.disk) g.U.Outlet.took c.args.self.now game made c.loop-from.from is c.loop-from-test.true in
+    let below = below-made (λ w. g.D.Disk.told w.disk) (λ w. g.D.Disk.size w.disk) g.U.Outlet.took g.A.App.handler c.args.self.now game made c.loop-from.from is c.loop-from-test.true in
     record { from = c.loop-from.from; known = inl (omega (arith, below, all)); waits = c.has_message.ensures.some c.if-has_message.true game made is below low }
 
 pub loop-from-preserved : goal.loop-from-preserved
 loop-from-preserved g c = λ game made is low.
-    let below = below-made (λ w. g.D.Disk.told w.disk) (λ w. g.D.Disk.size w.disk) g.U.Outlet.took c.args.self.now game made c.loop-from.from is c.loop-from-test.true in
+    let below = below-made (λ w. g.D.Disk.told w.disk) (λ w. g.D.Disk.size w.disk) g.U.Outlet.took g.A.App.handler c.args.self.now game made c.loop-from.from is c.loop-from-test.true in
     one-more (λ (u : ℕ). waits_on game is.nodes u c.args.node ≡ 0) c.loop-from.from (c.loop-from.invariant game made is low) (c.has_message.ensures.none c.if-has_message.false game made is below low)
 
 pub returns-clause-none : goal.returns-clause-none

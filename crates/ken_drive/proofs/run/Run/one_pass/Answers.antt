@@ -8,34 +8,34 @@ use Rattle.ken_drive.proofs.Drained.{outcome-broken, pass-first, pass-last}
 use Rattle.ken_drive.proofs.run.Run.one_pass.Goals as goal
 
 pub pass-requires : goal.pass-requires
-pass-requires g c = may-go-on (λ w. g.D.Disk.told w.disk) (λ w. g.D.Disk.size w.disk) g.U.Outlet.took c.args.self.now c.requires.may
+pass-requires g c = may-go-on (λ w. g.D.Disk.told w.disk) (λ w. g.D.Disk.size w.disk) g.U.Outlet.took g.A.App.handler c.args.self.now c.requires.may
 
 pub returns-in_err-pass-clause-outcome : goal.returns-in_err-pass-clause-outcome
 returns-in_err-pass-clause-outcome g c =
-    outcome-failed (λ w. g.D.Disk.told w.disk) (λ w. g.D.Disk.size w.disk) g.U.Outlet.took (PassedIdly (λ w. g.D.Disk.told w.disk) (λ w. g.D.Disk.size w.disk) g.U.Outlet.took) c.args.self.now c.pass.new.self c.from_residual.result c.in_err-pass.field-0.0 c.from_residual.ensures.1 (λ game made running all. c.in_err-pass.ensures.leaves game made running)
+    outcome-failed (λ w. g.D.Disk.told w.disk) (λ w. g.D.Disk.size w.disk) g.U.Outlet.took g.A.App.handler (PassedIdly (λ w. g.D.Disk.told w.disk) (λ w. g.D.Disk.size w.disk) g.U.Outlet.took g.A.App.handler) c.args.self.now c.pass.new.self c.from_residual.result c.in_err-pass.field-0.0 c.from_residual.ensures.1 (λ game made running all. c.in_err-pass.ensures.leaves game made running)
 
 pub has_ended-requires : goal.has_ended-requires
-has_ended-requires g c = may-go-on (λ w. g.D.Disk.told w.disk) (λ w. g.D.Disk.size w.disk) g.U.Outlet.took c.pass.new.self (may-still (λ w. g.D.Disk.told w.disk) (λ w. g.D.Disk.size w.disk) g.U.Outlet.took c.args.self.now c.pass.new.self (passed-whole (λ w. g.D.Disk.told w.disk) (λ w. g.D.Disk.size w.disk) g.U.Outlet.took c.args.self.now c.pass.new.self (λ game made running. c.in_ok-pass.ensures.leaves game made running) c.in_ok-pass.ensures.moves) c.requires.may)
+has_ended-requires g c = may-go-on (λ w. g.D.Disk.told w.disk) (λ w. g.D.Disk.size w.disk) g.U.Outlet.took g.A.App.handler c.pass.new.self (may-still (λ w. g.D.Disk.told w.disk) (λ w. g.D.Disk.size w.disk) g.U.Outlet.took g.A.App.handler c.args.self.now c.pass.new.self (passed-whole (λ w. g.D.Disk.told w.disk) (λ w. g.D.Disk.size w.disk) g.U.Outlet.took g.A.App.handler c.args.self.now c.pass.new.self (λ game made running. c.in_ok-pass.ensures.leaves game made running) c.in_ok-pass.ensures.moves) c.requires.may)
 
 pub returns-then-has_ended-clause-outcome : goal.returns-then-has_ended-clause-outcome
-returns-then-has_ended-clause-outcome g c = passed-ended (λ w. g.D.Disk.told w.disk) (λ w. g.D.Disk.size w.disk) g.U.Outlet.took c.args.self.now c.pass.new.self (λ game made running. c.in_ok-pass.ensures.leaves game made running) c.in_ok-pass.ensures.moves (c.has_ended.ensures.ended c.if-has_ended.true)
+returns-then-has_ended-clause-outcome g c = passed-ended (λ w. g.D.Disk.told w.disk) (λ w. g.D.Disk.size w.disk) g.U.Outlet.took g.A.App.handler c.args.self.now c.pass.new.self (λ game made running. c.in_ok-pass.ensures.leaves game made running) c.in_ok-pass.ensures.moves (c.has_ended.ensures.ended c.if-has_ended.true)
 
 pub left-requires : goal.left-requires
-left-requires g c = few-stations (λ w. g.D.Disk.told w.disk) (λ w. g.D.Disk.size w.disk) g.U.Outlet.took c.pass.new.self (may-still (λ w. g.D.Disk.told w.disk) (λ w. g.D.Disk.size w.disk) g.U.Outlet.took c.args.self.now c.pass.new.self (passed-whole (λ w. g.D.Disk.told w.disk) (λ w. g.D.Disk.size w.disk) g.U.Outlet.took c.args.self.now c.pass.new.self (λ game made running. c.in_ok-pass.ensures.leaves game made running) c.in_ok-pass.ensures.moves) c.requires.may)
+left-requires g c = few-stations (λ w. g.D.Disk.told w.disk) (λ w. g.D.Disk.size w.disk) g.U.Outlet.took g.A.App.handler c.pass.new.self (may-still (λ w. g.D.Disk.told w.disk) (λ w. g.D.Disk.size w.disk) g.U.Outlet.took g.A.App.handler c.args.self.now c.pass.new.self (passed-whole (λ w. g.D.Disk.told w.disk) (λ w. g.D.Disk.size w.disk) g.U.Outlet.took g.A.App.handler c.args.self.now c.pass.new.self (λ game made running. c.in_ok-pass.ensures.leaves game made running) c.in_ok-pass.ensures.moves) c.requires.may)
 
 pub returns-then-left-clause-outcome : goal.returns-then-left-clause-outcome
 returns-then-left-clause-outcome g c =
     let was = c.requires.left in
     let now = c.left.ensures in
     let less = c.if-left.true in
-    ((passed-whole (λ w. g.D.Disk.told w.disk) (λ w. g.D.Disk.size w.disk) g.U.Outlet.took c.args.self.now c.pass.new.self (λ game made running. c.in_ok-pass.ensures.leaves game made running) c.in_ok-pass.ensures.moves), omega (arith, was, now, less))
+    ((passed-whole (λ w. g.D.Disk.told w.disk) (λ w. g.D.Disk.size w.disk) g.U.Outlet.took g.A.App.handler c.args.self.now c.pass.new.self (λ game made running. c.in_ok-pass.ensures.leaves game made running) c.in_ok-pass.ensures.moves), omega (arith, was, now, less))
 
 pub returns-clause-outcome : goal.returns-clause-outcome
 returns-clause-outcome g c =
     let was = c.requires.left in
     let now = c.left.ensures in
     let more = c.if-left.false in
-    (passed-idly (λ w. g.D.Disk.told w.disk) (λ w. g.D.Disk.size w.disk) g.U.Outlet.took c.args.self.now c.pass.new.self (λ game made running. c.in_ok-pass.ensures.leaves game made running) c.in_ok-pass.ensures.moves (omega (arith, was, now, more)) (c.has_ended.ensures.goes_on c.if-has_ended.false), (passed-whole (λ w. g.D.Disk.told w.disk) (λ w. g.D.Disk.size w.disk) g.U.Outlet.took c.args.self.now c.pass.new.self (λ game made running. c.in_ok-pass.ensures.leaves game made running) c.in_ok-pass.ensures.moves), passed-same (λ w. g.D.Disk.told w.disk) (λ w. g.D.Disk.size w.disk) g.U.Outlet.took c.args.self.now c.pass.new.self (λ game made running. c.in_ok-pass.ensures.leaves game made running) c.in_ok-pass.ensures.moves c.requires.may (omega (arith, was, now, more)))
+    (passed-idly (λ w. g.D.Disk.told w.disk) (λ w. g.D.Disk.size w.disk) g.U.Outlet.took g.A.App.handler c.args.self.now c.pass.new.self (λ game made running. c.in_ok-pass.ensures.leaves game made running) c.in_ok-pass.ensures.moves (omega (arith, was, now, more)) (c.has_ended.ensures.goes_on c.if-has_ended.false), (passed-whole (λ w. g.D.Disk.told w.disk) (λ w. g.D.Disk.size w.disk) g.U.Outlet.took g.A.App.handler c.args.self.now c.pass.new.self (λ game made running. c.in_ok-pass.ensures.leaves game made running) c.in_ok-pass.ensures.moves), passed-same (λ w. g.D.Disk.told w.disk) (λ w. g.D.Disk.size w.disk) g.U.Outlet.took g.A.App.handler c.args.self.now c.pass.new.self (λ game made running. c.in_ok-pass.ensures.leaves game made running) c.in_ok-pass.ensures.moves c.requires.may (omega (arith, was, now, more)))
 
 pub returns-in_err-pass-clause-accounts : goal.returns-in_err-pass-clause-accounts
 returns-in_err-pass-clause-accounts g c = λ terms game made running all accounted.
@@ -69,13 +69,13 @@ returns-in_err-pass-clause-stops g c = λ terms game made running all accounted 
     stops-handed-on (λ w. g.D.Disk.told w.disk) (λ w. g.D.Disk.faults w.disk) (λ w. g.D.Disk.fate w.disk) g.O.Oracle.telling g.U.Outlet.faults g.U.Outlet.fate terms game made c.pass.new.self c.from_residual.result c.in_err-pass.field-0.0 c.from_residual.ensures.1 (c.in_err-pass.ensures.stops terms game made running accounted are)
 
 pub returns-in_err-pass-clause-passes : goal.returns-in_err-pass-clause-passes
-returns-in_err-pass-clause-passes g c = outcome-broken (λ w. g.D.Disk.told w.disk) (λ w. g.D.Disk.size w.disk) g.U.Outlet.took c.args.self.now c.pass.new.self c.from_residual.result c.in_err-pass.field-0.0 c.from_residual.ensures.1
+returns-in_err-pass-clause-passes g c = outcome-broken (λ w. g.D.Disk.told w.disk) (λ w. g.D.Disk.size w.disk) g.U.Outlet.took g.A.App.handler c.args.self.now c.pass.new.self c.from_residual.result c.in_err-pass.field-0.0 c.from_residual.ensures.1
 
 pub returns-then-has_ended-clause-passes : goal.returns-then-has_ended-clause-passes
-returns-then-has_ended-clause-passes g c = pass-last (λ w. g.D.Disk.told w.disk) (λ w. g.D.Disk.size w.disk) g.U.Outlet.took c.args.self.now c.pass.new.self c.in_ok-pass.ensures.visited
+returns-then-has_ended-clause-passes g c = pass-last (λ w. g.D.Disk.told w.disk) (λ w. g.D.Disk.size w.disk) g.U.Outlet.took g.A.App.handler c.args.self.now c.pass.new.self c.in_ok-pass.ensures.visited
 
 pub returns-then-left-clause-passes : goal.returns-then-left-clause-passes
-returns-then-left-clause-passes g c = pass-first (λ w. g.D.Disk.told w.disk) (λ w. g.D.Disk.size w.disk) g.U.Outlet.took c.args.self.now c.pass.new.self c.in_ok-pass.ensures.visited (c.has_ended.ensures.goes_on c.if-has_ended.false)
+returns-then-left-clause-passes g c = pass-first (λ w. g.D.Disk.told w.disk) (λ w. g.D.Disk.size w.disk) g.U.Outlet.took g.A.App.handler c.args.self.now c.pass.new.self c.in_ok-pass.ensures.visited (c.has_ended.ensures.goes_on c.if-has_ended.false)
 
 pub returns-clause-passes : goal.returns-clause-passes
-returns-clause-passes g c = pass-first (λ w. g.D.Disk.told w.disk) (λ w. g.D.Disk.size w.disk) g.U.Outlet.took c.args.self.now c.pass.new.self c.in_ok-pass.ensures.visited (c.has_ended.ensures.goes_on c.if-has_ended.false)
+returns-clause-passes g c = pass-first (λ w. g.D.Disk.told w.disk) (λ w. g.D.Disk.size w.disk) g.U.Outlet.took g.A.App.handler c.args.self.now c.pass.new.self c.in_ok-pass.ensures.visited (c.has_ended.ensures.goes_on c.if-has_ended.false)

@@ -11,12 +11,12 @@ use Rattle.ken_drive.proofs.Patched.{call-broken, changes-none, err-still, not-r
 use Rattle.ken_drive.proofs.Visits.{MayEmit, less-then, may-emit-then}
 
 pub emit-requires : goal.emit-requires
-emit-requires g c = still-works (λ w. g.D.Disk.told w.disk) (λ w. g.D.Disk.size w.disk) g.U.Outlet.took c.args.node c.args.self.now c.outputs.self c.outputs.invariant.up c.requires
+emit-requires g c = still-works (λ w. g.D.Disk.told w.disk) (λ w. g.D.Disk.size w.disk) g.U.Outlet.took g.A.App.handler c.args.node c.args.self.now c.outputs.self c.outputs.invariant.up c.requires
 
 pub outputs-init : goal.outputs-init
 outputs-init g c = record {
-  up = stays-first (λ w. g.D.Disk.told w.disk) (λ w. g.D.Disk.size w.disk) g.U.Outlet.took c.args.node c.args.self.now;
-  moved = moves-none (λ w. g.D.Disk.told w.disk) (λ w. g.D.Disk.size w.disk) g.U.Outlet.took (λ game. MayEmit c.args.node) c.args.node c.args.self.now (λ game f. inl refl);
+  up = stays-first (λ w. g.D.Disk.told w.disk) (λ w. g.D.Disk.size w.disk) g.U.Outlet.took g.A.App.handler c.args.node c.args.self.now;
+  moved = moves-none (λ w. g.D.Disk.told w.disk) (λ w. g.D.Disk.size w.disk) g.U.Outlet.took g.A.App.handler (λ game. MayEmit c.args.node) c.args.node c.args.self.now (λ game f. inl refl);
   accounts = λ terms game made running low accounted. accounted;
   refused = λ terms made low are. are;
   called = changes-none (λ a b. IsNotRestarted a b × KeepsImage (λ w. g.D.Disk.told w.disk) a b) c.args.node c.args.self.now (λ a. (not-restarted a, keeps-image (λ w. g.D.Disk.told w.disk) a));
@@ -24,7 +24,7 @@ outputs-init g c = record {
 
 pub returns-in_err-emit-clause-leaves : goal.returns-in_err-emit-clause-leaves
 returns-in_err-emit-clause-leaves g c = λ game made running low.
-    handed-on (λ w. g.D.Disk.told w.disk) (λ w. g.D.Disk.size w.disk) g.U.Outlet.took c.args.node c.from_residual.result c.in_err-emit.field-0.0 game made c.emit.new.self c.from_residual.ensures.1 (c.in_err-emit.ensures.leaves game made (c.outputs.invariant.up game made running low) low)
+    handed-on (λ w. g.D.Disk.told w.disk) (λ w. g.D.Disk.size w.disk) g.U.Outlet.took g.A.App.handler c.args.node c.from_residual.result c.in_err-emit.field-0.0 game made c.emit.new.self c.from_residual.ensures.1 (c.in_err-emit.ensures.leaves game made (c.outputs.invariant.up game made running low) low)
 
 pub returns-in_err-emit-clause-accounts : goal.returns-in_err-emit-clause-accounts
 returns-in_err-emit-clause-accounts g c = λ terms game made running low accounted.
@@ -32,13 +32,13 @@ returns-in_err-emit-clause-accounts g c = λ terms game made running low account
 
 pub returns-in_err-emit-clause-less : goal.returns-in_err-emit-clause-less
 returns-in_err-emit-clause-less g c = λ was.
-    less-then (λ w. g.D.Disk.told w.disk) (λ w. g.D.Disk.size w.disk) g.U.Outlet.took (λ game. MayEmit c.args.node) c.args.node c.args.self.now c.outputs.self c.emit.new.self c.from_residual.result c.in_err-emit.field-0.0 c.outputs.invariant.moved c.requires c.from_residual.ensures.1
+    less-then (λ w. g.D.Disk.told w.disk) (λ w. g.D.Disk.size w.disk) g.U.Outlet.took g.A.App.handler (λ game. MayEmit c.args.node) c.args.node c.args.self.now c.outputs.self c.emit.new.self c.from_residual.result c.in_err-emit.field-0.0 c.outputs.invariant.moved c.requires c.from_residual.ensures.1
     (λ same. c.in_err-emit.ensures.less (cc)) was
 
 pub outputs-preserved : goal.outputs-preserved
 outputs-preserved g c = record {
   up = λ game made running low. c.in_ok-emit.ensures.leaves game made (c.outputs.invariant.up game made running low) low;
-  moved = moves-then (λ w. g.D.Disk.told w.disk) (λ w. g.D.Disk.size w.disk) g.U.Outlet.took (λ game. MayEmit c.args.node) (λ game. Emits c.args.node) (λ game. MayEmit c.args.node) c.args.node c.args.self.now c.outputs.self c.emit.new.self (λ game f f2 f3 a b. inr (may-emit-then c.args.node f f2 f3 a b)) c.outputs.invariant.moved c.in_ok-emit.ensures.moves;
+  moved = moves-then (λ w. g.D.Disk.told w.disk) (λ w. g.D.Disk.size w.disk) g.U.Outlet.took g.A.App.handler (λ game. MayEmit c.args.node) (λ game. Emits c.args.node) (λ game. MayEmit c.args.node) c.args.node c.args.self.now c.outputs.self c.emit.new.self (λ game f f2 f3 a b. inr (may-emit-then c.args.node f f2 f3 a b)) c.outputs.invariant.moved c.in_ok-emit.ensures.moves;
   accounts = λ terms game made running low accounted. c.in_ok-emit.ensures.accounts terms game made (c.outputs.invariant.up game made running low) low (c.outputs.invariant.accounts terms game made running low accounted);
   refused = λ terms made low are. c.in_ok-emit.ensures.refused terms made low (c.outputs.invariant.refused terms made low are);
   called = went-then (λ w. g.D.Disk.told w.disk) (KeepsImage (λ w. g.D.Disk.told w.disk)) (KeepsImage (λ w. g.D.Disk.told w.disk)) (KeepsImage (λ w. g.D.Disk.told w.disk)) c.args.node c.args.self.now c.outputs.self c.emit.new.self (keeps-image-then (λ w. g.D.Disk.told w.disk)) c.outputs.invariant.called c.in_ok-emit.ensures.called;
@@ -51,7 +51,7 @@ pub returns-clause-accounts : goal.returns-clause-accounts
 returns-clause-accounts g c = λ terms game made running low accounted. c.in_ok-emit.ensures.accounts terms game made (c.outputs.invariant.up game made running low) low (c.outputs.invariant.accounts terms game made running low accounted)
 
 pub returns-clause-moves : goal.returns-clause-moves
-returns-clause-moves g c = moves-then (λ w. g.D.Disk.told w.disk) (λ w. g.D.Disk.size w.disk) g.U.Outlet.took (λ game. MayEmit c.args.node) (λ game. Emits c.args.node) (λ game. Emits c.args.node) c.args.node c.args.self.now c.outputs.self c.emit.new.self (λ game. may-emit-then c.args.node) c.outputs.invariant.moved c.in_ok-emit.ensures.moves
+returns-clause-moves g c = moves-then (λ w. g.D.Disk.told w.disk) (λ w. g.D.Disk.size w.disk) g.U.Outlet.took g.A.App.handler (λ game. MayEmit c.args.node) (λ game. Emits c.args.node) (λ game. Emits c.args.node) c.args.node c.args.self.now c.outputs.self c.emit.new.self (λ game. may-emit-then c.args.node) c.outputs.invariant.moved c.in_ok-emit.ensures.moves
 
 pub returns-in_err-emit-clause-refused : goal.returns-in_err-emit-clause-refused
 returns-in_err-emit-clause-refused g c = λ terms made low are.

@@ -9,9 +9,9 @@ use Rattle.ken_drive.proofs.Visits.{MayEmit}
 
 abbrev pub invariant-outputs : goal.invariant-outputs
 invariant-outputs g l = record {
-  up : StaysUp (λ w. g.D.Disk.told w.disk) (λ w. g.D.Disk.size w.disk) g.U.Outlet.took l.node l.fn.self l.self;
-  moved : Moves (λ w. g.D.Disk.told w.disk) (λ w. g.D.Disk.size w.disk) g.U.Outlet.took (λ game. MayEmit l.node) l.node l.fn.self l.self;
-  accounts : StaysAccounted (λ w. g.D.Disk.told w.disk) (λ w. g.D.Disk.size w.disk) g.U.Outlet.took (λ w. g.D.Disk.faults w.disk) (λ w. g.D.Disk.fate w.disk) g.O.Oracle.telling l.node l.fn.self l.self;
+  up : StaysUp (λ w. g.D.Disk.told w.disk) (λ w. g.D.Disk.size w.disk) g.U.Outlet.took g.A.App.handler l.node l.fn.self l.self;
+  moved : Moves (λ w. g.D.Disk.told w.disk) (λ w. g.D.Disk.size w.disk) g.U.Outlet.took g.A.App.handler (λ game. MayEmit l.node) l.node l.fn.self l.self;
+  accounts : StaysAccounted (λ w. g.D.Disk.told w.disk) (λ w. g.D.Disk.size w.disk) g.U.Outlet.took g.A.App.handler (λ w. g.D.Disk.faults w.disk) (λ w. g.D.Disk.fate w.disk) g.O.Oracle.telling l.node l.fn.self l.self;
   called : Changes (λ a b. IsNotRestarted a b × KeepsImage (λ w. g.D.Disk.told w.disk) a b) l.node l.fn.self l.self;
   refused : StaysRefused g.U.Outlet.faults g.U.Outlet.fate l.node l.fn.self l.self;
 }

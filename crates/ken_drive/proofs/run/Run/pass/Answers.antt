@@ -8,7 +8,7 @@ use Rattle.ken_drive.proofs.Patched.{visited-all, visited-more, visited-none}
 use Rattle.ken_drive.proofs.Visits.{pass-all, pass-more, pass-none}
 
 pub loop-node-init : goal.loop-node-init
-loop-node-init g c = record { visited = visited-none (λ w. g.D.Disk.told w.disk) c.args.self.now; refused = λ terms made most are. are; accounts = λ terms game made running accounted. accounted; up = λ game made running. running; moved = pass-none (λ w. g.D.Disk.told w.disk) (λ w. g.D.Disk.size w.disk) g.U.Outlet.took c.args.self.now }
+loop-node-init g c = record { visited = visited-none (λ w. g.D.Disk.told w.disk) c.args.self.now; refused = λ terms made most are. are; accounts = λ terms game made running accounted. accounted; up = λ game made running. running; moved = pass-none (λ w. g.D.Disk.told w.disk) (λ w. g.D.Disk.size w.disk) g.U.Outlet.took g.A.App.handler c.args.self.now }
 
 pub visit-requires : goal.visit-requires
 visit-requires g c = record {
@@ -20,7 +20,7 @@ visit-requires g c = record {
 
 pub returns-in_err-visit-clause-leaves : goal.returns-in_err-visit-clause-leaves
 returns-in_err-visit-clause-leaves g c = λ game made running.
-    run-handed-on (λ w. g.D.Disk.told w.disk) (λ w. g.D.Disk.size w.disk) g.U.Outlet.took c.from_residual.result c.in_err-visit.field-0.0 game made c.visit.new.self c.from_residual.ensures.1
+    run-handed-on (λ w. g.D.Disk.told w.disk) (λ w. g.D.Disk.size w.disk) g.U.Outlet.took g.A.App.handler c.from_residual.result c.in_err-visit.field-0.0 game made c.visit.new.self c.from_residual.ensures.1
     (c.in_err-visit.ensures.leaves game made (c.loop-node.invariant.up game made running) (subst (λ n. c.loop-node.node < n) running.stands.count c.loop-node-test.true))
 
 pub returns-in_err-visit-clause-accounts : goal.returns-in_err-visit-clause-accounts
@@ -31,7 +31,7 @@ returns-in_err-visit-clause-accounts g c = λ terms game made running accounted.
 pub loop-node-preserved : goal.loop-node-preserved
 loop-node-preserved g c = record {
   up = λ game made running. c.in_ok-visit.ensures.leaves game made (c.loop-node.invariant.up game made running) (subst (λ n. c.loop-node.node < n) running.stands.count c.loop-node-test.true);
-  moved = pass-more (λ w. g.D.Disk.told w.disk) (λ w. g.D.Disk.size w.disk) g.U.Outlet.took c.loop-node.node c.args.self.now c.loop-node.self c.visit.new.self c.loop-node.invariant.moved c.in_ok-visit.ensures.moves
+  moved = pass-more (λ w. g.D.Disk.told w.disk) (λ w. g.D.Disk.size w.disk) g.U.Outlet.took g.A.App.handler c.loop-node.node c.args.self.now c.loop-node.self c.visit.new.self c.loop-node.invariant.moved c.in_ok-visit.ensures.moves
       (λ game made running. subst (λ n. c.loop-node.node < n) running.stands.count c.loop-node-test.true);
   accounts = λ terms game made running accounted. c.in_ok-visit.ensures.accounts terms game made (c.loop-node.invariant.up game made running) (subst (λ n. c.loop-node.node < n) running.stands.count c.loop-node-test.true) (c.loop-node.invariant.accounts terms game made running accounted);
   visited = visited-more (λ w. g.D.Disk.told w.disk) c.loop-node.node c.args.self.now c.loop-node.self c.visit.new.self c.loop-node.invariant.visited c.in_ok-visit.ensures.visited;
@@ -42,7 +42,7 @@ pub returns-clause-leaves : goal.returns-clause-leaves
 returns-clause-leaves g c = λ game made running. c.loop-node.invariant.up game made running
 
 pub returns-clause-moves : goal.returns-clause-moves
-returns-clause-moves g c = pass-all (λ w. g.D.Disk.told w.disk) (λ w. g.D.Disk.size w.disk) g.U.Outlet.took c.loop-node.node c.args.self.now c.loop-node.self c.loop-node.invariant.moved (λ game made running. let count = running.stands.count in let past = c.loop-node-test.false in let within = c.loop-node.auto.node-end in omega (arith, count, past, within))
+returns-clause-moves g c = pass-all (λ w. g.D.Disk.told w.disk) (λ w. g.D.Disk.size w.disk) g.U.Outlet.took g.A.App.handler c.loop-node.node c.args.self.now c.loop-node.self c.loop-node.invariant.moved (λ game made running. let count = running.stands.count in let past = c.loop-node-test.false in let within = c.loop-node.auto.node-end in omega (arith, count, past, within))
 
 pub returns-in_err-visit-clause-refused : goal.returns-in_err-visit-clause-refused
 returns-in_err-visit-clause-refused g c = λ terms made most are.

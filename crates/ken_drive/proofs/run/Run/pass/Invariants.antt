@@ -8,9 +8,9 @@ use Rattle.ken_drive.specs.Flowing.{AllMoved}
 
 abbrev pub invariant-loop-node : goal.invariant-loop-node
 invariant-loop-node g l = record {
-  up : StaysRunning (λ w. g.D.Disk.told w.disk) (λ w. g.D.Disk.size w.disk) g.U.Outlet.took l.fn.self l.self;
-  moved : AllMoved (λ w. g.D.Disk.told w.disk) (λ w. g.D.Disk.size w.disk) g.U.Outlet.took (λ game. VisitedTo game 0 l.node) l.fn.self l.self;
-  accounts : StayAccounted (λ w. g.D.Disk.told w.disk) (λ w. g.D.Disk.size w.disk) g.U.Outlet.took (λ w. g.D.Disk.faults w.disk) (λ w. g.D.Disk.fate w.disk) g.O.Oracle.telling l.fn.self l.self;
+  up : StaysRunning (λ w. g.D.Disk.told w.disk) (λ w. g.D.Disk.size w.disk) g.U.Outlet.took g.A.App.handler l.fn.self l.self;
+  moved : AllMoved (λ w. g.D.Disk.told w.disk) (λ w. g.D.Disk.size w.disk) g.U.Outlet.took g.A.App.handler (λ game. VisitedTo game 0 l.node) l.fn.self l.self;
+  accounts : StayAccounted (λ w. g.D.Disk.told w.disk) (λ w. g.D.Disk.size w.disk) g.U.Outlet.took g.A.App.handler (λ w. g.D.Disk.faults w.disk) (λ w. g.D.Disk.fate w.disk) g.O.Oracle.telling l.fn.self l.self;
   visited : VisitedBelow (λ w. g.D.Disk.told w.disk) l.node l.fn.self l.self;
   refused : StayRefused g.U.Outlet.faults g.U.Outlet.fate l.fn.self l.self;
 }

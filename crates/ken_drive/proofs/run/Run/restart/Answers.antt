@@ -38,7 +38,7 @@ returns-in-Ok-clause-worked g c =
 pub tries-preserved : goal.tries-preserved
 tries-preserved g c = record {
   down = λ game made stopped.
-      subst (λ x. LeavesFault (λ w. g.D.Disk.told w.disk) (λ w. g.D.Disk.size w.disk) g.U.Outlet.took x game made c.args.node c.restart_once.new.self) c.in-Err-Disk.field-0-is (c.in-Err-Disk.ensures.leaves game made (c.tries.invariant.down game made stopped));
+      subst (λ x. LeavesFault (λ w. g.D.Disk.told w.disk) (λ w. g.D.Disk.size w.disk) g.U.Outlet.took g.A.App.handler x game made c.args.node c.restart_once.new.self) c.in-Err-Disk.field-0-is (c.in-Err-Disk.ensures.leaves game made (c.tries.invariant.down game made stopped));
   less =
       let most = c.tries.invariant.most_is in
       let less = c.tries.invariant.less in
@@ -79,7 +79,7 @@ returns-clause-stops g c = λ terms game made stopped held.
 
 pub returns-in-Err-Damaged-clause-leaves : goal.returns-in-Err-Damaged-clause-leaves
 returns-in-Err-Damaged-clause-leaves g c = λ game made stopped.
-    subst (λ x. LeavesFault (λ w. g.D.Disk.told w.disk) (λ w. g.D.Disk.size w.disk) g.U.Outlet.took x game made c.args.node c.restart_once.new.self) c.in-Err-Damaged.field-0-is (c.in-Err-Damaged.ensures.leaves game made (c.tries.invariant.down game made stopped))
+    subst (λ x. LeavesFault (λ w. g.D.Disk.told w.disk) (λ w. g.D.Disk.size w.disk) g.U.Outlet.took g.A.App.handler x game made c.args.node c.restart_once.new.self) c.in-Err-Damaged.field-0-is (c.in-Err-Damaged.ensures.leaves game made (c.tries.invariant.down game made stopped))
 
 pub returns-in-Ok-clause-restarted : goal.returns-in-Ok-clause-restarted
 returns-in-Ok-clause-restarted g c = changes-then MayHaveTried WasRestarted WasRestarted c.args.node c.args.self.now c.tries.self c.restart_once.new.self tried-last c.tries.invariant.tried c.in-Ok.ensures.restarted

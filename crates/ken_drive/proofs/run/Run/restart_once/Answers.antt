@@ -34,7 +34,7 @@ restart-requires-clause-tries g c =
 pub returns-clause-leaves : goal.returns-clause-leaves
 returns-clause-leaves g c = λ game made stopped.
     let is : slice_index_or c.args.self.now.stations.items c.args.node c.index_mut.result.now ≡ c.index_mut.result.now = sym (c.index_mut.ensures.value ∙ ap (λ k. slice_index_or c.args.self.now.stations.items k c.index_mut.result.now) c.from.ensures) in
-    restart-leaves (λ w. g.D.Disk.told w.disk) (λ w. g.D.Disk.size w.disk) g.U.Outlet.took game made c.args.self.now (record c.args.self.now { stations = with_item c.args.self.now.stations c.from.result c.restart.new.self }) c.args.node c.index_mut.result.now c.restart.new.self stopped is (refl, refl) (ap (λ k. slice_set c.args.self.now.stations.items k c.restart.new.self) c.from.ensures)
+    restart-leaves (λ w. g.D.Disk.told w.disk) (λ w. g.D.Disk.size w.disk) g.U.Outlet.took g.A.App.handler game made c.args.self.now (record c.args.self.now { stations = with_item c.args.self.now.stations c.from.result c.restart.new.self }) c.args.node c.index_mut.result.now c.restart.new.self stopped is (refl, refl) (ap (λ k. slice_set c.args.self.now.stations.items k c.restart.new.self) c.from.ensures)
     refl c.restart.ensures.emissions c.restart.ensures.rest c.restart.result
     (c.restart.ensures.back game c.args.node stopped.given (stopped.nodes c.args.node) stopped.doubt (subst (λ x. IsDown (λ w. g.D.Disk.told w.disk) game c.args.node stopped.given (stopped.nodes c.args.node) stopped.doubt x.node.stage) is (stopped.down c.index_mut.result.now)))
 
@@ -60,7 +60,7 @@ returns-clause-worked g c = λ within.
     let is : slice_index_or c.args.self.now.stations.items c.args.node c.index_mut.result.now ≡ c.index_mut.result.now = sym (c.index_mut.ensures.value ∙ ap (λ k. slice_index_or c.args.self.now.stations.items k c.index_mut.result.now) c.from.ensures) in
     let tries = tries-is c.args.self.now.stations.items c.args.node c.index_mut.result.now (subst (λ n. c.args.node < n) (sym stopped.stands.width) stopped.known) ∙ ap (λ x. x.restarts) is in
     let left = c.requires.left in
-    restart-worked (λ w. g.D.Disk.told w.disk) (λ w. g.D.Disk.size w.disk) g.U.Outlet.took c.requires.may.game c.requires.may.made c.args.self.now (record c.args.self.now { stations = with_item c.args.self.now.stations c.from.result c.restart.new.self }) c.args.node c.index_mut.result.now c.restart.new.self stopped is (refl, refl) (ap (λ k. slice_set c.args.self.now.stations.items k c.restart.new.self) c.from.ensures)
+    restart-worked (λ w. g.D.Disk.told w.disk) (λ w. g.D.Disk.size w.disk) g.U.Outlet.took g.A.App.handler c.requires.may.game c.requires.may.made c.args.self.now (record c.args.self.now { stations = with_item c.args.self.now.stations c.from.result c.restart.new.self }) c.args.node c.index_mut.result.now c.restart.new.self stopped is (refl, refl) (ap (λ k. slice_set c.args.self.now.stations.items k c.restart.new.self) c.from.ensures)
     refl (omega (arith, tries, left, within)) c.restart.result
     (c.restart.ensures.back c.requires.may.game c.args.node stopped.given (stopped.nodes c.args.node) stopped.doubt (subst (λ x. IsDown (λ w. g.D.Disk.told w.disk) c.requires.may.game c.args.node stopped.given (stopped.nodes c.args.node) stopped.doubt x.node.stage) is (stopped.down c.index_mut.result.now)))
 

@@ -12,10 +12,10 @@ lines-requires g c =
 pub returns : goal.returns
 returns g c = λ terms game made running all accounted are plain.
     let has = c.in_ok-drain.ensures.drains game made running all in
-    let ended : IsEnded (λ w. g.D.Disk.told w.disk) (λ w. g.D.Disk.size w.disk) g.U.Outlet.took game c.drain.new.self = record { made = made; running = has.0; all = all; ended = has.1 } in
+    let ended : IsEnded (λ w. g.D.Disk.told w.disk) (λ w. g.D.Disk.size w.disk) g.U.Outlet.took g.A.App.handler game c.drain.new.self = record { made = made; running = has.0; all = all; ended = has.1 } in
     record { ended = ended; report = c.in_ok-lines.ensures game ended plain; accounts = c.in_ok-drain.ensures.accounts terms game made running all accounted; refusals = c.in_ok-drain.ensures.refused terms game made running all are }
 
 pub returns-in_err-drain : goal.returns-in_err-drain
 returns-in_err-drain g c = λ terms game made running all accounted are plain.
-    end-failed (λ w. g.D.Disk.told w.disk) (λ w. g.D.Disk.size w.disk) (λ w. g.D.Disk.faults w.disk) (λ w. g.D.Disk.fate w.disk) g.O.Oracle.telling g.U.Outlet.took g.U.Outlet.faults g.U.Outlet.fate terms game c.drain.new.self made all c.from_residual.result c.in_err-drain.field-0.0 c.from_residual.ensures.1
+    end-failed (λ w. g.D.Disk.told w.disk) (λ w. g.D.Disk.size w.disk) (λ w. g.D.Disk.faults w.disk) (λ w. g.D.Disk.fate w.disk) g.O.Oracle.telling g.U.Outlet.took g.A.App.handler g.U.Outlet.faults g.U.Outlet.fate terms game c.drain.new.self made all c.from_residual.result c.in_err-drain.field-0.0 c.from_residual.ensures.1
     (c.in_err-drain.ensures.accounts terms game made running all accounted) (c.in_err-drain.ensures.drains game made running all) (c.in_err-drain.ensures.stops terms game made running all accounted are) (c.in_err-drain.ensures.refused terms game made running all are)

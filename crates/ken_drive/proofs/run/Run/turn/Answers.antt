@@ -16,15 +16,15 @@ use Rattle.ken_drive.proofs.Turning.{turn-less, turn-moves, turn-worked, turn-re
 pub turn-requires-clause-may : goal.turn-requires-clause-may
 turn-requires-clause-may g c =
     let is : slice_index_or c.args.self.now.stations.items c.args.node c.index_mut.result.now ≡ c.index_mut.result.now = sym (c.index_mut.ensures.value ∙ ap (λ k. slice_index_or c.args.self.now.stations.items k c.index_mut.result.now) c.from.ensures) in
-    may-turn (λ w. g.D.Disk.told w.disk) (λ w. g.D.Disk.size w.disk) g.U.Outlet.took c.requires.game c.requires.made c.args.self.now c.args.node c.index_mut.result.now c.requires.running c.requires.known is
+    may-turn (λ w. g.D.Disk.told w.disk) (λ w. g.D.Disk.size w.disk) g.U.Outlet.took g.A.App.handler c.requires.game c.requires.made c.args.self.now c.args.node c.index_mut.result.now c.requires.running c.requires.known is
 
 pub returns-clause-leaves : goal.returns-clause-leaves
 returns-clause-leaves g c = λ game made running low.
     let is : slice_index_or c.args.self.now.stations.items c.args.node c.index_mut.result.now ≡ c.index_mut.result.now = sym (c.index_mut.ensures.value ∙ ap (λ k. slice_index_or c.args.self.now.stations.items k c.index_mut.result.now) c.from.ensures) in
-    let own = own-station (λ w. g.D.Disk.told w.disk) (λ w. g.D.Disk.size w.disk) g.U.Outlet.took game made c.args.self.now c.args.node c.index_mut.result.now running low is in
-    let up = up-before (λ w. g.D.Disk.told w.disk) (λ w. g.D.Disk.size w.disk) g.U.Outlet.took game made c.args.self.now c.args.node c.index_mut.result.now running low is in
+    let own = own-station (λ w. g.D.Disk.told w.disk) (λ w. g.D.Disk.size w.disk) g.U.Outlet.took g.A.App.handler game made c.args.self.now c.args.node c.index_mut.result.now running low is in
+    let up = up-before (λ w. g.D.Disk.told w.disk) (λ w. g.D.Disk.size w.disk) g.U.Outlet.took g.A.App.handler game made c.args.self.now c.args.node c.index_mut.result.now running low is in
     let steps = c.turn.ensures.steps game c.args.node (running.nodes c.args.node) up (sym own.acks.from) running.stands.handler in
-    turn-leaves (λ w. g.D.Disk.told w.disk) (λ w. g.D.Disk.size w.disk) g.U.Outlet.took game made c.args.self.now _ c.args.node c.index_mut.result.now c.turn.new.self running low is (refl, refl) (ap (λ k. slice_set c.args.self.now.stations.items k c.turn.new.self) c.from.ensures)
+    turn-leaves (λ w. g.D.Disk.told w.disk) (λ w. g.D.Disk.size w.disk) g.U.Outlet.took g.A.App.handler game made c.args.self.now _ c.args.node c.index_mut.result.now c.turn.new.self running low is (refl, refl) (ap (λ k. slice_set c.args.self.now.stations.items k c.turn.new.self) c.from.ensures)
     steps.0 _ up.handler c.turn.ensures.emissions c.turn.ensures.rest c.turn.result steps.1
 
 pub returns-clause-fewer : goal.returns-clause-fewer
@@ -32,18 +32,18 @@ returns-clause-fewer g c = λ was.
     let game = c.requires.game in
     let running = c.requires.running in
     let is : slice_index_or c.args.self.now.stations.items c.args.node c.index_mut.result.now ≡ c.index_mut.result.now = sym (c.index_mut.ensures.value ∙ ap (λ k. slice_index_or c.args.self.now.stations.items k c.index_mut.result.now) c.from.ensures) in
-    let own = own-station (λ w. g.D.Disk.told w.disk) (λ w. g.D.Disk.size w.disk) g.U.Outlet.took game c.requires.made c.args.self.now c.args.node c.index_mut.result.now running c.requires.known is in
-    let up = up-before (λ w. g.D.Disk.told w.disk) (λ w. g.D.Disk.size w.disk) g.U.Outlet.took game c.requires.made c.args.self.now c.args.node c.index_mut.result.now running c.requires.known is in
+    let own = own-station (λ w. g.D.Disk.told w.disk) (λ w. g.D.Disk.size w.disk) g.U.Outlet.took g.A.App.handler game c.requires.made c.args.self.now c.args.node c.index_mut.result.now running c.requires.known is in
+    let up = up-before (λ w. g.D.Disk.told w.disk) (λ w. g.D.Disk.size w.disk) g.U.Outlet.took g.A.App.handler game c.requires.made c.args.self.now c.args.node c.index_mut.result.now running c.requires.known is in
     let steps = c.turn.ensures.steps game c.args.node (running.nodes c.args.node) up (sym own.acks.from) running.stands.handler in
     fewer-at turns_left c.args.self.now.stations.items c.from.result c.args.node c.index_mut.result.now c.turn.new.self c.from.ensures (subst (λ n. c.args.node < n) (sym running.stands.width) c.requires.known) is
-    (turn-fewer (λ w. g.D.Disk.told w.disk) (λ w. g.D.Disk.size w.disk) g.U.Outlet.took game c.requires.made c.args.self.now (record c.args.self.now { stations = with_item c.args.self.now.stations c.from.result c.turn.new.self; waiting = c.turn.new.waiting }) c.args.node c.index_mut.result.now c.turn.new.self running c.requires.known is (refl, refl) (ap (λ k. slice_set c.args.self.now.stations.items k c.turn.new.self) c.from.ensures)
+    (turn-fewer (λ w. g.D.Disk.told w.disk) (λ w. g.D.Disk.size w.disk) g.U.Outlet.took g.A.App.handler game c.requires.made c.args.self.now (record c.args.self.now { stations = with_item c.args.self.now.stations c.from.result c.turn.new.self; waiting = c.turn.new.waiting }) c.args.node c.index_mut.result.now c.turn.new.self running c.requires.known is (refl, refl) (ap (λ k. slice_set c.args.self.now.stations.items k c.turn.new.self) c.from.ensures)
     steps.0 _ up.handler c.turn.ensures.emissions c.turn.ensures.rest c.turn.result was steps.1)
 
 pub returns-clause-accounts : goal.returns-clause-accounts
 returns-clause-accounts g c = λ terms game made running low accounted.
     let is : slice_index_or c.args.self.now.stations.items c.args.node c.index_mut.result.now ≡ c.index_mut.result.now = sym (c.index_mut.ensures.value ∙ ap (λ k. slice_index_or c.args.self.now.stations.items k c.index_mut.result.now) c.from.ensures) in
-    let own = own-station (λ w. g.D.Disk.told w.disk) (λ w. g.D.Disk.size w.disk) g.U.Outlet.took game made c.args.self.now c.args.node c.index_mut.result.now running low is in
-    let up = up-before (λ w. g.D.Disk.told w.disk) (λ w. g.D.Disk.size w.disk) g.U.Outlet.took game made c.args.self.now c.args.node c.index_mut.result.now running low is in
+    let own = own-station (λ w. g.D.Disk.told w.disk) (λ w. g.D.Disk.size w.disk) g.U.Outlet.took g.A.App.handler game made c.args.self.now c.args.node c.index_mut.result.now running low is in
+    let up = up-before (λ w. g.D.Disk.told w.disk) (λ w. g.D.Disk.size w.disk) g.U.Outlet.took g.A.App.handler game made c.args.self.now c.args.node c.index_mut.result.now running low is in
     let was = own-accounts (λ w. g.D.Disk.told w.disk) (λ w. g.D.Disk.faults w.disk) (λ w. g.D.Disk.fate w.disk) g.O.Oracle.telling terms game made c.args.self.now c.args.node c.index_mut.result.now low is accounted in
     let steps = c.turn.ensures.steps game c.args.node (running.nodes c.args.node) up (sym own.acks.from) running.stands.handler in
     turn-accounts (λ w. g.D.Disk.told w.disk) (λ w. g.D.Disk.size w.disk) (λ w. g.D.Disk.faults w.disk) (λ w. g.D.Disk.fate w.disk) g.O.Oracle.telling terms game made c.args.self.now (record c.args.self.now { stations = with_item c.args.self.now.stations c.from.result c.turn.new.self; waiting = c.turn.new.waiting }) c.args.node c.index_mut.result.now c.turn.new.self
@@ -53,13 +53,13 @@ returns-clause-accounts g c = λ terms game made running low accounted.
 
 pub returns-clause-moves : goal.returns-clause-moves
 returns-clause-moves g c =
-    moves-from (λ w. g.D.Disk.told w.disk) (λ w. g.D.Disk.size w.disk) g.U.Outlet.took (λ game. Rested game c.args.node) c.args.node c.args.self.now (record c.args.self.now { stations = with_item c.args.self.now.stations c.from.result c.turn.new.self; waiting = c.turn.new.waiting }) c.turn.result
+    moves-from (λ w. g.D.Disk.told w.disk) (λ w. g.D.Disk.size w.disk) g.U.Outlet.took g.A.App.handler (λ game. Rested game c.args.node) c.args.node c.args.self.now (record c.args.self.now { stations = with_item c.args.self.now.stations c.from.result c.turn.new.self; waiting = c.turn.new.waiting }) c.turn.result
     (λ game made running low.
     let is : slice_index_or c.args.self.now.stations.items c.args.node c.index_mut.result.now ≡ c.index_mut.result.now = sym (c.index_mut.ensures.value ∙ ap (λ k. slice_index_or c.args.self.now.stations.items k c.index_mut.result.now) c.from.ensures) in
-    let own = own-station (λ w. g.D.Disk.told w.disk) (λ w. g.D.Disk.size w.disk) g.U.Outlet.took game made c.args.self.now c.args.node c.index_mut.result.now running low is in
-    let up = up-before (λ w. g.D.Disk.told w.disk) (λ w. g.D.Disk.size w.disk) g.U.Outlet.took game made c.args.self.now c.args.node c.index_mut.result.now running low is in
+    let own = own-station (λ w. g.D.Disk.told w.disk) (λ w. g.D.Disk.size w.disk) g.U.Outlet.took g.A.App.handler game made c.args.self.now c.args.node c.index_mut.result.now running low is in
+    let up = up-before (λ w. g.D.Disk.told w.disk) (λ w. g.D.Disk.size w.disk) g.U.Outlet.took g.A.App.handler game made c.args.self.now c.args.node c.index_mut.result.now running low is in
     let steps = c.turn.ensures.steps game c.args.node (running.nodes c.args.node) up (sym own.acks.from) running.stands.handler in
-    turn-moves (λ w. g.D.Disk.told w.disk) (λ w. g.D.Disk.size w.disk) g.U.Outlet.took game made c.args.self.now (record c.args.self.now { stations = with_item c.args.self.now.stations c.from.result c.turn.new.self; waiting = c.turn.new.waiting }) c.args.node c.index_mut.result.now c.turn.new.self running low is (refl, refl) (ap (λ k. slice_set c.args.self.now.stations.items k c.turn.new.self) c.from.ensures) refl
+    turn-moves (λ w. g.D.Disk.told w.disk) (λ w. g.D.Disk.size w.disk) g.U.Outlet.took g.A.App.handler game made c.args.self.now (record c.args.self.now { stations = with_item c.args.self.now.stations c.from.result c.turn.new.self; waiting = c.turn.new.waiting }) c.args.node c.index_mut.result.now c.turn.new.self running low is (refl, refl) (ap (λ k. slice_set c.args.self.now.stations.items k c.turn.new.self) c.from.ensures) refl
     steps.0 _ up.handler c.turn.ensures.emissions c.turn.ensures.refusals c.turn.ensures.rest c.turn.result steps.1)
 
 pub returns-clause-worked : goal.returns-clause-worked
@@ -69,10 +69,10 @@ returns-clause-worked g c = λ was.
     let running = c.requires.running in
     let low = c.requires.known in
     let is : slice_index_or c.args.self.now.stations.items c.args.node c.index_mut.result.now ≡ c.index_mut.result.now = sym (c.index_mut.ensures.value ∙ ap (λ k. slice_index_or c.args.self.now.stations.items k c.index_mut.result.now) c.from.ensures) in
-    let own = own-station (λ w. g.D.Disk.told w.disk) (λ w. g.D.Disk.size w.disk) g.U.Outlet.took game made c.args.self.now c.args.node c.index_mut.result.now running low is in
-    let up = up-before (λ w. g.D.Disk.told w.disk) (λ w. g.D.Disk.size w.disk) g.U.Outlet.took game made c.args.self.now c.args.node c.index_mut.result.now running low is in
+    let own = own-station (λ w. g.D.Disk.told w.disk) (λ w. g.D.Disk.size w.disk) g.U.Outlet.took g.A.App.handler game made c.args.self.now c.args.node c.index_mut.result.now running low is in
+    let up = up-before (λ w. g.D.Disk.told w.disk) (λ w. g.D.Disk.size w.disk) g.U.Outlet.took g.A.App.handler game made c.args.self.now c.args.node c.index_mut.result.now running low is in
     let steps = c.turn.ensures.steps game c.args.node (running.nodes c.args.node) up (sym own.acks.from) running.stands.handler in
-    turn-worked (λ w. g.D.Disk.told w.disk) (λ w. g.D.Disk.size w.disk) g.U.Outlet.took game made c.args.self.now (record c.args.self.now { stations = with_item c.args.self.now.stations c.from.result c.turn.new.self; waiting = c.turn.new.waiting }) c.args.node c.index_mut.result.now c.turn.new.self running low is (refl, refl) (ap (λ k. slice_set c.args.self.now.stations.items k c.turn.new.self) c.from.ensures) refl
+    turn-worked (λ w. g.D.Disk.told w.disk) (λ w. g.D.Disk.size w.disk) g.U.Outlet.took g.A.App.handler game made c.args.self.now (record c.args.self.now { stations = with_item c.args.self.now.stations c.from.result c.turn.new.self; waiting = c.turn.new.waiting }) c.args.node c.index_mut.result.now c.turn.new.self running low is (refl, refl) (ap (λ k. slice_set c.args.self.now.stations.items k c.turn.new.self) c.from.ensures) refl
     steps.0 _ up.handler c.turn.ensures.emissions c.turn.ensures.refusals c.turn.ensures.rest c.turn.result was steps.1
 
 pub returns-clause-less : goal.returns-clause-less
@@ -82,17 +82,17 @@ returns-clause-less g c = λ was.
     let running = c.requires.running in
     let low = c.requires.known in
     let is : slice_index_or c.args.self.now.stations.items c.args.node c.index_mut.result.now ≡ c.index_mut.result.now = sym (c.index_mut.ensures.value ∙ ap (λ k. slice_index_or c.args.self.now.stations.items k c.index_mut.result.now) c.from.ensures) in
-    let own = own-station (λ w. g.D.Disk.told w.disk) (λ w. g.D.Disk.size w.disk) g.U.Outlet.took game made c.args.self.now c.args.node c.index_mut.result.now running low is in
-    let up = up-before (λ w. g.D.Disk.told w.disk) (λ w. g.D.Disk.size w.disk) g.U.Outlet.took game made c.args.self.now c.args.node c.index_mut.result.now running low is in
+    let own = own-station (λ w. g.D.Disk.told w.disk) (λ w. g.D.Disk.size w.disk) g.U.Outlet.took g.A.App.handler game made c.args.self.now c.args.node c.index_mut.result.now running low is in
+    let up = up-before (λ w. g.D.Disk.told w.disk) (λ w. g.D.Disk.size w.disk) g.U.Outlet.took g.A.App.handler game made c.args.self.now c.args.node c.index_mut.result.now running low is in
     let steps = c.turn.ensures.steps game c.args.node (running.nodes c.args.node) up (sym own.acks.from) running.stands.handler in
-    turn-less (λ w. g.D.Disk.told w.disk) (λ w. g.D.Disk.size w.disk) g.U.Outlet.took game made c.args.self.now (record c.args.self.now { stations = with_item c.args.self.now.stations c.from.result c.turn.new.self; waiting = c.turn.new.waiting }) c.args.node c.index_mut.result.now c.turn.new.self running low is (refl, refl) (ap (λ k. slice_set c.args.self.now.stations.items k c.turn.new.self) c.from.ensures) refl
+    turn-less (λ w. g.D.Disk.told w.disk) (λ w. g.D.Disk.size w.disk) g.U.Outlet.took g.A.App.handler game made c.args.self.now (record c.args.self.now { stations = with_item c.args.self.now.stations c.from.result c.turn.new.self; waiting = c.turn.new.waiting }) c.args.node c.index_mut.result.now c.turn.new.self running low is (refl, refl) (ap (λ k. slice_set c.args.self.now.stations.items k c.turn.new.self) c.from.ensures) refl
     steps.0 _ up.handler c.turn.ensures.emissions c.turn.ensures.refusals c.turn.ensures.rest c.turn.result was steps.1
 
 pub returns-clause-refused : goal.returns-clause-refused
 returns-clause-refused g c = λ terms made low are.
     let is : slice_index_or c.args.self.now.stations.items c.args.node c.index_mut.result.now ≡ c.index_mut.result.now = sym (c.index_mut.ensures.value ∙ ap (λ k. slice_index_or c.args.self.now.stations.items k c.index_mut.result.now) c.from.ensures) in
-    let up = up-before (λ w. g.D.Disk.told w.disk) (λ w. g.D.Disk.size w.disk) g.U.Outlet.took c.requires.game c.requires.made c.args.self.now c.args.node c.index_mut.result.now c.requires.running c.requires.known is in
-    let own = own-station (λ w. g.D.Disk.told w.disk) (λ w. g.D.Disk.size w.disk) g.U.Outlet.took c.requires.game c.requires.made c.args.self.now c.args.node c.index_mut.result.now c.requires.running c.requires.known is in
+    let up = up-before (λ w. g.D.Disk.told w.disk) (λ w. g.D.Disk.size w.disk) g.U.Outlet.took g.A.App.handler c.requires.game c.requires.made c.args.self.now c.args.node c.index_mut.result.now c.requires.running c.requires.known is in
+    let own = own-station (λ w. g.D.Disk.told w.disk) (λ w. g.D.Disk.size w.disk) g.U.Outlet.took g.A.App.handler c.requires.game c.requires.made c.args.self.now c.args.node c.index_mut.result.now c.requires.running c.requires.known is in
     let steps = c.turn.ensures.steps c.requires.game c.args.node (c.requires.running.nodes c.args.node) up (sym own.acks.from) c.requires.running.stands.handler in
     let same = c.turn.ensures.refusals in
     call-refused g.U.Outlet.faults g.U.Outlet.fate terms made c.args.self.now (record c.args.self.now { stations = with_item c.args.self.now.stations c.from.result c.turn.new.self; waiting = c.turn.new.waiting }) c.args.node c.index_mut.result.now c.turn.new.self low (subst (λ n. c.args.node < n) (sym c.requires.running.stands.width) c.requires.known) is (ap (λ k. slice_set c.args.self.now.stations.items k c.turn.new.self) c.from.ensures) are c.turn.result
@@ -107,8 +107,8 @@ returns-clause-called g c =
 pub returns-clause-rests : goal.returns-clause-rests
 returns-clause-rests g c =
     let is : slice_index_or c.args.self.now.stations.items c.args.node c.index_mut.result.now ≡ c.index_mut.result.now = sym (c.index_mut.ensures.value ∙ ap (λ k. slice_index_or c.args.self.now.stations.items k c.index_mut.result.now) c.from.ensures) in
-    let own = own-station (λ w. g.D.Disk.told w.disk) (λ w. g.D.Disk.size w.disk) g.U.Outlet.took c.requires.game c.requires.made c.args.self.now c.args.node c.index_mut.result.now c.requires.running c.requires.known is in
-    let up = up-before (λ w. g.D.Disk.told w.disk) (λ w. g.D.Disk.size w.disk) g.U.Outlet.took c.requires.game c.requires.made c.args.self.now c.args.node c.index_mut.result.now c.requires.running c.requires.known is in
+    let own = own-station (λ w. g.D.Disk.told w.disk) (λ w. g.D.Disk.size w.disk) g.U.Outlet.took g.A.App.handler c.requires.game c.requires.made c.args.self.now c.args.node c.index_mut.result.now c.requires.running c.requires.known is in
+    let up = up-before (λ w. g.D.Disk.told w.disk) (λ w. g.D.Disk.size w.disk) g.U.Outlet.took g.A.App.handler c.requires.game c.requires.made c.args.self.now c.args.node c.index_mut.result.now c.requires.running c.requires.known is in
     let steps = c.turn.ensures.steps c.requires.game c.args.node (c.requires.running.nodes c.args.node) up (sym own.acks.from) c.requires.running.stands.handler in
-    turn-rests (λ w. g.D.Disk.told w.disk) (λ w. g.D.Disk.size w.disk) g.U.Outlet.took c.requires.game c.requires.made c.args.self.now (record c.args.self.now { stations = with_item c.args.self.now.stations c.from.result c.turn.new.self; waiting = c.turn.new.waiting }) c.args.node c.index_mut.result.now c.turn.new.self c.requires.running c.requires.known is (refl, refl) (ap (λ k. slice_set c.args.self.now.stations.items k c.turn.new.self) c.from.ensures) refl
+    turn-rests (λ w. g.D.Disk.told w.disk) (λ w. g.D.Disk.size w.disk) g.U.Outlet.took g.A.App.handler c.requires.game c.requires.made c.args.self.now (record c.args.self.now { stations = with_item c.args.self.now.stations c.from.result c.turn.new.self; waiting = c.turn.new.waiting }) c.args.node c.index_mut.result.now c.turn.new.self c.requires.running c.requires.known is (refl, refl) (ap (λ k. slice_set c.args.self.now.stations.items k c.turn.new.self) c.from.ensures) refl
     steps.0 _ up.handler c.turn.ensures.emissions c.turn.ensures.refusals c.turn.ensures.rest c.turn.result steps.1

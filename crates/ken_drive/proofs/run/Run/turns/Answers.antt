@@ -11,12 +11,12 @@ use Rattle.ken_drive.proofs.Patched.{call-broken, changes-none, err-still, not-r
 use Rattle.ken_drive.proofs.Visits.{less-then, moves-worked, rested-then}
 
 pub turn-requires : goal.turn-requires
-turn-requires g c = still-works (λ w. g.D.Disk.told w.disk) (λ w. g.D.Disk.size w.disk) g.U.Outlet.took c.args.node c.args.self.now c.turns.self c.turns.invariant.up c.requires
+turn-requires g c = still-works (λ w. g.D.Disk.told w.disk) (λ w. g.D.Disk.size w.disk) g.U.Outlet.took g.A.App.handler c.args.node c.args.self.now c.turns.self c.turns.invariant.up c.requires
 
 pub turns-init : goal.turns-init
 turns-init g c = record {
-  up = stays-first (λ w. g.D.Disk.told w.disk) (λ w. g.D.Disk.size w.disk) g.U.Outlet.took c.args.node c.args.self.now;
-  moved = moves-none (λ w. g.D.Disk.told w.disk) (λ w. g.D.Disk.size w.disk) g.U.Outlet.took (λ game f f2. f2 ≡ f) c.args.node c.args.self.now (λ game f. refl);
+  up = stays-first (λ w. g.D.Disk.told w.disk) (λ w. g.D.Disk.size w.disk) g.U.Outlet.took g.A.App.handler c.args.node c.args.self.now;
+  moved = moves-none (λ w. g.D.Disk.told w.disk) (λ w. g.D.Disk.size w.disk) g.U.Outlet.took g.A.App.handler (λ game f f2. f2 ≡ f) c.args.node c.args.self.now (λ game f. refl);
   accounts = λ terms game made running low accounted. accounted;
   refused = λ terms made low are. are;
   called = changes-none (λ a b. IsNotRestarted a b × MaySync (λ w. g.D.Disk.told w.disk) a b) c.args.node c.args.self.now (λ a. (not-restarted a, may-sync (λ w. g.D.Disk.told w.disk) a));
@@ -24,7 +24,7 @@ turns-init g c = record {
 
 pub returns-in_err-turn-clause-leaves : goal.returns-in_err-turn-clause-leaves
 returns-in_err-turn-clause-leaves g c = λ game made running low.
-    handed-on (λ w. g.D.Disk.told w.disk) (λ w. g.D.Disk.size w.disk) g.U.Outlet.took c.args.node c.from_residual.result c.in_err-turn.field-0.0 game made c.turn.new.self c.from_residual.ensures.1 (c.in_err-turn.ensures.leaves game made (c.turns.invariant.up game made running low) low)
+    handed-on (λ w. g.D.Disk.told w.disk) (λ w. g.D.Disk.size w.disk) g.U.Outlet.took g.A.App.handler c.args.node c.from_residual.result c.in_err-turn.field-0.0 game made c.turn.new.self c.from_residual.ensures.1 (c.in_err-turn.ensures.leaves game made (c.turns.invariant.up game made running low) low)
 
 pub returns-in_err-turn-clause-accounts : goal.returns-in_err-turn-clause-accounts
 returns-in_err-turn-clause-accounts g c = λ terms game made running low accounted.
@@ -32,13 +32,13 @@ returns-in_err-turn-clause-accounts g c = λ terms game made running low account
 
 pub returns-in_err-turn-clause-less : goal.returns-in_err-turn-clause-less
 returns-in_err-turn-clause-less g c = λ was.
-    less-then (λ w. g.D.Disk.told w.disk) (λ w. g.D.Disk.size w.disk) g.U.Outlet.took (λ game f f2. f2 ≡ f) c.args.node c.args.self.now c.turns.self c.turn.new.self c.from_residual.result c.in_err-turn.field-0.0 c.turns.invariant.moved c.requires c.from_residual.ensures.1
+    less-then (λ w. g.D.Disk.told w.disk) (λ w. g.D.Disk.size w.disk) g.U.Outlet.took g.A.App.handler (λ game f f2. f2 ≡ f) c.args.node c.args.self.now c.turns.self c.turn.new.self c.from_residual.result c.in_err-turn.field-0.0 c.turns.invariant.moved c.requires c.from_residual.ensures.1
     (λ same. c.in_err-turn.ensures.less (cc)) was
 
 pub turns-preserved : goal.turns-preserved
 turns-preserved g c = record {
   up = λ game made running low. c.in_ok-turn.ensures.leaves game made (c.turns.invariant.up game made running low) low;
-  moved = moves-worked (λ w. g.D.Disk.told w.disk) (λ w. g.D.Disk.size w.disk) g.U.Outlet.took (λ game f f2. f2 ≡ f) (λ game f f2. f2 ≡ f) c.args.node c.args.self.now c.turns.self c.turn.new.self c.turns.invariant.moved (λ game made running low. c.in_ok-turn.ensures.leaves game made running low) (c.in_ok-turn.ensures.worked (let is = c.in-Turn.is in cc));
+  moved = moves-worked (λ w. g.D.Disk.told w.disk) (λ w. g.D.Disk.size w.disk) g.U.Outlet.took g.A.App.handler (λ game f f2. f2 ≡ f) (λ game f f2. f2 ≡ f) c.args.node c.args.self.now c.turns.self c.turn.new.self c.turns.invariant.moved (λ game made running low. c.in_ok-turn.ensures.leaves game made running low) (c.in_ok-turn.ensures.worked (let is = c.in-Turn.is in cc));
   accounts = λ terms game made running low accounted. c.in_ok-turn.ensures.accounts terms game made (c.turns.invariant.up game made running low) low (c.turns.invariant.accounts terms game made running low accounted);
   refused = λ terms made low are. c.in_ok-turn.ensures.refused terms made low (c.turns.invariant.refused terms made low are);
   called = went-then (λ w. g.D.Disk.told w.disk) (MaySync (λ w. g.D.Disk.told w.disk)) (MaySync (λ w. g.D.Disk.told w.disk)) (MaySync (λ w. g.D.Disk.told w.disk)) c.args.node c.args.self.now c.turns.self c.turn.new.self (may-sync-then (λ w. g.D.Disk.told w.disk)) c.turns.invariant.called c.in_ok-turn.ensures.called;
@@ -51,7 +51,7 @@ pub returns-clause-accounts : goal.returns-clause-accounts
 returns-clause-accounts g c = λ terms game made running low accounted. c.in_ok-turn.ensures.accounts terms game made (c.turns.invariant.up game made running low) low (c.turns.invariant.accounts terms game made running low accounted)
 
 pub returns-clause-moves : goal.returns-clause-moves
-returns-clause-moves g c = moves-then (λ w. g.D.Disk.told w.disk) (λ w. g.D.Disk.size w.disk) g.U.Outlet.took (λ game f f2. f2 ≡ f) (λ game. Rested game c.args.node) (λ game. Rested game c.args.node) c.args.node c.args.self.now c.turns.self c.turn.new.self (λ game f f2 f3 same b. rested-then game c.args.node f f2 f3 same b) c.turns.invariant.moved c.in_ok-turn.ensures.moves
+returns-clause-moves g c = moves-then (λ w. g.D.Disk.told w.disk) (λ w. g.D.Disk.size w.disk) g.U.Outlet.took g.A.App.handler (λ game f f2. f2 ≡ f) (λ game. Rested game c.args.node) (λ game. Rested game c.args.node) c.args.node c.args.self.now c.turns.self c.turn.new.self (λ game f f2 f3 same b. rested-then game c.args.node f f2 f3 same b) c.turns.invariant.moved c.in_ok-turn.ensures.moves
 
 pub returns-in_err-turn-clause-refused : goal.returns-in_err-turn-clause-refused
 returns-in_err-turn-clause-refused g c = λ terms made low are.

@@ -11,19 +11,19 @@ use Rattle.ken_drive.proofs.Patched.{call-broken, err-still, ok-still, still-the
 use Rattle.ken_drive.proofs.Visits.{visit-moves}
 
 pub pages-requires : goal.pages-requires
-pages-requires g c = (still-works (λ w. g.D.Disk.told w.disk) (λ w. g.D.Disk.size w.disk) g.U.Outlet.took c.args.node c.args.self.now c.turns.new.self c.in_ok-turns.ensures.leaves c.requires)
+pages-requires g c = (still-works (λ w. g.D.Disk.told w.disk) (λ w. g.D.Disk.size w.disk) g.U.Outlet.took g.A.App.handler c.args.node c.args.self.now c.turns.new.self c.in_ok-turns.ensures.leaves c.requires)
 
 pub settle-requires : goal.settle-requires
-settle-requires g c = (still-works (λ w. g.D.Disk.told w.disk) (λ w. g.D.Disk.size w.disk) g.U.Outlet.took c.args.node c.turns.new.self c.pages.new.self c.in_ok-pages.ensures.leaves (still-works (λ w. g.D.Disk.told w.disk) (λ w. g.D.Disk.size w.disk) g.U.Outlet.took c.args.node c.args.self.now c.turns.new.self c.in_ok-turns.ensures.leaves c.requires))
+settle-requires g c = (still-works (λ w. g.D.Disk.told w.disk) (λ w. g.D.Disk.size w.disk) g.U.Outlet.took g.A.App.handler c.args.node c.turns.new.self c.pages.new.self c.in_ok-pages.ensures.leaves (still-works (λ w. g.D.Disk.told w.disk) (λ w. g.D.Disk.size w.disk) g.U.Outlet.took g.A.App.handler c.args.node c.args.self.now c.turns.new.self c.in_ok-turns.ensures.leaves c.requires))
 
 pub send-requires : goal.send-requires
-send-requires g c = (still-works (λ w. g.D.Disk.told w.disk) (λ w. g.D.Disk.size w.disk) g.U.Outlet.took c.args.node c.pages.new.self c.settle.new.self c.in_ok-settle.ensures.leaves (still-works (λ w. g.D.Disk.told w.disk) (λ w. g.D.Disk.size w.disk) g.U.Outlet.took c.args.node c.turns.new.self c.pages.new.self c.in_ok-pages.ensures.leaves (still-works (λ w. g.D.Disk.told w.disk) (λ w. g.D.Disk.size w.disk) g.U.Outlet.took c.args.node c.args.self.now c.turns.new.self c.in_ok-turns.ensures.leaves c.requires)))
+send-requires g c = (still-works (λ w. g.D.Disk.told w.disk) (λ w. g.D.Disk.size w.disk) g.U.Outlet.took g.A.App.handler c.args.node c.pages.new.self c.settle.new.self c.in_ok-settle.ensures.leaves (still-works (λ w. g.D.Disk.told w.disk) (λ w. g.D.Disk.size w.disk) g.U.Outlet.took g.A.App.handler c.args.node c.turns.new.self c.pages.new.self c.in_ok-pages.ensures.leaves (still-works (λ w. g.D.Disk.told w.disk) (λ w. g.D.Disk.size w.disk) g.U.Outlet.took g.A.App.handler c.args.node c.args.self.now c.turns.new.self c.in_ok-turns.ensures.leaves c.requires)))
 
 pub hear-requires : goal.hear-requires
-hear-requires g c = (still-works (λ w. g.D.Disk.told w.disk) (λ w. g.D.Disk.size w.disk) g.U.Outlet.took c.args.node c.settle.new.self c.send.new.self c.in_ok-send.ensures.leaves (still-works (λ w. g.D.Disk.told w.disk) (λ w. g.D.Disk.size w.disk) g.U.Outlet.took c.args.node c.pages.new.self c.settle.new.self c.in_ok-settle.ensures.leaves (still-works (λ w. g.D.Disk.told w.disk) (λ w. g.D.Disk.size w.disk) g.U.Outlet.took c.args.node c.turns.new.self c.pages.new.self c.in_ok-pages.ensures.leaves (still-works (λ w. g.D.Disk.told w.disk) (λ w. g.D.Disk.size w.disk) g.U.Outlet.took c.args.node c.args.self.now c.turns.new.self c.in_ok-turns.ensures.leaves c.requires))))
+hear-requires g c = (still-works (λ w. g.D.Disk.told w.disk) (λ w. g.D.Disk.size w.disk) g.U.Outlet.took g.A.App.handler c.args.node c.settle.new.self c.send.new.self c.in_ok-send.ensures.leaves (still-works (λ w. g.D.Disk.told w.disk) (λ w. g.D.Disk.size w.disk) g.U.Outlet.took g.A.App.handler c.args.node c.pages.new.self c.settle.new.self c.in_ok-settle.ensures.leaves (still-works (λ w. g.D.Disk.told w.disk) (λ w. g.D.Disk.size w.disk) g.U.Outlet.took g.A.App.handler c.args.node c.turns.new.self c.pages.new.self c.in_ok-pages.ensures.leaves (still-works (λ w. g.D.Disk.told w.disk) (λ w. g.D.Disk.size w.disk) g.U.Outlet.took g.A.App.handler c.args.node c.args.self.now c.turns.new.self c.in_ok-turns.ensures.leaves c.requires))))
 
 pub outputs-requires : goal.outputs-requires
-outputs-requires g c = (still-works (λ w. g.D.Disk.told w.disk) (λ w. g.D.Disk.size w.disk) g.U.Outlet.took c.args.node c.send.new.self c.hear.new.self c.in_ok-hear.ensures.leaves (still-works (λ w. g.D.Disk.told w.disk) (λ w. g.D.Disk.size w.disk) g.U.Outlet.took c.args.node c.settle.new.self c.send.new.self c.in_ok-send.ensures.leaves (still-works (λ w. g.D.Disk.told w.disk) (λ w. g.D.Disk.size w.disk) g.U.Outlet.took c.args.node c.pages.new.self c.settle.new.self c.in_ok-settle.ensures.leaves (still-works (λ w. g.D.Disk.told w.disk) (λ w. g.D.Disk.size w.disk) g.U.Outlet.took c.args.node c.turns.new.self c.pages.new.self c.in_ok-pages.ensures.leaves (still-works (λ w. g.D.Disk.told w.disk) (λ w. g.D.Disk.size w.disk) g.U.Outlet.took c.args.node c.args.self.now c.turns.new.self c.in_ok-turns.ensures.leaves c.requires)))))
+outputs-requires g c = (still-works (λ w. g.D.Disk.told w.disk) (λ w. g.D.Disk.size w.disk) g.U.Outlet.took g.A.App.handler c.args.node c.send.new.self c.hear.new.self c.in_ok-hear.ensures.leaves (still-works (λ w. g.D.Disk.told w.disk) (λ w. g.D.Disk.size w.disk) g.U.Outlet.took g.A.App.handler c.args.node c.settle.new.self c.send.new.self c.in_ok-send.ensures.leaves (still-works (λ w. g.D.Disk.told w.disk) (λ w. g.D.Disk.size w.disk) g.U.Outlet.took g.A.App.handler c.args.node c.pages.new.self c.settle.new.self c.in_ok-settle.ensures.leaves (still-works (λ w. g.D.Disk.told w.disk) (λ w. g.D.Disk.size w.disk) g.U.Outlet.took g.A.App.handler c.args.node c.turns.new.self c.pages.new.self c.in_ok-pages.ensures.leaves (still-works (λ w. g.D.Disk.told w.disk) (λ w. g.D.Disk.size w.disk) g.U.Outlet.took g.A.App.handler c.args.node c.args.self.now c.turns.new.self c.in_ok-turns.ensures.leaves c.requires)))))
 
 pub returns-in_err-pages-clause-accounts : goal.returns-in_err-pages-clause-accounts
 returns-in_err-pages-clause-accounts g c = λ terms game made r0 low a0.
@@ -77,28 +77,28 @@ returns-clause-accounts g c = λ terms game made r0 low a0.
 
 pub returns-in_err-pages-clause-less : goal.returns-in_err-pages-clause-less
 returns-in_err-pages-clause-less g c = λ was.
-    let l0 = moves-less (λ w. g.D.Disk.told w.disk) (λ w. g.D.Disk.size w.disk) g.U.Outlet.took (λ game. Rested game c.args.node) c.args.node c.args.self.now c.turns.new.self c.in_ok-turns.ensures.moves c.requires in
+    let l0 = moves-less (λ w. g.D.Disk.told w.disk) (λ w. g.D.Disk.size w.disk) g.U.Outlet.took g.A.App.handler (λ game. Rested game c.args.node) c.args.node c.args.self.now c.turns.new.self c.in_ok-turns.ensures.moves c.requires in
     less-err c.args.self.now c.turns.new.self c.pages.new.self c.from_residual-in_err-pages.result c.in_err-pages.field-0.0 (omega (arith, l0)) c.from_residual-in_err-pages.ensures.1 (λ same. c.in_err-pages.ensures.less (cc)) was
 
 pub returns-in_err-settle-clause-less : goal.returns-in_err-settle-clause-less
 returns-in_err-settle-clause-less g c = λ was.
-    let l0 = moves-less (λ w. g.D.Disk.told w.disk) (λ w. g.D.Disk.size w.disk) g.U.Outlet.took (λ game. Rested game c.args.node) c.args.node c.args.self.now c.turns.new.self c.in_ok-turns.ensures.moves c.requires in
-    let l1 = moves-less (λ w. g.D.Disk.told w.disk) (λ w. g.D.Disk.size w.disk) g.U.Outlet.took (λ game. Written c.args.node) c.args.node c.turns.new.self c.pages.new.self c.in_ok-pages.ensures.moves (still-works (λ w. g.D.Disk.told w.disk) (λ w. g.D.Disk.size w.disk) g.U.Outlet.took c.args.node c.args.self.now c.turns.new.self c.in_ok-turns.ensures.leaves c.requires) in
+    let l0 = moves-less (λ w. g.D.Disk.told w.disk) (λ w. g.D.Disk.size w.disk) g.U.Outlet.took g.A.App.handler (λ game. Rested game c.args.node) c.args.node c.args.self.now c.turns.new.self c.in_ok-turns.ensures.moves c.requires in
+    let l1 = moves-less (λ w. g.D.Disk.told w.disk) (λ w. g.D.Disk.size w.disk) g.U.Outlet.took g.A.App.handler (λ game. Written c.args.node) c.args.node c.turns.new.self c.pages.new.self c.in_ok-pages.ensures.moves (still-works (λ w. g.D.Disk.told w.disk) (λ w. g.D.Disk.size w.disk) g.U.Outlet.took g.A.App.handler c.args.node c.args.self.now c.turns.new.self c.in_ok-turns.ensures.leaves c.requires) in
     less-err c.args.self.now c.pages.new.self c.settle.new.self c.from_residual-in_err-settle.result c.in_err-settle.field-0.0 (omega (arith, l0, l1)) c.from_residual-in_err-settle.ensures.1 (λ same. c.in_err-settle.ensures.less (cc)) was
 
 pub returns-in_err-send-clause-less : goal.returns-in_err-send-clause-less
 returns-in_err-send-clause-less g c = λ was.
-    let l0 = moves-less (λ w. g.D.Disk.told w.disk) (λ w. g.D.Disk.size w.disk) g.U.Outlet.took (λ game. Rested game c.args.node) c.args.node c.args.self.now c.turns.new.self c.in_ok-turns.ensures.moves c.requires in
-    let l1 = moves-less (λ w. g.D.Disk.told w.disk) (λ w. g.D.Disk.size w.disk) g.U.Outlet.took (λ game. Written c.args.node) c.args.node c.turns.new.self c.pages.new.self c.in_ok-pages.ensures.moves (still-works (λ w. g.D.Disk.told w.disk) (λ w. g.D.Disk.size w.disk) g.U.Outlet.took c.args.node c.args.self.now c.turns.new.self c.in_ok-turns.ensures.leaves c.requires) in
-    let l2 = moves-less (λ w. g.D.Disk.told w.disk) (λ w. g.D.Disk.size w.disk) g.U.Outlet.took (λ game. Written c.args.node) c.args.node c.pages.new.self c.settle.new.self c.in_ok-settle.ensures.moves (still-works (λ w. g.D.Disk.told w.disk) (λ w. g.D.Disk.size w.disk) g.U.Outlet.took c.args.node c.turns.new.self c.pages.new.self c.in_ok-pages.ensures.leaves (still-works (λ w. g.D.Disk.told w.disk) (λ w. g.D.Disk.size w.disk) g.U.Outlet.took c.args.node c.args.self.now c.turns.new.self c.in_ok-turns.ensures.leaves c.requires)) in
+    let l0 = moves-less (λ w. g.D.Disk.told w.disk) (λ w. g.D.Disk.size w.disk) g.U.Outlet.took g.A.App.handler (λ game. Rested game c.args.node) c.args.node c.args.self.now c.turns.new.self c.in_ok-turns.ensures.moves c.requires in
+    let l1 = moves-less (λ w. g.D.Disk.told w.disk) (λ w. g.D.Disk.size w.disk) g.U.Outlet.took g.A.App.handler (λ game. Written c.args.node) c.args.node c.turns.new.self c.pages.new.self c.in_ok-pages.ensures.moves (still-works (λ w. g.D.Disk.told w.disk) (λ w. g.D.Disk.size w.disk) g.U.Outlet.took g.A.App.handler c.args.node c.args.self.now c.turns.new.self c.in_ok-turns.ensures.leaves c.requires) in
+    let l2 = moves-less (λ w. g.D.Disk.told w.disk) (λ w. g.D.Disk.size w.disk) g.U.Outlet.took g.A.App.handler (λ game. Written c.args.node) c.args.node c.pages.new.self c.settle.new.self c.in_ok-settle.ensures.moves (still-works (λ w. g.D.Disk.told w.disk) (λ w. g.D.Disk.size w.disk) g.U.Outlet.took g.A.App.handler c.args.node c.turns.new.self c.pages.new.self c.in_ok-pages.ensures.leaves (still-works (λ w. g.D.Disk.told w.disk) (λ w. g.D.Disk.size w.disk) g.U.Outlet.took g.A.App.handler c.args.node c.args.self.now c.turns.new.self c.in_ok-turns.ensures.leaves c.requires)) in
     less-err c.args.self.now c.settle.new.self c.send.new.self c.from_residual-in_err-send.result c.in_err-send.field-0.0 (omega (arith, l0, l1, l2)) c.from_residual-in_err-send.ensures.1 (λ same. c.in_err-send.ensures.less (cc)) was
 
 pub returns-in_err-hear-clause-less : goal.returns-in_err-hear-clause-less
 returns-in_err-hear-clause-less g c = λ was.
-    let l0 = moves-less (λ w. g.D.Disk.told w.disk) (λ w. g.D.Disk.size w.disk) g.U.Outlet.took (λ game. Rested game c.args.node) c.args.node c.args.self.now c.turns.new.self c.in_ok-turns.ensures.moves c.requires in
-    let l1 = moves-less (λ w. g.D.Disk.told w.disk) (λ w. g.D.Disk.size w.disk) g.U.Outlet.took (λ game. Written c.args.node) c.args.node c.turns.new.self c.pages.new.self c.in_ok-pages.ensures.moves (still-works (λ w. g.D.Disk.told w.disk) (λ w. g.D.Disk.size w.disk) g.U.Outlet.took c.args.node c.args.self.now c.turns.new.self c.in_ok-turns.ensures.leaves c.requires) in
-    let l2 = moves-less (λ w. g.D.Disk.told w.disk) (λ w. g.D.Disk.size w.disk) g.U.Outlet.took (λ game. Written c.args.node) c.args.node c.pages.new.self c.settle.new.self c.in_ok-settle.ensures.moves (still-works (λ w. g.D.Disk.told w.disk) (λ w. g.D.Disk.size w.disk) g.U.Outlet.took c.args.node c.turns.new.self c.pages.new.self c.in_ok-pages.ensures.leaves (still-works (λ w. g.D.Disk.told w.disk) (λ w. g.D.Disk.size w.disk) g.U.Outlet.took c.args.node c.args.self.now c.turns.new.self c.in_ok-turns.ensures.leaves c.requires)) in
-    let l3 = moves-less (λ w. g.D.Disk.told w.disk) (λ w. g.D.Disk.size w.disk) g.U.Outlet.took (λ game. Posted game c.args.node) c.args.node c.settle.new.self c.send.new.self c.in_ok-send.ensures.moves (still-works (λ w. g.D.Disk.told w.disk) (λ w. g.D.Disk.size w.disk) g.U.Outlet.took c.args.node c.pages.new.self c.settle.new.self c.in_ok-settle.ensures.leaves (still-works (λ w. g.D.Disk.told w.disk) (λ w. g.D.Disk.size w.disk) g.U.Outlet.took c.args.node c.turns.new.self c.pages.new.self c.in_ok-pages.ensures.leaves (still-works (λ w. g.D.Disk.told w.disk) (λ w. g.D.Disk.size w.disk) g.U.Outlet.took c.args.node c.args.self.now c.turns.new.self c.in_ok-turns.ensures.leaves c.requires))) in
+    let l0 = moves-less (λ w. g.D.Disk.told w.disk) (λ w. g.D.Disk.size w.disk) g.U.Outlet.took g.A.App.handler (λ game. Rested game c.args.node) c.args.node c.args.self.now c.turns.new.self c.in_ok-turns.ensures.moves c.requires in
+    let l1 = moves-less (λ w. g.D.Disk.told w.disk) (λ w. g.D.Disk.size w.disk) g.U.Outlet.took g.A.App.handler (λ game. Written c.args.node) c.args.node c.turns.new.self c.pages.new.self c.in_ok-pages.ensures.moves (still-works (λ w. g.D.Disk.told w.disk) (λ w. g.D.Disk.size w.disk) g.U.Outlet.took g.A.App.handler c.args.node c.args.self.now c.turns.new.self c.in_ok-turns.ensures.leaves c.requires) in
+    let l2 = moves-less (λ w. g.D.Disk.told w.disk) (λ w. g.D.Disk.size w.disk) g.U.Outlet.took g.A.App.handler (λ game. Written c.args.node) c.args.node c.pages.new.self c.settle.new.self c.in_ok-settle.ensures.moves (still-works (λ w. g.D.Disk.told w.disk) (λ w. g.D.Disk.size w.disk) g.U.Outlet.took g.A.App.handler c.args.node c.turns.new.self c.pages.new.self c.in_ok-pages.ensures.leaves (still-works (λ w. g.D.Disk.told w.disk) (λ w. g.D.Disk.size w.disk) g.U.Outlet.took g.A.App.handler c.args.node c.args.self.now c.turns.new.self c.in_ok-turns.ensures.leaves c.requires)) in
+    let l3 = moves-less (λ w. g.D.Disk.told w.disk) (λ w. g.D.Disk.size w.disk) g.U.Outlet.took g.A.App.handler (λ game. Posted game c.args.node) c.args.node c.settle.new.self c.send.new.self c.in_ok-send.ensures.moves (still-works (λ w. g.D.Disk.told w.disk) (λ w. g.D.Disk.size w.disk) g.U.Outlet.took g.A.App.handler c.args.node c.pages.new.self c.settle.new.self c.in_ok-settle.ensures.leaves (still-works (λ w. g.D.Disk.told w.disk) (λ w. g.D.Disk.size w.disk) g.U.Outlet.took g.A.App.handler c.args.node c.turns.new.self c.pages.new.self c.in_ok-pages.ensures.leaves (still-works (λ w. g.D.Disk.told w.disk) (λ w. g.D.Disk.size w.disk) g.U.Outlet.took g.A.App.handler c.args.node c.args.self.now c.turns.new.self c.in_ok-turns.ensures.leaves c.requires))) in
     less-err c.args.self.now c.send.new.self c.hear.new.self c.from_residual-in_err-hear.result c.in_err-hear.field-0.0 (omega (arith, l0, l1, l2, l3)) c.from_residual-in_err-hear.ensures.1 (λ same. c.in_err-hear.ensures.less (cc)) was
 
 pub returns-in_err-turns-clause-less : goal.returns-in_err-turns-clause-less
@@ -107,18 +107,18 @@ returns-in_err-turns-clause-less g c = λ was.
 
 pub returns-clause-less : goal.returns-clause-less
 returns-clause-less g c = λ was.
-    let l0 = moves-less (λ w. g.D.Disk.told w.disk) (λ w. g.D.Disk.size w.disk) g.U.Outlet.took (λ game. Rested game c.args.node) c.args.node c.args.self.now c.turns.new.self c.in_ok-turns.ensures.moves c.requires in
-    let l1 = moves-less (λ w. g.D.Disk.told w.disk) (λ w. g.D.Disk.size w.disk) g.U.Outlet.took (λ game. Written c.args.node) c.args.node c.turns.new.self c.pages.new.self c.in_ok-pages.ensures.moves (still-works (λ w. g.D.Disk.told w.disk) (λ w. g.D.Disk.size w.disk) g.U.Outlet.took c.args.node c.args.self.now c.turns.new.self c.in_ok-turns.ensures.leaves c.requires) in
-    let l2 = moves-less (λ w. g.D.Disk.told w.disk) (λ w. g.D.Disk.size w.disk) g.U.Outlet.took (λ game. Written c.args.node) c.args.node c.pages.new.self c.settle.new.self c.in_ok-settle.ensures.moves (still-works (λ w. g.D.Disk.told w.disk) (λ w. g.D.Disk.size w.disk) g.U.Outlet.took c.args.node c.turns.new.self c.pages.new.self c.in_ok-pages.ensures.leaves (still-works (λ w. g.D.Disk.told w.disk) (λ w. g.D.Disk.size w.disk) g.U.Outlet.took c.args.node c.args.self.now c.turns.new.self c.in_ok-turns.ensures.leaves c.requires)) in
-    let l3 = moves-less (λ w. g.D.Disk.told w.disk) (λ w. g.D.Disk.size w.disk) g.U.Outlet.took (λ game. Posted game c.args.node) c.args.node c.settle.new.self c.send.new.self c.in_ok-send.ensures.moves (still-works (λ w. g.D.Disk.told w.disk) (λ w. g.D.Disk.size w.disk) g.U.Outlet.took c.args.node c.pages.new.self c.settle.new.self c.in_ok-settle.ensures.leaves (still-works (λ w. g.D.Disk.told w.disk) (λ w. g.D.Disk.size w.disk) g.U.Outlet.took c.args.node c.turns.new.self c.pages.new.self c.in_ok-pages.ensures.leaves (still-works (λ w. g.D.Disk.told w.disk) (λ w. g.D.Disk.size w.disk) g.U.Outlet.took c.args.node c.args.self.now c.turns.new.self c.in_ok-turns.ensures.leaves c.requires))) in
-    let l4 = moves-less (λ w. g.D.Disk.told w.disk) (λ w. g.D.Disk.size w.disk) g.U.Outlet.took (λ game. Heard game c.args.node) c.args.node c.send.new.self c.hear.new.self c.in_ok-hear.ensures.moves (still-works (λ w. g.D.Disk.told w.disk) (λ w. g.D.Disk.size w.disk) g.U.Outlet.took c.args.node c.settle.new.self c.send.new.self c.in_ok-send.ensures.leaves (still-works (λ w. g.D.Disk.told w.disk) (λ w. g.D.Disk.size w.disk) g.U.Outlet.took c.args.node c.pages.new.self c.settle.new.self c.in_ok-settle.ensures.leaves (still-works (λ w. g.D.Disk.told w.disk) (λ w. g.D.Disk.size w.disk) g.U.Outlet.took c.args.node c.turns.new.self c.pages.new.self c.in_ok-pages.ensures.leaves (still-works (λ w. g.D.Disk.told w.disk) (λ w. g.D.Disk.size w.disk) g.U.Outlet.took c.args.node c.args.self.now c.turns.new.self c.in_ok-turns.ensures.leaves c.requires)))) in
+    let l0 = moves-less (λ w. g.D.Disk.told w.disk) (λ w. g.D.Disk.size w.disk) g.U.Outlet.took g.A.App.handler (λ game. Rested game c.args.node) c.args.node c.args.self.now c.turns.new.self c.in_ok-turns.ensures.moves c.requires in
+    let l1 = moves-less (λ w. g.D.Disk.told w.disk) (λ w. g.D.Disk.size w.disk) g.U.Outlet.took g.A.App.handler (λ game. Written c.args.node) c.args.node c.turns.new.self c.pages.new.self c.in_ok-pages.ensures.moves (still-works (λ w. g.D.Disk.told w.disk) (λ w. g.D.Disk.size w.disk) g.U.Outlet.took g.A.App.handler c.args.node c.args.self.now c.turns.new.self c.in_ok-turns.ensures.leaves c.requires) in
+    let l2 = moves-less (λ w. g.D.Disk.told w.disk) (λ w. g.D.Disk.size w.disk) g.U.Outlet.took g.A.App.handler (λ game. Written c.args.node) c.args.node c.pages.new.self c.settle.new.self c.in_ok-settle.ensures.moves (still-works (λ w. g.D.Disk.told w.disk) (λ w. g.D.Disk.size w.disk) g.U.Outlet.took g.A.App.handler c.args.node c.turns.new.self c.pages.new.self c.in_ok-pages.ensures.leaves (still-works (λ w. g.D.Disk.told w.disk) (λ w. g.D.Disk.size w.disk) g.U.Outlet.took g.A.App.handler c.args.node c.args.self.now c.turns.new.self c.in_ok-turns.ensures.leaves c.requires)) in
+    let l3 = moves-less (λ w. g.D.Disk.told w.disk) (λ w. g.D.Disk.size w.disk) g.U.Outlet.took g.A.App.handler (λ game. Posted game c.args.node) c.args.node c.settle.new.self c.send.new.self c.in_ok-send.ensures.moves (still-works (λ w. g.D.Disk.told w.disk) (λ w. g.D.Disk.size w.disk) g.U.Outlet.took g.A.App.handler c.args.node c.pages.new.self c.settle.new.self c.in_ok-settle.ensures.leaves (still-works (λ w. g.D.Disk.told w.disk) (λ w. g.D.Disk.size w.disk) g.U.Outlet.took g.A.App.handler c.args.node c.turns.new.self c.pages.new.self c.in_ok-pages.ensures.leaves (still-works (λ w. g.D.Disk.told w.disk) (λ w. g.D.Disk.size w.disk) g.U.Outlet.took g.A.App.handler c.args.node c.args.self.now c.turns.new.self c.in_ok-turns.ensures.leaves c.requires))) in
+    let l4 = moves-less (λ w. g.D.Disk.told w.disk) (λ w. g.D.Disk.size w.disk) g.U.Outlet.took g.A.App.handler (λ game. Heard game c.args.node) c.args.node c.send.new.self c.hear.new.self c.in_ok-hear.ensures.moves (still-works (λ w. g.D.Disk.told w.disk) (λ w. g.D.Disk.size w.disk) g.U.Outlet.took g.A.App.handler c.args.node c.settle.new.self c.send.new.self c.in_ok-send.ensures.leaves (still-works (λ w. g.D.Disk.told w.disk) (λ w. g.D.Disk.size w.disk) g.U.Outlet.took g.A.App.handler c.args.node c.pages.new.self c.settle.new.self c.in_ok-settle.ensures.leaves (still-works (λ w. g.D.Disk.told w.disk) (λ w. g.D.Disk.size w.disk) g.U.Outlet.took g.A.App.handler c.args.node c.turns.new.self c.pages.new.self c.in_ok-pages.ensures.leaves (still-works (λ w. g.D.Disk.told w.disk) (λ w. g.D.Disk.size w.disk) g.U.Outlet.took g.A.App.handler c.args.node c.args.self.now c.turns.new.self c.in_ok-turns.ensures.leaves c.requires)))) in
     let last = c.outputs.ensures.less was in
     omega (arith, last, l0, l1, l2, l3, l4)
 
 pub returns-clause-moves : goal.returns-clause-moves
 returns-clause-moves g c =
     on-ok-with c.outputs.result c.outputs.ensures.moves
-    (λ last. visit-moves (λ w. g.D.Disk.told w.disk) (λ w. g.D.Disk.size w.disk) g.U.Outlet.took c.args.node c.args.self.now c.turns.new.self c.pages.new.self c.settle.new.self c.send.new.self c.hear.new.self c.outputs.new.self c.in_ok-turns.ensures.moves c.in_ok-pages.ensures.moves c.in_ok-settle.ensures.moves c.in_ok-send.ensures.moves c.in_ok-hear.ensures.moves last)
+    (λ last. visit-moves (λ w. g.D.Disk.told w.disk) (λ w. g.D.Disk.size w.disk) g.U.Outlet.took g.A.App.handler c.args.node c.args.self.now c.turns.new.self c.pages.new.self c.settle.new.self c.send.new.self c.hear.new.self c.outputs.new.self c.in_ok-turns.ensures.moves c.in_ok-pages.ensures.moves c.in_ok-settle.ensures.moves c.in_ok-send.ensures.moves c.in_ok-hear.ensures.moves last)
 
 pub returns-in_err-pages-clause-refused : goal.returns-in_err-pages-clause-refused
 returns-in_err-pages-clause-refused g c = λ terms made low a0.
