@@ -21,3 +21,5 @@ pub mod Finishing
 pub mod Driven
 pub mod Starting
 pub mod Sparing
+pub mod Clauses
+pub mod StationClauses

@@ -54,7 +54,8 @@ fn disk<W: World>(
     requires which { which < DISKS }
     ensures told { IfOk result (λ d. W.Dev.told d.disk ≡ Some blank) }
     ensures faults { IfOk result (λ d. W.Dev.faults d.disk ≡ 0) }
-    ensures fate { IfOk result (λ d. IsFatedDisk W.scripted node which (cuts_for node which script.now.cuts) (W.Dev.fate d.disk)) }
+    ensures fate { IfOk result (λ d. IsFatedDisk W.scripted node which (cuts_for node which script.now.cuts)
+        (W.Dev.fate d.disk)) }
     ensures kept { (v : ℕ) → W.kept world.new v ≡ W.kept world.old v }
 {
     let cuts = cuts_of(alloc, script.cuts.as_slice(), node, which)?;
@@ -69,7 +70,8 @@ fn disks<W: World>(
     world: &mut W,
 ) -> Result<Disks<Watched<W::Dev>>, AllocError>
     requires { node < MAX_NODES }
-    ensures fresh { IfOk result (λ d. IsFresh ⟦<Watched<W::Dev> as Disk>⟧.faults ⟦<Watched<W::Dev> as Disk>⟧.fate (terms_of W.scripted script.now) node d) }
+    ensures fresh { IfOk result (λ d. IsFresh ⟦<Watched<W::Dev> as Disk>⟧.faults ⟦<Watched<W::Dev> as Disk>⟧.fate
+        (terms_of W.scripted script.now) node d) }
     ensures log { IfOk result (λ d. W.Dev.told d.log.disk ≡ Some blank) }
     ensures image { IfOk result (λ d. W.Dev.told d.image.disk ≡ Some blank) }
     ensures second { IfOk result (λ d. W.Dev.told d.second.disk ≡ Some blank) }
@@ -91,8 +93,12 @@ fn uncreated<W: World>(
 ) -> Result<Node<Watched<W::Dev>>, AllocError>
     requires limits { IsWithinLimits (game_of script.now.facts) }
     requires known { node < script.now.facts.nodes }
-    ensures blank { IfOk result (λ n. IsBlank ⟦<Watched<W::Dev> as Disk>⟧.told (game_of script.now.facts) node n.stage) }
-    ensures fresh { IfOk result (λ n. (b : IsBlank ⟦<Watched<W::Dev> as Disk>⟧.told (game_of script.now.facts) node n.stage) → IsFresh ⟦<Watched<W::Dev> as Disk>⟧.faults ⟦<Watched<W::Dev> as Disk>⟧.fate (terms_of W.scripted script.now) node b.disks) }
+    ensures blank { IfOk result (λ n. IsBlank ⟦<Watched<W::Dev> as Disk>⟧.told
+        (game_of script.now.facts) node n.stage) }
+    ensures fresh { IfOk result (λ n. (b : IsBlank ⟦<Watched<W::Dev> as Disk>⟧.told
+        (game_of script.now.facts) node n.stage)
+        → IsFresh ⟦<Watched<W::Dev> as Disk>⟧.faults ⟦<Watched<W::Dev> as Disk>⟧.fate
+        (terms_of W.scripted script.now) node b.disks) }
     ensures kept { (v : ℕ) → W.kept world.new v ≡ W.kept world.old v }
 {
     let disks = disks(alloc, script, node, world)?;
@@ -129,8 +135,12 @@ pub(crate) fn station<W: World>(
     requires limits { IsWithinLimits (game_of script.now.facts) }
     requires known { node < script.now.facts.nodes }
     ensures born { IfOk result (λ s. IsBorn ⟦<Watched<W::Dev> as Disk>⟧.told (game_of script.now.facts) node s) }
-    ensures fresh { IfOk result (λ s. (b : IsBorn ⟦<Watched<W::Dev> as Disk>⟧.told (game_of script.now.facts) node s) → IsFresh ⟦<Watched<W::Dev> as Disk>⟧.faults ⟦<Watched<W::Dev> as Disk>⟧.fate (terms_of W.scripted script.now) node b.over.disks) }
-    ensures own { IfOk result (λ s. HasOwn W.scripted W.Luck.telling W.Out.took W.Out.faults W.Out.fate script.now node s) }
+    ensures fresh { IfOk result (λ s. (b : IsBorn ⟦<Watched<W::Dev> as Disk>⟧.told
+        (game_of script.now.facts) node s)
+        → IsFresh ⟦<Watched<W::Dev> as Disk>⟧.faults ⟦<Watched<W::Dev> as Disk>⟧.fate
+        (terms_of W.scripted script.now) node b.over.disks) }
+    ensures own { IfOk result
+        (λ s. HasOwn W.scripted W.Luck.telling W.Out.took W.Out.faults W.Out.fate script.now node s) }
     ensures kept { (v : ℕ) → W.kept world.new v ≡ W.kept world.old v }
 {
     let nodes = script.facts.nodes;

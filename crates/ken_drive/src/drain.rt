@@ -1,12 +1,7 @@
 // Passes until a run has ended.
-ghost use Rattle.std.specs.Prelude.{◌≡◌, ◌<◌, ◌≤◌, ◌^◌, ℕ, length, OnOk};
-ghost use Rattle.ken_model.specs.Game.{Game};
-ghost use Rattle.ken_drive.specs.Accounts.{AccountsRunBy, AreAccounted, Terms};
-ghost use Rattle.ken_drive.specs.Drained.{DrainsTo, HasDrained, PassesTo};
-ghost use Rattle.ken_drive.specs.Draining.{ProgressesBy, PassesBy, DrainsBy, LessIsOpen, MayDrain, PassedIdly};
+ghost use Rattle.std.specs.Prelude.{◌≡◌, ◌<◌, ◌≤◌, ◌^◌, length};
 ghost use Rattle.ken_drive.specs.Flowing.{work_at, work_left};
-ghost use Rattle.ken_drive.specs.Refusals.{AreRefused, RefusedRunBy, StopsBy};
-ghost use Rattle.ken_drive.specs.Running.{IsRunning};
+ghost use Rattle.ken_drive.specs.Clauses.{AccountsPasses, Drains, DrainsRun, HasPassed, HasPassedAll, HasPassedOn, PassesOn, PassesOnce, PassesThrice, RefusesPasses, StopsPasses};
 
 use crate::faults::RunFault;
 use crate::run::Run;
@@ -52,13 +47,13 @@ impl<D: Disk, O: Oracle, U: Outlet, A: App> Run<D, O, U, A> {
 
     // A pass, of a run with so much left.
     fn one_pass(&mut self, left: u128) -> Result<PassOutcome, RunFault>
-        requires may { MayDrain ⟦<Watched<D> as Disk>⟧.told ⟦<Watched<D> as Disk>⟧.size U.took A.handler self.old }
+        requires may { Drains D.Disk U.Outlet A.App self.old }
         requires left { left ≡ work_left self.old }
-        ensures outcome { PassesBy ⟦<Watched<D> as Disk>⟧.told ⟦<Watched<D> as Disk>⟧.size U.took A.handler (PassedIdly ⟦<Watched<D> as Disk>⟧.told ⟦<Watched<D> as Disk>⟧.size U.took A.handler) result self.old self.new }
-        ensures accounts { (terms : Terms) (g : Game) (made : ℕ) → IsRunning ⟦<Watched<D> as Disk>⟧.told ⟦<Watched<D> as Disk>⟧.size U.took A.handler g made self.old → made ≡ g.nodes → AreAccounted ⟦<Watched<D> as Disk>⟧.told ⟦<Watched<D> as Disk>⟧.faults ⟦<Watched<D> as Disk>⟧.fate O.telling terms g made self.old → AccountsRunBy ⟦<Watched<D> as Disk>⟧.told ⟦<Watched<D> as Disk>⟧.faults ⟦<Watched<D> as Disk>⟧.fate O.telling terms g result made self.new }
-        ensures refused { (terms : Terms) (g : Game) (made : ℕ) → IsRunning ⟦<Watched<D> as Disk>⟧.told ⟦<Watched<D> as Disk>⟧.size U.took A.handler g made self.old → made ≡ g.nodes → AreRefused U.faults U.fate terms made self.old → RefusedRunBy U.faults U.fate terms result made self.new }
-        ensures stops { (terms : Terms) (g : Game) (made : ℕ) → IsRunning ⟦<Watched<D> as Disk>⟧.told ⟦<Watched<D> as Disk>⟧.size U.took A.handler g made self.old → made ≡ g.nodes → AreAccounted ⟦<Watched<D> as Disk>⟧.told ⟦<Watched<D> as Disk>⟧.faults ⟦<Watched<D> as Disk>⟧.fate O.telling terms g made self.old → AreRefused U.faults U.fate terms made self.old → StopsBy ⟦<Watched<D> as Disk>⟧.told ⟦<Watched<D> as Disk>⟧.faults ⟦<Watched<D> as Disk>⟧.fate O.telling U.faults U.fate terms g result made self.new }
-        ensures passes { PassesTo ⟦<Watched<D> as Disk>⟧.told ⟦<Watched<D> as Disk>⟧.size U.took A.handler result self.old self.new }
+        ensures outcome { PassesOnce D.Disk U.Outlet A.App self.old result self.new }
+        ensures accounts { AccountsPasses D.Disk O.Oracle U.Outlet A.App self.old result self.new }
+        ensures refused { RefusesPasses D.Disk U.Outlet A.App self.old result self.new }
+        ensures stops { StopsPasses D.Disk O.Oracle U.Outlet A.App self.old result self.new }
+        ensures passes { HasPassed D.Disk U.Outlet A.App self.old result self.new }
     {
         self.pass()?;
         if self.has_ended() {
@@ -72,13 +67,13 @@ impl<D: Disk, O: Oracle, U: Outlet, A: App> Run<D, O, U, A> {
 
     // Three passes, or fewer. Three without progress leave less in flight.
     fn three_passes(&mut self, left: u128) -> Result<PassOutcome, RunFault>
-        requires may { MayDrain ⟦<Watched<D> as Disk>⟧.told ⟦<Watched<D> as Disk>⟧.size U.took A.handler self.old }
+        requires may { Drains D.Disk U.Outlet A.App self.old }
         requires left { left ≡ work_left self.old }
-        ensures outcome { PassesBy ⟦<Watched<D> as Disk>⟧.told ⟦<Watched<D> as Disk>⟧.size U.took A.handler LessIsOpen result self.old self.new }
-        ensures accounts { (terms : Terms) (g : Game) (made : ℕ) → IsRunning ⟦<Watched<D> as Disk>⟧.told ⟦<Watched<D> as Disk>⟧.size U.took A.handler g made self.old → made ≡ g.nodes → AreAccounted ⟦<Watched<D> as Disk>⟧.told ⟦<Watched<D> as Disk>⟧.faults ⟦<Watched<D> as Disk>⟧.fate O.telling terms g made self.old → AccountsRunBy ⟦<Watched<D> as Disk>⟧.told ⟦<Watched<D> as Disk>⟧.faults ⟦<Watched<D> as Disk>⟧.fate O.telling terms g result made self.new }
-        ensures refused { (terms : Terms) (g : Game) (made : ℕ) → IsRunning ⟦<Watched<D> as Disk>⟧.told ⟦<Watched<D> as Disk>⟧.size U.took A.handler g made self.old → made ≡ g.nodes → AreRefused U.faults U.fate terms made self.old → RefusedRunBy U.faults U.fate terms result made self.new }
-        ensures stops { (terms : Terms) (g : Game) (made : ℕ) → IsRunning ⟦<Watched<D> as Disk>⟧.told ⟦<Watched<D> as Disk>⟧.size U.took A.handler g made self.old → made ≡ g.nodes → AreAccounted ⟦<Watched<D> as Disk>⟧.told ⟦<Watched<D> as Disk>⟧.faults ⟦<Watched<D> as Disk>⟧.fate O.telling terms g made self.old → AreRefused U.faults U.fate terms made self.old → StopsBy ⟦<Watched<D> as Disk>⟧.told ⟦<Watched<D> as Disk>⟧.faults ⟦<Watched<D> as Disk>⟧.fate O.telling U.faults U.fate terms g result made self.new }
-        ensures passes { PassesTo ⟦<Watched<D> as Disk>⟧.told ⟦<Watched<D> as Disk>⟧.size U.took A.handler result self.old self.new }
+        ensures outcome { PassesThrice D.Disk U.Outlet A.App self.old result self.new }
+        ensures accounts { AccountsPasses D.Disk O.Oracle U.Outlet A.App self.old result self.new }
+        ensures refused { RefusesPasses D.Disk U.Outlet A.App self.old result self.new }
+        ensures stops { StopsPasses D.Disk O.Oracle U.Outlet A.App self.old result self.new }
+        ensures passes { HasPassed D.Disk U.Outlet A.App self.old result self.new }
     {
         match self.one_pass(left)? {
             PassOutcome::Idle => (),
@@ -93,12 +88,12 @@ impl<D: Disk, O: Oracle, U: Outlet, A: App> Run<D, O, U, A> {
 
     // Passes until the run has ended, which is answered, or a node made a turn or was restarted.
     fn until_progress(&mut self) -> Result<bool, RunFault>
-        requires { MayDrain ⟦<Watched<D> as Disk>⟧.told ⟦<Watched<D> as Disk>⟧.size U.took A.handler self.old }
-        ensures progresses { ProgressesBy ⟦<Watched<D> as Disk>⟧.told ⟦<Watched<D> as Disk>⟧.size U.took A.handler result self.old self.new }
-        ensures accounts { (terms : Terms) (g : Game) (made : ℕ) → IsRunning ⟦<Watched<D> as Disk>⟧.told ⟦<Watched<D> as Disk>⟧.size U.took A.handler g made self.old → made ≡ g.nodes → AreAccounted ⟦<Watched<D> as Disk>⟧.told ⟦<Watched<D> as Disk>⟧.faults ⟦<Watched<D> as Disk>⟧.fate O.telling terms g made self.old → AccountsRunBy ⟦<Watched<D> as Disk>⟧.told ⟦<Watched<D> as Disk>⟧.faults ⟦<Watched<D> as Disk>⟧.fate O.telling terms g result made self.new }
-        ensures refused { (terms : Terms) (g : Game) (made : ℕ) → IsRunning ⟦<Watched<D> as Disk>⟧.told ⟦<Watched<D> as Disk>⟧.size U.took A.handler g made self.old → made ≡ g.nodes → AreRefused U.faults U.fate terms made self.old → RefusedRunBy U.faults U.fate terms result made self.new }
-        ensures stops { (terms : Terms) (g : Game) (made : ℕ) → IsRunning ⟦<Watched<D> as Disk>⟧.told ⟦<Watched<D> as Disk>⟧.size U.took A.handler g made self.old → made ≡ g.nodes → AreAccounted ⟦<Watched<D> as Disk>⟧.told ⟦<Watched<D> as Disk>⟧.faults ⟦<Watched<D> as Disk>⟧.fate O.telling terms g made self.old → AreRefused U.faults U.fate terms made self.old → StopsBy ⟦<Watched<D> as Disk>⟧.told ⟦<Watched<D> as Disk>⟧.faults ⟦<Watched<D> as Disk>⟧.fate O.telling U.faults U.fate terms g result made self.new }
-        ensures passes { DrainsTo ⟦<Watched<D> as Disk>⟧.told ⟦<Watched<D> as Disk>⟧.size U.took A.handler result self.old self.new }
+        requires { Drains D.Disk U.Outlet A.App self.old }
+        ensures progresses { PassesOn D.Disk U.Outlet A.App self.old result self.new }
+        ensures accounts { AccountsPasses D.Disk O.Oracle U.Outlet A.App self.old result self.new }
+        ensures refused { RefusesPasses D.Disk U.Outlet A.App self.old result self.new }
+        ensures stops { StopsPasses D.Disk O.Oracle U.Outlet A.App self.old result self.new }
+        ensures passes { HasPassedOn D.Disk U.Outlet A.App self.old result self.new }
     {
         let left = self.left();
         'passes: loop {
@@ -113,12 +108,12 @@ impl<D: Disk, O: Oracle, U: Outlet, A: App> Run<D, O, U, A> {
     /// Passes until the run has ended: each output was emitted, and what waits is for nodes that have made all their turns. It is asked
     /// after each pass, so there is one pass at least. The errors are those of a pass, and what stands after them too.
     pub fn drain(&mut self) -> Result<(), RunFault>
-        requires { MayDrain ⟦<Watched<D> as Disk>⟧.told ⟦<Watched<D> as Disk>⟧.size U.took A.handler self.old }
-        ensures drains { (g : Game) (made : ℕ) → IsRunning ⟦<Watched<D> as Disk>⟧.told ⟦<Watched<D> as Disk>⟧.size U.took A.handler g made self.old → made ≡ g.nodes → DrainsBy ⟦<Watched<D> as Disk>⟧.told ⟦<Watched<D> as Disk>⟧.size U.took A.handler result g made self.new }
-        ensures accounts { (terms : Terms) (g : Game) (made : ℕ) → IsRunning ⟦<Watched<D> as Disk>⟧.told ⟦<Watched<D> as Disk>⟧.size U.took A.handler g made self.old → made ≡ g.nodes → AreAccounted ⟦<Watched<D> as Disk>⟧.told ⟦<Watched<D> as Disk>⟧.faults ⟦<Watched<D> as Disk>⟧.fate O.telling terms g made self.old → AccountsRunBy ⟦<Watched<D> as Disk>⟧.told ⟦<Watched<D> as Disk>⟧.faults ⟦<Watched<D> as Disk>⟧.fate O.telling terms g result made self.new }
-        ensures refused { (terms : Terms) (g : Game) (made : ℕ) → IsRunning ⟦<Watched<D> as Disk>⟧.told ⟦<Watched<D> as Disk>⟧.size U.took A.handler g made self.old → made ≡ g.nodes → AreRefused U.faults U.fate terms made self.old → RefusedRunBy U.faults U.fate terms result made self.new }
-        ensures stops { (terms : Terms) (g : Game) (made : ℕ) → IsRunning ⟦<Watched<D> as Disk>⟧.told ⟦<Watched<D> as Disk>⟧.size U.took A.handler g made self.old → made ≡ g.nodes → AreAccounted ⟦<Watched<D> as Disk>⟧.told ⟦<Watched<D> as Disk>⟧.faults ⟦<Watched<D> as Disk>⟧.fate O.telling terms g made self.old → AreRefused U.faults U.fate terms made self.old → StopsBy ⟦<Watched<D> as Disk>⟧.told ⟦<Watched<D> as Disk>⟧.faults ⟦<Watched<D> as Disk>⟧.fate O.telling U.faults U.fate terms g result made self.new }
-        ensures passes { OnOk result (HasDrained ⟦<Watched<D> as Disk>⟧.told ⟦<Watched<D> as Disk>⟧.size U.took A.handler self.old self.new) }
+        requires { Drains D.Disk U.Outlet A.App self.old }
+        ensures drains { DrainsRun D.Disk U.Outlet A.App self.old result self.new }
+        ensures accounts { AccountsPasses D.Disk O.Oracle U.Outlet A.App self.old result self.new }
+        ensures refused { RefusesPasses D.Disk U.Outlet A.App self.old result self.new }
+        ensures stops { StopsPasses D.Disk O.Oracle U.Outlet A.App self.old result self.new }
+        ensures passes { HasPassedAll D.Disk U.Outlet A.App self.old result self.new }
     {
         'passes: while !self.until_progress()? {}
         Ok(())

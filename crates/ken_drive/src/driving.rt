@@ -1,17 +1,12 @@
 // A whole run.
-ghost use Rattle.std.specs.Prelude.{◌≡◌, ◌<◌, ◌≤◌, ℕ, true, length, IfErr};
-ghost use Rattle.ken_model.specs.Game.{Game};
+ghost use Rattle.std.specs.Prelude.{◌≡◌, ◌<◌, ◌≤◌, true, IfErr};
 ghost use Rattle.ken_model.specs.Kinds.{handler_of};
-ghost use Rattle.ken_model.specs.Limits.{IsPlainRun};
 ghost use Rattle.ken_script.specs.Within.{KeepsRules};
-ghost use Rattle.ken_drive.specs.Accounts.{AreAccounted, Terms};
-ghost use Rattle.ken_drive.specs.Draining.{MayDrain};
-ghost use Rattle.ken_drive.specs.Driven.{DrivesBy, EndsBy};
-ghost use Rattle.ken_drive.specs.Refusals.{AreRefused};
-ghost use Rattle.ken_drive.specs.Running.{IsRunning};
+ghost use Rattle.ken_drive.specs.Driven.{DrivesBy};
 ghost use Rattle.ken_drive.specs.Sparing.{IsLetBy};
 ghost use Rattle.ken_drive.specs.Starting.{Serves};
 ghost use Rattle.ken_drive.specs.Worlds.{HasKeptNothing};
+ghost use Rattle.ken_drive.specs.Clauses.{Drains, TellsRun, views_of};
 
 use crate::faults::RunFault;
 use crate::finishing::finish;
@@ -31,8 +26,8 @@ use std::alloc::Global;
 impl<D: Disk, O: Oracle, U: Outlet, A: App> Run<D, O, U, A> {
     /// Drains the run, and answers what it says then. The errors are those of `drain` and `lines`.
     fn told(&mut self) -> Result<Lines, RunFault>
-        requires { MayDrain ⟦<Watched<D> as Disk>⟧.told ⟦<Watched<D> as Disk>⟧.size U.took A.handler self.old }
-        ensures { (terms : Terms) (g : Game) (made : ℕ) → IsRunning ⟦<Watched<D> as Disk>⟧.told ⟦<Watched<D> as Disk>⟧.size U.took A.handler g made self.old → made ≡ g.nodes → AreAccounted ⟦<Watched<D> as Disk>⟧.told ⟦<Watched<D> as Disk>⟧.faults ⟦<Watched<D> as Disk>⟧.fate O.telling terms g made self.old → AreRefused U.faults U.fate terms made self.old → IsPlainRun g → EndsBy ⟦<Watched<D> as Disk>⟧.told ⟦<Watched<D> as Disk>⟧.size ⟦<Watched<D> as Disk>⟧.faults ⟦<Watched<D> as Disk>⟧.fate O.telling U.took A.handler U.faults U.fate terms g result self.new }
+        requires { Drains D.Disk U.Outlet A.App self.old }
+        ensures { TellsRun D.Disk O.Oracle U.Outlet A.App self.old result self.new }
     {
         self.drain()?;
         Ok(self.lines()?)
@@ -51,7 +46,8 @@ pub fn drive<W: World, A: App + Drop>(
     requires serves { Serves (A.handler app) script.now }
     requires rules { KeepsRules script.now }
     requires none { HasKeptNothing (W.kept world.old) }
-    ensures drives { DrivesBy (record { told = W.Dev.told; faults = W.Dev.faults; fate = W.Dev.fate; telling = W.Luck.telling; took = W.Out.took; refused = W.Out.faults; calls = W.Out.fate; scripted = W.scripted }) (A.handler app) script.now (W.kept world.new) result }
+    ensures drives { DrivesBy (views_of W.Dev.Disk W.Luck.Oracle W.Out.Outlet W.scripted) (A.handler app) script.now
+        (W.kept world.new) result }
     ensures lets { W.scripted ≡ true → IfErr result (IsLetBy script.now) }
 {
     let mut run = start(alloc, app, script, world)?;
@@ -81,7 +77,8 @@ pub fn drive_kind<W: World>(
 ) -> Result<Lines, RunFault>
     requires rules { KeepsRules script.now }
     requires none { HasKeptNothing (W.kept world.old) }
-    ensures drives { DrivesBy (record { told = W.Dev.told; faults = W.Dev.faults; fate = W.Dev.fate; telling = W.Luck.telling; took = W.Out.took; refused = W.Out.faults; calls = W.Out.fate; scripted = W.scripted }) (handler_of script.now.facts.kind) script.now (W.kept world.new) result }
+    ensures drives { DrivesBy (views_of W.Dev.Disk W.Luck.Oracle W.Out.Outlet W.scripted)
+        (handler_of script.now.facts.kind) script.now (W.kept world.new) result }
     ensures lets { W.scripted ≡ true → IfErr result (IsLetBy script.now) }
 {
     kinds_serve();

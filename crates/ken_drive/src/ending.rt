@@ -7,7 +7,7 @@ ghost use Rattle.ken_node.specs.Stages.{IsCreated, emissions_in};
 ghost use Rattle.ken_node.specs.Up.{IsUp};
 ghost use Rattle.ken_flow.specs.Standstill.{HasEnded, waits_on};
 ghost use Rattle.ken_drive.specs.Endings.{HasNoneWaiting, HasWaiting, IsDone};
-ghost use Rattle.ken_drive.specs.Running.{IsRunning, MayGoOn, MayWork};
+ghost use Rattle.ken_drive.specs.Clauses.{GoesOn, Up, Works};
 
 use crate::run::Run;
 use ken_app::{App, Oracle};
@@ -19,10 +19,11 @@ use ken_ship::Outlet;
 impl<D: Disk, O: Oracle, U: Outlet, A: App> Run<D, O, U, A> {
     // A node of the run.
     fn node_at(&self, node: u8) -> &Node<Watched<D>>
-        requires { MayWork ⟦<Watched<D> as Disk>⟧.told ⟦<Watched<D> as Disk>⟧.size U.took A.handler node self.now }
-        ensures up { (g : Game) (made : ℕ) (is : IsRunning ⟦<Watched<D> as Disk>⟧.told ⟦<Watched<D> as Disk>⟧.size U.took A.handler g made self.now) → node < made → IsUp ⟦<Watched<D> as Disk>⟧.told ⟦<Watched<D> as Disk>⟧.size g node (is.nodes node) result.now.stage }
+        requires { Works D.Disk U.Outlet A.App node self.now }
+        ensures up { (g : Game) (made : ℕ) (is : Up D.Disk U.Outlet A.App g made self.now)
+            → node < made → IsUp ⟦<Watched<D> as Disk>⟧.told ⟦<Watched<D> as Disk>⟧.size g node (is.nodes node) result.now.stage }
         ensures created { IsCreated result.now.stage }
-        ensures emitted { (g : Game) (made : ℕ) (is : IsRunning ⟦<Watched<D> as Disk>⟧.told ⟦<Watched<D> as Disk>⟧.size U.took A.handler g made self.now)
+        ensures emitted { (g : Game) (made : ℕ) (is : Up D.Disk U.Outlet A.App g made self.now)
             → node < made → last_of (emissions_in result.now.stage) ≡ largest_of 0 (emitted_by node is.emissions) }
     {
         &self.stations[usize::from(node)].node
@@ -30,19 +31,23 @@ impl<D: Disk, O: Oracle, U: Outlet, A: App> Run<D, O, U, A> {
 
     // Whether a message that one node sent to another waits.
     fn has_message(&self, from: u8, to: u8) -> bool
-        requires from { MayWork ⟦<Watched<D> as Disk>⟧.told ⟦<Watched<D> as Disk>⟧.size U.took A.handler from self.now }
-        requires to { MayWork ⟦<Watched<D> as Disk>⟧.told ⟦<Watched<D> as Disk>⟧.size U.took A.handler to self.now }
-        ensures some { result ≡ true → (g : Game) (made : ℕ) (is : IsRunning ⟦<Watched<D> as Disk>⟧.told ⟦<Watched<D> as Disk>⟧.size U.took A.handler g made self.now) → from < made → to < made → 0 < waits_on g is.nodes from to }
-        ensures none { result ≡ false → (g : Game) (made : ℕ) (is : IsRunning ⟦<Watched<D> as Disk>⟧.told ⟦<Watched<D> as Disk>⟧.size U.took A.handler g made self.now) → from < made → to < made → waits_on g is.nodes from to ≡ 0 }
+        requires from { Works D.Disk U.Outlet A.App from self.now }
+        requires to { Works D.Disk U.Outlet A.App to self.now }
+        ensures some { result ≡ true → (g : Game) (made : ℕ) (is : Up D.Disk U.Outlet A.App g made self.now)
+            → from < made → to < made → 0 < waits_on g is.nodes from to }
+        ensures none { result ≡ false → (g : Game) (made : ℕ) (is : Up D.Disk U.Outlet A.App g made self.now)
+            → from < made → to < made → waits_on g is.nodes from to ≡ 0 }
     {
         self.node_at(to).consumed(from) < self.node_at(from).sent(to)
     }
 
     // Whether an input waits for a node.
     fn has_input(&self, node: u8) -> bool
-        requires { MayWork ⟦<Watched<D> as Disk>⟧.told ⟦<Watched<D> as Disk>⟧.size U.took A.handler node self.now }
-        ensures some { result ≡ true → (g : Game) (made : ℕ) (is : IsRunning ⟦<Watched<D> as Disk>⟧.told ⟦<Watched<D> as Disk>⟧.size U.took A.handler g made self.now) → node < made → 0 < waits_on g is.nodes OUTSIDE node }
-        ensures none { result ≡ false → (g : Game) (made : ℕ) (is : IsRunning ⟦<Watched<D> as Disk>⟧.told ⟦<Watched<D> as Disk>⟧.size U.took A.handler g made self.now) → node < made → waits_on g is.nodes OUTSIDE node ≡ 0 }
+        requires { Works D.Disk U.Outlet A.App node self.now }
+        ensures some { result ≡ true → (g : Game) (made : ℕ) (is : Up D.Disk U.Outlet A.App g made self.now)
+            → node < made → 0 < waits_on g is.nodes OUTSIDE node }
+        ensures none { result ≡ false → (g : Game) (made : ℕ) (is : Up D.Disk U.Outlet A.App g made self.now)
+            → node < made → waits_on g is.nodes OUTSIDE node ≡ 0 }
     {
         let end = self.node_at(node);
         end.consumed(OUTSIDE) < end.inputs()
@@ -50,9 +55,11 @@ impl<D: Disk, O: Oracle, U: Outlet, A: App> Run<D, O, U, A> {
 
     // Whether a message or an input waits for a node.
     fn has_waiting(&self, node: u8) -> bool
-        requires { MayWork ⟦<Watched<D> as Disk>⟧.told ⟦<Watched<D> as Disk>⟧.size U.took A.handler node self.now }
-        ensures some { result ≡ true → (g : Game) (made : ℕ) (is : IsRunning ⟦<Watched<D> as Disk>⟧.told ⟦<Watched<D> as Disk>⟧.size U.took A.handler g made self.now) → node < made → made ≡ g.nodes → HasWaiting g is.nodes node }
-        ensures none { result ≡ false → (g : Game) (made : ℕ) (is : IsRunning ⟦<Watched<D> as Disk>⟧.told ⟦<Watched<D> as Disk>⟧.size U.took A.handler g made self.now) → node < made → made ≡ g.nodes → HasNoneWaiting g is.nodes node }
+        requires { Works D.Disk U.Outlet A.App node self.now }
+        ensures some { result ≡ true → (g : Game) (made : ℕ) (is : Up D.Disk U.Outlet A.App g made self.now)
+            → node < made → made ≡ g.nodes → HasWaiting g is.nodes node }
+        ensures none { result ≡ false → (g : Game) (made : ℕ) (is : Up D.Disk U.Outlet A.App g made self.now)
+            → node < made → made ≡ g.nodes → HasNoneWaiting g is.nodes node }
     {
         if self.has_input(node) {
             return true;
@@ -67,9 +74,11 @@ impl<D: Disk, O: Oracle, U: Outlet, A: App> Run<D, O, U, A> {
 
     // Whether a node has an output that was never emitted, or may have to make a turn.
     fn is_busy(&self, node: u8) -> bool
-        requires { MayWork ⟦<Watched<D> as Disk>⟧.told ⟦<Watched<D> as Disk>⟧.size U.took A.handler node self.now }
-        ensures busy { result ≡ true → (g : Game) (made : ℕ) (is : IsRunning ⟦<Watched<D> as Disk>⟧.told ⟦<Watched<D> as Disk>⟧.size U.took A.handler g made self.now) → node < made → made ≡ g.nodes → IsDone g is.emissions is.nodes node → ⊥ }
-        ensures done { result ≡ false → (g : Game) (made : ℕ) (is : IsRunning ⟦<Watched<D> as Disk>⟧.told ⟦<Watched<D> as Disk>⟧.size U.took A.handler g made self.now) → node < made → made ≡ g.nodes → IsDone g is.emissions is.nodes node }
+        requires { Works D.Disk U.Outlet A.App node self.now }
+        ensures busy { result ≡ true → (g : Game) (made : ℕ) (is : Up D.Disk U.Outlet A.App g made self.now)
+            → node < made → made ≡ g.nodes → IsDone g is.emissions is.nodes node → ⊥ }
+        ensures done { result ≡ false → (g : Game) (made : ℕ) (is : Up D.Disk U.Outlet A.App g made self.now)
+            → node < made → made ≡ g.nodes → IsDone g is.emissions is.nodes node }
     {
         let end = self.node_at(node);
         if end.has_unemitted() {
@@ -84,9 +93,11 @@ impl<D: Disk, O: Oracle, U: Outlet, A: App> Run<D, O, U, A> {
     /// Whether the run has ended: each output was emitted, before a restart or after it, and what waits is for nodes that have made
     /// all their turns. It asks each node, and each for each other, and copies nothing.
     pub(crate) fn has_ended(&self) -> bool
-        requires { MayGoOn ⟦<Watched<D> as Disk>⟧.told ⟦<Watched<D> as Disk>⟧.size U.took A.handler self.now }
-        ensures ended { result ≡ true → (g : Game) (made : ℕ) (is : IsRunning ⟦<Watched<D> as Disk>⟧.told ⟦<Watched<D> as Disk>⟧.size U.took A.handler g made self.now) → made ≡ g.nodes → HasEnded g is.emissions is.nodes }
-        ensures goes_on { result ≡ false → (g : Game) (made : ℕ) (is : IsRunning ⟦<Watched<D> as Disk>⟧.told ⟦<Watched<D> as Disk>⟧.size U.took A.handler g made self.now) → made ≡ g.nodes → HasEnded g is.emissions is.nodes → ⊥ }
+        requires { GoesOn D.Disk U.Outlet A.App self.now }
+        ensures ended { result ≡ true → (g : Game) (made : ℕ) (is : Up D.Disk U.Outlet A.App g made self.now)
+            → made ≡ g.nodes → HasEnded g is.emissions is.nodes }
+        ensures goes_on { result ≡ false → (g : Game) (made : ℕ) (is : Up D.Disk U.Outlet A.App g made self.now)
+            → made ≡ g.nodes → HasEnded g is.emissions is.nodes → ⊥ }
     {
         for node in 0..self.nodes {
             if self.is_busy(node) {

@@ -34,7 +34,8 @@ fn keep_station<W: World>(station: Station<W::Dev, W::Luck, W::Out>, node: u8, w
 /// Ends a run: the disks, the oracle and the outlet of each node are given to `World::keep`, in rising order.
 pub fn finish<W: World, A: Drop>(run: Run<W::Dev, W::Luck, W::Out, A>, world: &mut W)
     requires { length run.stations.items ≤ MAX_NODES }
-    ensures given { (v : ℕ) (d : Stood W.Dev W.Luck W.Out) → v < length run.stations.items → WasKept (slice_index_or run.stations.items v d) (W.kept world.new v) }
+    ensures given { (v : ℕ) (d : Stood W.Dev W.Luck W.Out) → v < length run.stations.items
+        → WasKept (slice_index_or run.stations.items v d) (W.kept world.new v) }
     ensures others { (v : ℕ) → length run.stations.items ≤ v → W.kept world.new v ≡ W.kept world.old v }
 {
     for (node, station) in (0..).zip(run.stations) {

@@ -1,5 +1,6 @@
 // What holds of the nodes of a run. Each law is the contract of a function that does nothing.
 ghost use Rattle.std.specs.Prelude.{Bool};
+ghost use Rattle.ken_drive.specs.Clauses.{views_of};
 ghost use Rattle.ken_drive.specs.Driven.{EndedRunsKeep};
 ghost use Rattle.ken_drive.specs.Recovering.{UpRecovers};
 ghost use Rattle.ken_drive.specs.Starting.{KindsServe};
@@ -18,7 +19,7 @@ pub fn a_node_is_recovered<D: Disk>()
 
 /// What a run that has ended leaves with its world, where its devices are kept.
 pub fn ended_runs_keep<D: Disk, O: Oracle, U: Outlet, A: App>()
-    ensures { (scripted : Bool) → EndedRunsKeep (record { told = D.told; faults = D.faults; fate = D.fate; telling = O.telling; took = U.took; refused = U.faults; calls = U.fate; scripted = scripted }) D.size A.handler }
+    ensures { (scripted : Bool) → EndedRunsKeep (views_of D.Disk O.Oracle U.Outlet scripted) D.size A.handler }
 {
     ken_store::apart_recovers::<Watched<D>>();
     ken_node::a_node_has_synced::<Watched<D>>();

@@ -4,9 +4,9 @@ ghost use Rattle.ken_core.specs.Timeline.{StampsRise};
 ghost use Rattle.ken_core.specs.Turns.{effects_line};
 ghost use Rattle.ken_model.specs.Game.{Game};
 ghost use Rattle.ken_model.specs.History.{lines_by};
-ghost use Rattle.ken_model.specs.Limits.{IsPlainRun};
 ghost use Rattle.ken_node.specs.Stages.{IsCreated, emissions_in, turns_in};
-ghost use Rattle.ken_drive.specs.Ended.{AddsHeap, AreWords, MayTell, HaveSaid, IsEnded, IsReportOf, ending_of, restart_lines, waits_for, waits_in};
+ghost use Rattle.ken_drive.specs.Ended.{AddsHeap, AreWords, HaveSaid, ending_of, restart_lines, waits_for, waits_in};
+ghost use Rattle.ken_drive.specs.Clauses.{Over, ReportsRun, Tells};
 
 use crate::copies;
 use crate::run::Run;
@@ -54,10 +54,14 @@ impl Summary {
         requires created { IsCreated station.now.node.stage }
         requires rise { StampsRise 0 (map (effects_line node) (turns_in station.now.node.stage)) }
         requires fresh { lines_by node self.old.timeline ≡ [] }
-        ensures its_turns { OnOk result (lines_by node self.new.timeline ≡ map (effects_line node) (turns_in station.now.node.stage)) }
-        ensures others { OnOk result ((v : ℕ) → v ≢ node → lines_by v self.new.timeline ≡ lines_by v self.old.timeline) }
-        ensures emissions { OnOk result (self.new.emissions.items ≡ self.old.emissions.items ++ emissions_in station.now.node.stage) }
-        ensures restarts { OnOk result (self.new.restarts.items ≡ self.old.restarts.items ++ restart_lines node station.now.lines.items) }
+        ensures its_turns { OnOk result (lines_by node self.new.timeline ≡ map (effects_line node)
+            (turns_in station.now.node.stage)) }
+        ensures others { OnOk result ((v : ℕ) → v ≢ node
+            → lines_by v self.new.timeline ≡ lines_by v self.old.timeline) }
+        ensures emissions { OnOk result (self.new.emissions.items
+            ≡ self.old.emissions.items ++ emissions_in station.now.node.stage) }
+        ensures restarts { OnOk result (self.new.restarts.items
+            ≡ self.old.restarts.items ++ restart_lines node station.now.lines.items) }
         ensures words { OnOk result (AreWords self.old.restarts.items → AreWords self.new.restarts.items) }
         ensures heap { OnOk result (AddsHeap station.now.node.stage self.old.heaps.items self.new.heaps.items) }
     {
@@ -111,7 +115,7 @@ fn ending_of(waiting: u64) -> Ending
 impl<D: Disk, O: Oracle, U: Outlet, A: App> Run<D, O, U, A> {
     /// What all nodes say.
     fn gather(&self) -> Result<Summary, AllocError>
-        requires { MayTell ⟦<Watched<D> as Disk>⟧.told ⟦<Watched<D> as Disk>⟧.size U.took A.handler self.now }
+        requires { Tells D.Disk U.Outlet A.App self.now }
         ensures { IfOk result (HaveSaid (length self.now.stations.items) self.now.stations.items) }
     {
         let mut summary = Summary::new(self.alloc);
@@ -123,9 +127,9 @@ impl<D: Disk, O: Oracle, U: Outlet, A: App> Run<D, O, U, A> {
 
     /// How many messages and inputs wait for a node.
     fn waiting_for(&self, node: u8) -> u64
-        requires ended { MayTell ⟦<Watched<D> as Disk>⟧.told ⟦<Watched<D> as Disk>⟧.size U.took A.handler self.now }
+        requires ended { Tells D.Disk U.Outlet A.App self.now }
         requires known { node < self.now.nodes }
-        ensures { (g : Game) (e : IsEnded ⟦<Watched<D> as Disk>⟧.told ⟦<Watched<D> as Disk>⟧.size U.took A.handler g self.now) → result ≡ waits_for g e.running.nodes node }
+        ensures { (g : Game) (e : Over D.Disk U.Outlet A.App g self.now) → result ≡ waits_for g e.running.nodes node }
     {
         let receiver = &self.stations[usize::from(node)].node;
         let mut waiting = receiver.inputs() - receiver.consumed(OUTSIDE);
@@ -138,8 +142,8 @@ impl<D: Disk, O: Oracle, U: Outlet, A: App> Run<D, O, U, A> {
 
     /// How many messages and inputs wait.
     fn waiting(&self) -> u64
-        requires { MayTell ⟦<Watched<D> as Disk>⟧.told ⟦<Watched<D> as Disk>⟧.size U.took A.handler self.now }
-        ensures { (g : Game) (e : IsEnded ⟦<Watched<D> as Disk>⟧.told ⟦<Watched<D> as Disk>⟧.size U.took A.handler g self.now) → result ≡ waits_in g e.running.nodes }
+        requires { Tells D.Disk U.Outlet A.App self.now }
+        ensures { (g : Game) (e : Over D.Disk U.Outlet A.App g self.now) → result ≡ waits_in g e.running.nodes }
     {
         let mut waiting = 0;
         for node in 0..self.nodes {
@@ -150,8 +154,9 @@ impl<D: Disk, O: Oracle, U: Outlet, A: App> Run<D, O, U, A> {
 
     /// How the run has ended: `Settled` where nothing waits, and else `Cut`.
     pub fn end(&self) -> Ending
-        requires { MayTell ⟦<Watched<D> as Disk>⟧.told ⟦<Watched<D> as Disk>⟧.size U.took A.handler self.now }
-        ensures { (g : Game) (e : IsEnded ⟦<Watched<D> as Disk>⟧.told ⟦<Watched<D> as Disk>⟧.size U.took A.handler g self.now) → result ≡ ending_of (waits_in g e.running.nodes) }
+        requires { Tells D.Disk U.Outlet A.App self.now }
+        ensures { (g : Game) (e : Over D.Disk U.Outlet A.App g self.now)
+            → result ≡ ending_of (waits_in g e.running.nodes) }
     {
         ending_of(self.waiting())
     }
@@ -159,8 +164,8 @@ impl<D: Disk, O: Oracle, U: Outlet, A: App> Run<D, O, U, A> {
     /// The lines of the run's report: the turns of all nodes in the order of their stamps, and at equal stamps of their nodes; what
     /// each node has emitted and how it was restarted, node by node; the heaps; and how the run has ended.
     pub fn lines(&self) -> Result<Lines, AllocError>
-        requires { MayTell ⟦<Watched<D> as Disk>⟧.told ⟦<Watched<D> as Disk>⟧.size U.took A.handler self.now }
-        ensures { (g : Game) (e : IsEnded ⟦<Watched<D> as Disk>⟧.told ⟦<Watched<D> as Disk>⟧.size U.took A.handler g self.now) → IsPlainRun g → IfOk result (IsReportOf ⟦<Watched<D> as Disk>⟧.told ⟦<Watched<D> as Disk>⟧.size U.took A.handler g self.now e) }
+        requires { Tells D.Disk U.Outlet A.App self.now }
+        ensures { ReportsRun D.Disk U.Outlet A.App self.now result }
     {
         let summary = self.gather()?;
         let turns = summary.timeline.into_lines(self.alloc)?;

@@ -1,15 +1,12 @@
 // A run of nodes: one after the other on one thread.
 ghost use Rattle.std.specs.Prelude.{◌≡◌, ◌⊎◌, ◌<◌, ◌≤◌, ◌+◌, ℕ, false, true, length, IfOk, IsErrOf, OnOk};
-ghost use Rattle.ken_model.specs.Game.{Game};
 ghost use Rattle.ken_ship.specs.declared.emit.Emit.TheVariants.{Done};
-ghost use Rattle.ken_drive.specs.Accounts.{AccountsBy, AccountsRunBy, AreAccounted, OneIsHeld, Terms};
 ghost use Rattle.ken_node.specs.NodeCalls.{UnlessMemory};
 ghost use Rattle.ken_flow.specs.Standstill.{Emits, Heard, Passed, Posted, Rested, Visited, Written};
-ghost use Rattle.ken_drive.specs.Flowing.{AllMoved, Moves, work_left};
+ghost use Rattle.ken_drive.specs.Flowing.{work_left};
 ghost use Rattle.ken_drive.specs.Left.{left_at, outputs_left, pages_left, tries_at, turns_left};
 ghost use Rattle.ken_drive.specs.Patched.{AllVisited, Changes, HasPatched, HasSettled, IsCall, IsPatchedAt, IsSettledSince, KeepsImage, MakesNone, MaySync, TriesBy, WasRestarted, WasVisited};
-ghost use Rattle.ken_drive.specs.Refusals.{AreRefused, RefusedBy, RefusedRunBy, StopsBy};
-ghost use Rattle.ken_drive.specs.Running.{IsRunning, IsStopped, LeavesBy, LeavesRunBy, MayBeRestarted, MayGoOn, MayWork};
+ghost use Rattle.ken_drive.specs.Clauses.{AccountsAgain, AccountsNode, AccountsRestarted, AccountsRun, AccountsVisited, GoesOn, LeavesAgain, LeavesNode, LeavesRestarted, LeavesRun, LeavesVisited, MovesNode, MovesRun, RefusesNode, RefusesRun, RefusesVisited, Restarts, StopsPass, StopsRestarted, StopsVisited, Works};
 
 use crate::faults::RunFault;
 use crate::inboxes::InFlight;
@@ -36,12 +33,13 @@ pub struct Run<D, O, U, A> {
 impl<D: Disk, O: Oracle, U: Outlet, A: App> Run<D, O, U, A> {
     /// A turn of a node.
     fn turn(&mut self, node: u8) -> Result<Took, NodeFault>
-        requires { MayWork ⟦<Watched<D> as Disk>⟧.told ⟦<Watched<D> as Disk>⟧.size U.took A.handler node self.old }
-        ensures leaves { (g : Game) (made : ℕ) → IsRunning ⟦<Watched<D> as Disk>⟧.told ⟦<Watched<D> as Disk>⟧.size U.took A.handler g made self.old → node < made → LeavesBy ⟦<Watched<D> as Disk>⟧.told ⟦<Watched<D> as Disk>⟧.size U.took A.handler result g made node self.new }
-        ensures accounts { (terms : Terms) (g : Game) (made : ℕ) → IsRunning ⟦<Watched<D> as Disk>⟧.told ⟦<Watched<D> as Disk>⟧.size U.took A.handler g made self.old → node < made → AreAccounted ⟦<Watched<D> as Disk>⟧.told ⟦<Watched<D> as Disk>⟧.faults ⟦<Watched<D> as Disk>⟧.fate O.telling terms g made self.old → AccountsBy ⟦<Watched<D> as Disk>⟧.told ⟦<Watched<D> as Disk>⟧.faults ⟦<Watched<D> as Disk>⟧.fate O.telling terms g result made node self.new }
-        ensures refused { (terms : Terms) (made : ℕ) → node < made → AreRefused U.faults U.fate terms made self.old → RefusedBy U.faults U.fate terms result made node self.new }
-        ensures fewer { result ≡ Ok Took.Turn → left_at turns_left self.new.stations.items node < left_at turns_left self.old.stations.items node }
-        ensures moves { OnOk result (Moves ⟦<Watched<D> as Disk>⟧.told ⟦<Watched<D> as Disk>⟧.size U.took A.handler (λ g. Rested g node) node self.old self.new) }
+        requires { Works D.Disk U.Outlet A.App node self.old }
+        ensures leaves { LeavesNode D.Disk U.Outlet A.App node self.old result self.new }
+        ensures accounts { AccountsNode D.Disk O.Oracle U.Outlet A.App node self.old result self.new }
+        ensures refused { RefusesNode U.Outlet node self.old result self.new }
+        ensures fewer { result ≡ Ok Took.Turn
+            → left_at turns_left self.new.stations.items node < left_at turns_left self.old.stations.items node }
+        ensures moves { MovesNode D.Disk U.Outlet A.App (λ g. Rested g node) node self.old result self.new }
         ensures worked { result ≡ Ok Took.Turn → work_left self.new < work_left self.old }
         ensures less { IsErrOf result NodeFault.Disk → work_left self.new ≤ work_left self.old }
         ensures called { IsCall result (MaySync ⟦<Watched<D> as Disk>⟧.told) node self.old self.new }
@@ -52,12 +50,13 @@ impl<D: Disk, O: Oracle, U: Outlet, A: App> Run<D, O, U, A> {
 
     /// A page of a node is written to its image.
     fn patch(&mut self, node: u8) -> Result<bool, NodeFault>
-        requires { MayWork ⟦<Watched<D> as Disk>⟧.told ⟦<Watched<D> as Disk>⟧.size U.took A.handler node self.old }
-        ensures leaves { (g : Game) (made : ℕ) → IsRunning ⟦<Watched<D> as Disk>⟧.told ⟦<Watched<D> as Disk>⟧.size U.took A.handler g made self.old → node < made → LeavesBy ⟦<Watched<D> as Disk>⟧.told ⟦<Watched<D> as Disk>⟧.size U.took A.handler result g made node self.new }
-        ensures accounts { (terms : Terms) (g : Game) (made : ℕ) → IsRunning ⟦<Watched<D> as Disk>⟧.told ⟦<Watched<D> as Disk>⟧.size U.took A.handler g made self.old → node < made → AreAccounted ⟦<Watched<D> as Disk>⟧.told ⟦<Watched<D> as Disk>⟧.faults ⟦<Watched<D> as Disk>⟧.fate O.telling terms g made self.old → AccountsBy ⟦<Watched<D> as Disk>⟧.told ⟦<Watched<D> as Disk>⟧.faults ⟦<Watched<D> as Disk>⟧.fate O.telling terms g result made node self.new }
-        ensures refused { (terms : Terms) (made : ℕ) → node < made → AreRefused U.faults U.fate terms made self.old → RefusedBy U.faults U.fate terms result made node self.new }
-        ensures fewer { result ≡ Ok true → left_at pages_left self.new.stations.items node < left_at pages_left self.old.stations.items node }
-        ensures moves { OnOk result (Moves ⟦<Watched<D> as Disk>⟧.told ⟦<Watched<D> as Disk>⟧.size U.took A.handler (λ g. Written node) node self.old self.new) }
+        requires { Works D.Disk U.Outlet A.App node self.old }
+        ensures leaves { LeavesNode D.Disk U.Outlet A.App node self.old result self.new }
+        ensures accounts { AccountsNode D.Disk O.Oracle U.Outlet A.App node self.old result self.new }
+        ensures refused { RefusesNode U.Outlet node self.old result self.new }
+        ensures fewer { result ≡ Ok true
+            → left_at pages_left self.new.stations.items node < left_at pages_left self.old.stations.items node }
+        ensures moves { MovesNode D.Disk U.Outlet A.App (λ g. Written node) node self.old result self.new }
         ensures less { IsErrOf result NodeFault.Disk → work_left self.new ≤ work_left self.old }
         ensures called { IsCall result (MaySync ⟦<Watched<D> as Disk>⟧.told) node self.old self.new }
         ensures patched { result ≡ Ok false → IsPatchedAt node self.new }
@@ -67,12 +66,12 @@ impl<D: Disk, O: Oracle, U: Outlet, A: App> Run<D, O, U, A> {
 
     /// The image of a node is synced.
     fn settle(&mut self, node: u8) -> Result<(), NodeFault>
-        requires { MayWork ⟦<Watched<D> as Disk>⟧.told ⟦<Watched<D> as Disk>⟧.size U.took A.handler node self.old }
-        ensures leaves { (g : Game) (made : ℕ) → IsRunning ⟦<Watched<D> as Disk>⟧.told ⟦<Watched<D> as Disk>⟧.size U.took A.handler g made self.old → node < made → LeavesBy ⟦<Watched<D> as Disk>⟧.told ⟦<Watched<D> as Disk>⟧.size U.took A.handler result g made node self.new }
-        ensures accounts { (terms : Terms) (g : Game) (made : ℕ) → IsRunning ⟦<Watched<D> as Disk>⟧.told ⟦<Watched<D> as Disk>⟧.size U.took A.handler g made self.old → node < made → AreAccounted ⟦<Watched<D> as Disk>⟧.told ⟦<Watched<D> as Disk>⟧.faults ⟦<Watched<D> as Disk>⟧.fate O.telling terms g made self.old → AccountsBy ⟦<Watched<D> as Disk>⟧.told ⟦<Watched<D> as Disk>⟧.faults ⟦<Watched<D> as Disk>⟧.fate O.telling terms g result made node self.new }
-        ensures moves { OnOk result (Moves ⟦<Watched<D> as Disk>⟧.told ⟦<Watched<D> as Disk>⟧.size U.took A.handler (λ g. Written node) node self.old self.new) }
+        requires { Works D.Disk U.Outlet A.App node self.old }
+        ensures leaves { LeavesNode D.Disk U.Outlet A.App node self.old result self.new }
+        ensures accounts { AccountsNode D.Disk O.Oracle U.Outlet A.App node self.old result self.new }
+        ensures moves { MovesNode D.Disk U.Outlet A.App (λ g. Written node) node self.old result self.new }
         ensures less { IsErrOf result NodeFault.Disk → work_left self.new ≤ work_left self.old }
-        ensures refused { (terms : Terms) (made : ℕ) → node < made → AreRefused U.faults U.fate terms made self.old → RefusedBy U.faults U.fate terms result made node self.new }
+        ensures refused { RefusesNode U.Outlet node self.old result self.new }
         ensures called { IsCall result (HasSettled ⟦<Watched<D> as Disk>⟧.told) node self.old self.new }
     {
         self.stations[usize::from(node)].node.settle()
@@ -80,12 +79,12 @@ impl<D: Disk, O: Oracle, U: Outlet, A: App> Run<D, O, U, A> {
 
     /// A node sends what is due.
     fn send(&mut self, node: u8) -> Result<(), NodeFault>
-        requires { MayWork ⟦<Watched<D> as Disk>⟧.told ⟦<Watched<D> as Disk>⟧.size U.took A.handler node self.old }
-        ensures leaves { (g : Game) (made : ℕ) → IsRunning ⟦<Watched<D> as Disk>⟧.told ⟦<Watched<D> as Disk>⟧.size U.took A.handler g made self.old → node < made → LeavesBy ⟦<Watched<D> as Disk>⟧.told ⟦<Watched<D> as Disk>⟧.size U.took A.handler result g made node self.new }
-        ensures accounts { (terms : Terms) (g : Game) (made : ℕ) → IsRunning ⟦<Watched<D> as Disk>⟧.told ⟦<Watched<D> as Disk>⟧.size U.took A.handler g made self.old → node < made → AreAccounted ⟦<Watched<D> as Disk>⟧.told ⟦<Watched<D> as Disk>⟧.faults ⟦<Watched<D> as Disk>⟧.fate O.telling terms g made self.old → AccountsBy ⟦<Watched<D> as Disk>⟧.told ⟦<Watched<D> as Disk>⟧.faults ⟦<Watched<D> as Disk>⟧.fate O.telling terms g result made node self.new }
-        ensures moves { OnOk result (Moves ⟦<Watched<D> as Disk>⟧.told ⟦<Watched<D> as Disk>⟧.size U.took A.handler (λ g. Posted g node) node self.old self.new) }
+        requires { Works D.Disk U.Outlet A.App node self.old }
+        ensures leaves { LeavesNode D.Disk U.Outlet A.App node self.old result self.new }
+        ensures accounts { AccountsNode D.Disk O.Oracle U.Outlet A.App node self.old result self.new }
+        ensures moves { MovesNode D.Disk U.Outlet A.App (λ g. Posted g node) node self.old result self.new }
         ensures less { IsErrOf result NodeFault.Disk → work_left self.new ≤ work_left self.old }
-        ensures refused { (terms : Terms) (made : ℕ) → node < made → AreRefused U.faults U.fate terms made self.old → RefusedBy U.faults U.fate terms result made node self.new }
+        ensures refused { RefusesNode U.Outlet node self.old result self.new }
         ensures called { IsCall result (KeepsImage ⟦<Watched<D> as Disk>⟧.told) node self.old self.new }
     {
         self.stations[usize::from(node)].send(self.alloc, &mut self.waiting)?;
@@ -94,12 +93,12 @@ impl<D: Disk, O: Oracle, U: Outlet, A: App> Run<D, O, U, A> {
 
     /// A node takes acknowledgements.
     fn hear(&mut self, node: u8) -> Result<(), NodeFault>
-        requires { MayWork ⟦<Watched<D> as Disk>⟧.told ⟦<Watched<D> as Disk>⟧.size U.took A.handler node self.old }
-        ensures leaves { (g : Game) (made : ℕ) → IsRunning ⟦<Watched<D> as Disk>⟧.told ⟦<Watched<D> as Disk>⟧.size U.took A.handler g made self.old → node < made → LeavesBy ⟦<Watched<D> as Disk>⟧.told ⟦<Watched<D> as Disk>⟧.size U.took A.handler result g made node self.new }
-        ensures accounts { (terms : Terms) (g : Game) (made : ℕ) → IsRunning ⟦<Watched<D> as Disk>⟧.told ⟦<Watched<D> as Disk>⟧.size U.took A.handler g made self.old → node < made → AreAccounted ⟦<Watched<D> as Disk>⟧.told ⟦<Watched<D> as Disk>⟧.faults ⟦<Watched<D> as Disk>⟧.fate O.telling terms g made self.old → AccountsBy ⟦<Watched<D> as Disk>⟧.told ⟦<Watched<D> as Disk>⟧.faults ⟦<Watched<D> as Disk>⟧.fate O.telling terms g result made node self.new }
-        ensures moves { OnOk result (Moves ⟦<Watched<D> as Disk>⟧.told ⟦<Watched<D> as Disk>⟧.size U.took A.handler (λ g. Heard g node) node self.old self.new) }
+        requires { Works D.Disk U.Outlet A.App node self.old }
+        ensures leaves { LeavesNode D.Disk U.Outlet A.App node self.old result self.new }
+        ensures accounts { AccountsNode D.Disk O.Oracle U.Outlet A.App node self.old result self.new }
+        ensures moves { MovesNode D.Disk U.Outlet A.App (λ g. Heard g node) node self.old result self.new }
         ensures less { IsErrOf result NodeFault.Disk → work_left self.new ≤ work_left self.old }
-        ensures refused { (terms : Terms) (made : ℕ) → node < made → AreRefused U.faults U.fate terms made self.old → RefusedBy U.faults U.fate terms result made node self.new }
+        ensures refused { RefusesNode U.Outlet node self.old result self.new }
         ensures called { IsCall result (KeepsImage ⟦<Watched<D> as Disk>⟧.told) node self.old self.new }
     {
         self.stations[usize::from(node)].hear(self.alloc, &mut self.waiting)?;
@@ -108,12 +107,13 @@ impl<D: Disk, O: Oracle, U: Outlet, A: App> Run<D, O, U, A> {
 
     /// A node emits the output that is due.
     fn emit(&mut self, node: u8) -> Result<Emit, NodeFault>
-        requires { MayWork ⟦<Watched<D> as Disk>⟧.told ⟦<Watched<D> as Disk>⟧.size U.took A.handler node self.old }
-        ensures leaves { (g : Game) (made : ℕ) → IsRunning ⟦<Watched<D> as Disk>⟧.told ⟦<Watched<D> as Disk>⟧.size U.took A.handler g made self.old → node < made → LeavesBy ⟦<Watched<D> as Disk>⟧.told ⟦<Watched<D> as Disk>⟧.size U.took A.handler result g made node self.new }
-        ensures accounts { (terms : Terms) (g : Game) (made : ℕ) → IsRunning ⟦<Watched<D> as Disk>⟧.told ⟦<Watched<D> as Disk>⟧.size U.took A.handler g made self.old → node < made → AreAccounted ⟦<Watched<D> as Disk>⟧.told ⟦<Watched<D> as Disk>⟧.faults ⟦<Watched<D> as Disk>⟧.fate O.telling terms g made self.old → AccountsBy ⟦<Watched<D> as Disk>⟧.told ⟦<Watched<D> as Disk>⟧.faults ⟦<Watched<D> as Disk>⟧.fate O.telling terms g result made node self.new }
-        ensures refused { (terms : Terms) (made : ℕ) → node < made → AreRefused U.faults U.fate terms made self.old → RefusedBy U.faults U.fate terms result made node self.new }
-        ensures fewer { (number : ℕ) → result ≡ Ok (Done number) → left_at outputs_left self.new.stations.items node < left_at outputs_left self.old.stations.items node }
-        ensures moves { OnOk result (Moves ⟦<Watched<D> as Disk>⟧.told ⟦<Watched<D> as Disk>⟧.size U.took A.handler (λ g. Emits node) node self.old self.new) }
+        requires { Works D.Disk U.Outlet A.App node self.old }
+        ensures leaves { LeavesNode D.Disk U.Outlet A.App node self.old result self.new }
+        ensures accounts { AccountsNode D.Disk O.Oracle U.Outlet A.App node self.old result self.new }
+        ensures refused { RefusesNode U.Outlet node self.old result self.new }
+        ensures fewer { (number : ℕ) → result ≡ Ok (Done number)
+            → left_at outputs_left self.new.stations.items node < left_at outputs_left self.old.stations.items node }
+        ensures moves { MovesNode D.Disk U.Outlet A.App (λ g. Emits node) node self.old result self.new }
         ensures less { IsErrOf result NodeFault.Disk → work_left self.new ≤ work_left self.old }
         ensures called { IsCall result (KeepsImage ⟦<Watched<D> as Disk>⟧.told) node self.old self.new }
     {
@@ -122,12 +122,12 @@ impl<D: Disk, O: Oracle, U: Outlet, A: App> Run<D, O, U, A> {
 
     /// All turns that a node can make.
     fn turns(&mut self, node: u8) -> Result<(), NodeFault>
-        requires { MayWork ⟦<Watched<D> as Disk>⟧.told ⟦<Watched<D> as Disk>⟧.size U.took A.handler node self.old }
-        ensures leaves { (g : Game) (made : ℕ) → IsRunning ⟦<Watched<D> as Disk>⟧.told ⟦<Watched<D> as Disk>⟧.size U.took A.handler g made self.old → node < made → LeavesBy ⟦<Watched<D> as Disk>⟧.told ⟦<Watched<D> as Disk>⟧.size U.took A.handler result g made node self.new }
-        ensures accounts { (terms : Terms) (g : Game) (made : ℕ) → IsRunning ⟦<Watched<D> as Disk>⟧.told ⟦<Watched<D> as Disk>⟧.size U.took A.handler g made self.old → node < made → AreAccounted ⟦<Watched<D> as Disk>⟧.told ⟦<Watched<D> as Disk>⟧.faults ⟦<Watched<D> as Disk>⟧.fate O.telling terms g made self.old → AccountsBy ⟦<Watched<D> as Disk>⟧.told ⟦<Watched<D> as Disk>⟧.faults ⟦<Watched<D> as Disk>⟧.fate O.telling terms g result made node self.new }
-        ensures moves { OnOk result (Moves ⟦<Watched<D> as Disk>⟧.told ⟦<Watched<D> as Disk>⟧.size U.took A.handler (λ g. Rested g node) node self.old self.new) }
+        requires { Works D.Disk U.Outlet A.App node self.old }
+        ensures leaves { LeavesNode D.Disk U.Outlet A.App node self.old result self.new }
+        ensures accounts { AccountsNode D.Disk O.Oracle U.Outlet A.App node self.old result self.new }
+        ensures moves { MovesNode D.Disk U.Outlet A.App (λ g. Rested g node) node self.old result self.new }
         ensures less { IsErrOf result NodeFault.Disk → work_left self.new ≤ work_left self.old }
-        ensures refused { (terms : Terms) (made : ℕ) → node < made → AreRefused U.faults U.fate terms made self.old → RefusedBy U.faults U.fate terms result made node self.new }
+        ensures refused { RefusesNode U.Outlet node self.old result self.new }
         ensures called { IsCall result (MaySync ⟦<Watched<D> as Disk>⟧.told) node self.old self.new }
         ensures rests { OnOk result (MakesNone node self.new) }
     {
@@ -137,12 +137,12 @@ impl<D: Disk, O: Oracle, U: Outlet, A: App> Run<D, O, U, A> {
 
     /// All pages that a node has to write.
     fn pages(&mut self, node: u8) -> Result<(), NodeFault>
-        requires { MayWork ⟦<Watched<D> as Disk>⟧.told ⟦<Watched<D> as Disk>⟧.size U.took A.handler node self.old }
-        ensures leaves { (g : Game) (made : ℕ) → IsRunning ⟦<Watched<D> as Disk>⟧.told ⟦<Watched<D> as Disk>⟧.size U.took A.handler g made self.old → node < made → LeavesBy ⟦<Watched<D> as Disk>⟧.told ⟦<Watched<D> as Disk>⟧.size U.took A.handler result g made node self.new }
-        ensures accounts { (terms : Terms) (g : Game) (made : ℕ) → IsRunning ⟦<Watched<D> as Disk>⟧.told ⟦<Watched<D> as Disk>⟧.size U.took A.handler g made self.old → node < made → AreAccounted ⟦<Watched<D> as Disk>⟧.told ⟦<Watched<D> as Disk>⟧.faults ⟦<Watched<D> as Disk>⟧.fate O.telling terms g made self.old → AccountsBy ⟦<Watched<D> as Disk>⟧.told ⟦<Watched<D> as Disk>⟧.faults ⟦<Watched<D> as Disk>⟧.fate O.telling terms g result made node self.new }
-        ensures moves { OnOk result (Moves ⟦<Watched<D> as Disk>⟧.told ⟦<Watched<D> as Disk>⟧.size U.took A.handler (λ g. Written node) node self.old self.new) }
+        requires { Works D.Disk U.Outlet A.App node self.old }
+        ensures leaves { LeavesNode D.Disk U.Outlet A.App node self.old result self.new }
+        ensures accounts { AccountsNode D.Disk O.Oracle U.Outlet A.App node self.old result self.new }
+        ensures moves { MovesNode D.Disk U.Outlet A.App (λ g. Written node) node self.old result self.new }
         ensures less { IsErrOf result NodeFault.Disk → work_left self.new ≤ work_left self.old }
-        ensures refused { (terms : Terms) (made : ℕ) → node < made → AreRefused U.faults U.fate terms made self.old → RefusedBy U.faults U.fate terms result made node self.new }
+        ensures refused { RefusesNode U.Outlet node self.old result self.new }
         ensures called { IsCall result (HasPatched ⟦<Watched<D> as Disk>⟧.told) node self.old self.new }
     {
         'pages: while self.patch(node)? {}
@@ -151,12 +151,12 @@ impl<D: Disk, O: Oracle, U: Outlet, A: App> Run<D, O, U, A> {
 
     /// All outputs that a node has to emit, until its outlet refuses one.
     fn outputs(&mut self, node: u8) -> Result<(), NodeFault>
-        requires { MayWork ⟦<Watched<D> as Disk>⟧.told ⟦<Watched<D> as Disk>⟧.size U.took A.handler node self.old }
-        ensures leaves { (g : Game) (made : ℕ) → IsRunning ⟦<Watched<D> as Disk>⟧.told ⟦<Watched<D> as Disk>⟧.size U.took A.handler g made self.old → node < made → LeavesBy ⟦<Watched<D> as Disk>⟧.told ⟦<Watched<D> as Disk>⟧.size U.took A.handler result g made node self.new }
-        ensures accounts { (terms : Terms) (g : Game) (made : ℕ) → IsRunning ⟦<Watched<D> as Disk>⟧.told ⟦<Watched<D> as Disk>⟧.size U.took A.handler g made self.old → node < made → AreAccounted ⟦<Watched<D> as Disk>⟧.told ⟦<Watched<D> as Disk>⟧.faults ⟦<Watched<D> as Disk>⟧.fate O.telling terms g made self.old → AccountsBy ⟦<Watched<D> as Disk>⟧.told ⟦<Watched<D> as Disk>⟧.faults ⟦<Watched<D> as Disk>⟧.fate O.telling terms g result made node self.new }
-        ensures moves { OnOk result (Moves ⟦<Watched<D> as Disk>⟧.told ⟦<Watched<D> as Disk>⟧.size U.took A.handler (λ g. Emits node) node self.old self.new) }
+        requires { Works D.Disk U.Outlet A.App node self.old }
+        ensures leaves { LeavesNode D.Disk U.Outlet A.App node self.old result self.new }
+        ensures accounts { AccountsNode D.Disk O.Oracle U.Outlet A.App node self.old result self.new }
+        ensures moves { MovesNode D.Disk U.Outlet A.App (λ g. Emits node) node self.old result self.new }
         ensures less { IsErrOf result NodeFault.Disk → work_left self.new ≤ work_left self.old }
-        ensures refused { (terms : Terms) (made : ℕ) → node < made → AreRefused U.faults U.fate terms made self.old → RefusedBy U.faults U.fate terms result made node self.new }
+        ensures refused { RefusesNode U.Outlet node self.old result self.new }
         ensures called { IsCall result (KeepsImage ⟦<Watched<D> as Disk>⟧.told) node self.old self.new }
     {
         'outputs: while let Emit::Done(_) = self.emit(node)? {}
@@ -165,12 +165,12 @@ impl<D: Disk, O: Oracle, U: Outlet, A: App> Run<D, O, U, A> {
 
     /// All calls of a node in a visit.
     fn work(&mut self, node: u8) -> Result<(), NodeFault>
-        requires { MayWork ⟦<Watched<D> as Disk>⟧.told ⟦<Watched<D> as Disk>⟧.size U.took A.handler node self.old }
-        ensures leaves { (g : Game) (made : ℕ) → IsRunning ⟦<Watched<D> as Disk>⟧.told ⟦<Watched<D> as Disk>⟧.size U.took A.handler g made self.old → node < made → LeavesBy ⟦<Watched<D> as Disk>⟧.told ⟦<Watched<D> as Disk>⟧.size U.took A.handler result g made node self.new }
-        ensures accounts { (terms : Terms) (g : Game) (made : ℕ) → IsRunning ⟦<Watched<D> as Disk>⟧.told ⟦<Watched<D> as Disk>⟧.size U.took A.handler g made self.old → node < made → AreAccounted ⟦<Watched<D> as Disk>⟧.told ⟦<Watched<D> as Disk>⟧.faults ⟦<Watched<D> as Disk>⟧.fate O.telling terms g made self.old → AccountsBy ⟦<Watched<D> as Disk>⟧.told ⟦<Watched<D> as Disk>⟧.faults ⟦<Watched<D> as Disk>⟧.fate O.telling terms g result made node self.new }
-        ensures moves { OnOk result (Moves ⟦<Watched<D> as Disk>⟧.told ⟦<Watched<D> as Disk>⟧.size U.took A.handler (λ g. Visited g node) node self.old self.new) }
+        requires { Works D.Disk U.Outlet A.App node self.old }
+        ensures leaves { LeavesNode D.Disk U.Outlet A.App node self.old result self.new }
+        ensures accounts { AccountsNode D.Disk O.Oracle U.Outlet A.App node self.old result self.new }
+        ensures moves { MovesNode D.Disk U.Outlet A.App (λ g. Visited g node) node self.old result self.new }
         ensures less { IsErrOf result NodeFault.Disk → work_left self.new ≤ work_left self.old }
-        ensures refused { (terms : Terms) (made : ℕ) → node < made → AreRefused U.faults U.fate terms made self.old → RefusedBy U.faults U.fate terms result made node self.new }
+        ensures refused { RefusesNode U.Outlet node self.old result self.new }
         ensures called { IsCall result (IsSettledSince ⟦<Watched<D> as Disk>⟧.told) node self.old self.new }
     {
         self.turns(node)?;
@@ -183,12 +183,13 @@ impl<D: Disk, O: Oracle, U: Outlet, A: App> Run<D, O, U, A> {
 
     /// Restarts a node once. It was restarted less often than it may be.
     fn restart_once(&mut self, node: u8, most: u64) -> Result<(), NodeFault>
-        requires may { MayBeRestarted ⟦<Watched<D> as Disk>⟧.told ⟦<Watched<D> as Disk>⟧.size U.took A.handler node self.old }
+        requires may { Restarts D.Disk U.Outlet A.App node self.old }
         requires left { tries_at self.old.stations.items node < most }
-        ensures leaves { (g : Game) (made : ℕ) → IsStopped ⟦<Watched<D> as Disk>⟧.told ⟦<Watched<D> as Disk>⟧.size U.took A.handler g made node self.old → LeavesBy ⟦<Watched<D> as Disk>⟧.told ⟦<Watched<D> as Disk>⟧.size U.took A.handler result g made node self.new }
-        ensures accounts { (terms : Terms) (g : Game) (made : ℕ) → IsStopped ⟦<Watched<D> as Disk>⟧.told ⟦<Watched<D> as Disk>⟧.size U.took A.handler g made node self.old → most ≡ terms.most → OneIsHeld ⟦<Watched<D> as Disk>⟧.told ⟦<Watched<D> as Disk>⟧.faults ⟦<Watched<D> as Disk>⟧.fate O.telling terms g made node self.old → AccountsBy ⟦<Watched<D> as Disk>⟧.told ⟦<Watched<D> as Disk>⟧.faults ⟦<Watched<D> as Disk>⟧.fate O.telling terms g result made node self.new }
-        ensures refused { (terms : Terms) (made : ℕ) → node < made → AreRefused U.faults U.fate terms made self.old → RefusedBy U.faults U.fate terms result made node self.new }
-        ensures tried { IsErrOf result NodeFault.Disk → tries_at self.new.stations.items node ≡ tries_at self.old.stations.items node + 1 }
+        ensures leaves { LeavesAgain D.Disk U.Outlet A.App node self.old result self.new }
+        ensures accounts { AccountsAgain D.Disk O.Oracle U.Outlet A.App most node self.old result self.new }
+        ensures refused { RefusesNode U.Outlet node self.old result self.new }
+        ensures tried { IsErrOf result NodeFault.Disk
+            → tries_at self.new.stations.items node ≡ tries_at self.old.stations.items node + 1 }
         ensures same { self.new.restarts ≡ self.old.restarts }
         ensures worked { most ≤ self.old.restarts → UnlessMemory result (work_left self.new < work_left self.old) }
         ensures restarted { Changes (TriesBy result) node self.old self.new }
@@ -206,12 +207,12 @@ impl<D: Disk, O: Oracle, U: Outlet, A: App> Run<D, O, U, A> {
 
     /// Restarts a node, and again where a disk fails in the restart.
     fn restart(&mut self, node: u8) -> Result<(), RunFault>
-        requires { MayBeRestarted ⟦<Watched<D> as Disk>⟧.told ⟦<Watched<D> as Disk>⟧.size U.took A.handler node self.old }
-        ensures leaves { (g : Game) (made : ℕ) → IsStopped ⟦<Watched<D> as Disk>⟧.told ⟦<Watched<D> as Disk>⟧.size U.took A.handler g made node self.old → LeavesRunBy ⟦<Watched<D> as Disk>⟧.told ⟦<Watched<D> as Disk>⟧.size U.took A.handler result g made self.new }
-        ensures accounts { (terms : Terms) (g : Game) (made : ℕ) → IsStopped ⟦<Watched<D> as Disk>⟧.told ⟦<Watched<D> as Disk>⟧.size U.took A.handler g made node self.old → OneIsHeld ⟦<Watched<D> as Disk>⟧.told ⟦<Watched<D> as Disk>⟧.faults ⟦<Watched<D> as Disk>⟧.fate O.telling terms g made node self.old → AccountsRunBy ⟦<Watched<D> as Disk>⟧.told ⟦<Watched<D> as Disk>⟧.faults ⟦<Watched<D> as Disk>⟧.fate O.telling terms g result made self.new }
+        requires { Restarts D.Disk U.Outlet A.App node self.old }
+        ensures leaves { LeavesRestarted D.Disk U.Outlet A.App node self.old result self.new }
+        ensures accounts { AccountsRestarted D.Disk O.Oracle U.Outlet A.App node self.old result self.new }
         ensures worked { OnOk result (work_left self.new < work_left self.old) }
-        ensures refused { (terms : Terms) (made : ℕ) → node < made → AreRefused U.faults U.fate terms made self.old → RefusedRunBy U.faults U.fate terms result made self.new }
-        ensures stops { (terms : Terms) (g : Game) (made : ℕ) → IsStopped ⟦<Watched<D> as Disk>⟧.told ⟦<Watched<D> as Disk>⟧.size U.took A.handler g made node self.old → OneIsHeld ⟦<Watched<D> as Disk>⟧.told ⟦<Watched<D> as Disk>⟧.faults ⟦<Watched<D> as Disk>⟧.fate O.telling terms g made node self.old → StopsBy ⟦<Watched<D> as Disk>⟧.told ⟦<Watched<D> as Disk>⟧.faults ⟦<Watched<D> as Disk>⟧.fate O.telling U.faults U.fate terms g result made self.new }
+        ensures refused { RefusesVisited U.Outlet node self.old result self.new }
+        ensures stops { StopsRestarted D.Disk O.Oracle U.Outlet A.App node self.old result self.new }
         ensures restarted { OnOk result (Changes WasRestarted node self.old self.new) }
     {
         let most = self.restarts;
@@ -230,12 +231,12 @@ impl<D: Disk, O: Oracle, U: Outlet, A: App> Run<D, O, U, A> {
 
     /// Visits a node: it does what there is to do, and is restarted where a disk of it failed.
     fn visit(&mut self, node: u8) -> Result<(), RunFault>
-        requires { MayWork ⟦<Watched<D> as Disk>⟧.told ⟦<Watched<D> as Disk>⟧.size U.took A.handler node self.old }
-        ensures leaves { (g : Game) (made : ℕ) → IsRunning ⟦<Watched<D> as Disk>⟧.told ⟦<Watched<D> as Disk>⟧.size U.took A.handler g made self.old → node < made → LeavesRunBy ⟦<Watched<D> as Disk>⟧.told ⟦<Watched<D> as Disk>⟧.size U.took A.handler result g made self.new }
-        ensures accounts { (terms : Terms) (g : Game) (made : ℕ) → IsRunning ⟦<Watched<D> as Disk>⟧.told ⟦<Watched<D> as Disk>⟧.size U.took A.handler g made self.old → node < made → AreAccounted ⟦<Watched<D> as Disk>⟧.told ⟦<Watched<D> as Disk>⟧.faults ⟦<Watched<D> as Disk>⟧.fate O.telling terms g made self.old → AccountsRunBy ⟦<Watched<D> as Disk>⟧.told ⟦<Watched<D> as Disk>⟧.faults ⟦<Watched<D> as Disk>⟧.fate O.telling terms g result made self.new }
-        ensures moves { OnOk result (Moves ⟦<Watched<D> as Disk>⟧.told ⟦<Watched<D> as Disk>⟧.size U.took A.handler (λ g. Visited g node) node self.old self.new) }
-        ensures refused { (terms : Terms) (made : ℕ) → node < made → AreRefused U.faults U.fate terms made self.old → RefusedRunBy U.faults U.fate terms result made self.new }
-        ensures stops { (terms : Terms) (g : Game) (made : ℕ) → IsRunning ⟦<Watched<D> as Disk>⟧.told ⟦<Watched<D> as Disk>⟧.size U.took A.handler g made self.old → node < made → AreAccounted ⟦<Watched<D> as Disk>⟧.told ⟦<Watched<D> as Disk>⟧.faults ⟦<Watched<D> as Disk>⟧.fate O.telling terms g made self.old → AreRefused U.faults U.fate terms made self.old → StopsBy ⟦<Watched<D> as Disk>⟧.told ⟦<Watched<D> as Disk>⟧.faults ⟦<Watched<D> as Disk>⟧.fate O.telling U.faults U.fate terms g result made self.new }
+        requires { Works D.Disk U.Outlet A.App node self.old }
+        ensures leaves { LeavesVisited D.Disk U.Outlet A.App node self.old result self.new }
+        ensures accounts { AccountsVisited D.Disk O.Oracle U.Outlet A.App node self.old result self.new }
+        ensures moves { MovesNode D.Disk U.Outlet A.App (λ g. Visited g node) node self.old result self.new }
+        ensures refused { RefusesVisited U.Outlet node self.old result self.new }
+        ensures stops { StopsVisited D.Disk O.Oracle U.Outlet A.App node self.old result self.new }
         ensures visited { OnOk result (Changes (WasVisited ⟦<Watched<D> as Disk>⟧.told) node self.old self.new) }
     {
         match self.work(node) {
@@ -252,12 +253,12 @@ impl<D: Disk, O: Oracle, U: Outlet, A: App> Run<D, O, U, A> {
     /// answers, and the pass goes on with the next one. `Down`: a disk of that node failed and it has no restart left, or its outlet
     /// refused one output 65 times in a row; the run may not go on. After `Memory` nothing is known of the run.
     pub fn pass(&mut self) -> Result<(), RunFault>
-        requires { MayGoOn ⟦<Watched<D> as Disk>⟧.told ⟦<Watched<D> as Disk>⟧.size U.took A.handler self.old }
-        ensures leaves { (g : Game) (made : ℕ) → IsRunning ⟦<Watched<D> as Disk>⟧.told ⟦<Watched<D> as Disk>⟧.size U.took A.handler g made self.old → LeavesRunBy ⟦<Watched<D> as Disk>⟧.told ⟦<Watched<D> as Disk>⟧.size U.took A.handler result g made self.new }
-        ensures accounts { (terms : Terms) (g : Game) (made : ℕ) → IsRunning ⟦<Watched<D> as Disk>⟧.told ⟦<Watched<D> as Disk>⟧.size U.took A.handler g made self.old → AreAccounted ⟦<Watched<D> as Disk>⟧.told ⟦<Watched<D> as Disk>⟧.faults ⟦<Watched<D> as Disk>⟧.fate O.telling terms g made self.old → AccountsRunBy ⟦<Watched<D> as Disk>⟧.told ⟦<Watched<D> as Disk>⟧.faults ⟦<Watched<D> as Disk>⟧.fate O.telling terms g result made self.new }
-        ensures moves { OnOk result (AllMoved ⟦<Watched<D> as Disk>⟧.told ⟦<Watched<D> as Disk>⟧.size U.took A.handler Passed self.old self.new) }
-        ensures refused { (terms : Terms) (made : ℕ) → self.old.nodes ≤ made → AreRefused U.faults U.fate terms made self.old → RefusedRunBy U.faults U.fate terms result made self.new }
-        ensures stops { (terms : Terms) (g : Game) (made : ℕ) → IsRunning ⟦<Watched<D> as Disk>⟧.told ⟦<Watched<D> as Disk>⟧.size U.took A.handler g made self.old → AreAccounted ⟦<Watched<D> as Disk>⟧.told ⟦<Watched<D> as Disk>⟧.faults ⟦<Watched<D> as Disk>⟧.fate O.telling terms g made self.old → AreRefused U.faults U.fate terms made self.old → StopsBy ⟦<Watched<D> as Disk>⟧.told ⟦<Watched<D> as Disk>⟧.faults ⟦<Watched<D> as Disk>⟧.fate O.telling U.faults U.fate terms g result made self.new }
+        requires { GoesOn D.Disk U.Outlet A.App self.old }
+        ensures leaves { LeavesRun D.Disk U.Outlet A.App self.old result self.new }
+        ensures accounts { AccountsRun D.Disk O.Oracle U.Outlet A.App self.old result self.new }
+        ensures moves { MovesRun D.Disk U.Outlet A.App Passed self.old result self.new }
+        ensures refused { RefusesRun U.Outlet self.old result self.new }
+        ensures stops { StopsPass D.Disk O.Oracle U.Outlet A.App self.old result self.new }
         ensures visited { OnOk result (AllVisited ⟦<Watched<D> as Disk>⟧.told self.old self.new) }
     {
         for node in 0..self.nodes {

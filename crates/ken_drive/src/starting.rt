@@ -1,11 +1,10 @@
 // How a run starts.
 ghost use Rattle.std.specs.Prelude.{◌+◌, ◌≡◌, ◌<◌, ◌≤◌, ℕ, IfOk};
-ghost use Rattle.ken_model.specs.Game.{Game, game_of};
+ghost use Rattle.ken_model.specs.Game.{game_of};
 ghost use Rattle.ken_model.specs.Limits.{IsWithinLimits};
-ghost use Rattle.ken_drive.specs.Accounts.{AreAccounted, Terms};
-ghost use Rattle.ken_drive.specs.Refusals.{AreRefused};
-ghost use Rattle.ken_drive.specs.Starting.{AddsBy, FillsAccountsBy, FillsBy, HasModestActs, IsFresh, IsStarted, Joins, JoinsAccountsBy, JoinsBy, MayJoin, Serves, StartsAccountsBy, StartsBy, game_by, terms_of};
-ghost use Rattle.ken_drive.specs.Worlds.{HasKeptNothing, IsNewOracle, MayFailAt};
+ghost use Rattle.ken_drive.specs.Starting.{HasModestActs, Serves, game_by};
+ghost use Rattle.ken_drive.specs.Worlds.{HasKeptNothing};
+ghost use Rattle.ken_drive.specs.Clauses.{AccountsFilled, AccountsJoined, AccountsStarted, AddsStation, FillsRun, JoinsRun, MayAdd, RefusesJoined, RefusesStarted, Started, StartsRun};
 
 use crate::devices::station;
 use crate::faults::RunFault;
@@ -27,7 +26,7 @@ impl<D: Disk + Drop, O: Oracle + Drop, U: Outlet + Drop, A: App + Drop> Run<D, O
     fn empty(alloc: Global, app: A, script: &Script) -> Result<Self, AllocError>
         requires limits { IsWithinLimits (game_of script.now.facts) }
         requires serves { Serves (A.handler app) script.now }
-        ensures started { IfOk result (λ r. IsStarted ⟦<Watched<D> as Disk>⟧.told ⟦<Watched<D> as Disk>⟧.size U.took A.handler (game_by (A.handler app) script.now) 0 r) }
+        ensures started { IfOk result (λ r. Started D.Disk U.Outlet A.App (game_by (A.handler app) script.now) 0 r) }
         ensures most { IfOk result (λ r. r.restarts ≡ script.now.restarts) }
     {
         let nodes = script.facts.nodes;
@@ -46,11 +45,11 @@ impl<D: Disk + Drop, O: Oracle + Drop, U: Outlet + Drop, A: App + Drop> Run<D, O
 
     /// Creates the next node of the run. `Down`: its disks failed once more than it may be restarted, and it has joined still.
     fn join(&mut self, mut station: Station<D, O, U>) -> Result<(), RunFault>
-        requires { MayJoin ⟦<Watched<D> as Disk>⟧.told ⟦<Watched<D> as Disk>⟧.size U.took A.handler station self.old }
-        ensures joins { (g : Game) (made : ℕ) → Joins ⟦<Watched<D> as Disk>⟧.told ⟦<Watched<D> as Disk>⟧.size U.took A.handler g made station self.old → JoinsBy ⟦<Watched<D> as Disk>⟧.told ⟦<Watched<D> as Disk>⟧.size U.took A.handler result g made self.new }
-        ensures adds { AddsBy ⟦<Watched<D> as Disk>⟧.told ⟦<Watched<D> as Disk>⟧.size U.took A.handler result station self.old self.new }
-        ensures accounts { (terms : Terms) (g : Game) (made : ℕ) (joins : Joins ⟦<Watched<D> as Disk>⟧.told ⟦<Watched<D> as Disk>⟧.size U.took A.handler g made station self.old) → IsFresh ⟦<Watched<D> as Disk>⟧.faults ⟦<Watched<D> as Disk>⟧.fate terms made joins.born.over.disks → IsNewOracle terms.scripted O.telling station.luck made terms.seed → AreAccounted ⟦<Watched<D> as Disk>⟧.told ⟦<Watched<D> as Disk>⟧.faults ⟦<Watched<D> as Disk>⟧.fate O.telling terms g made self.old → JoinsAccountsBy ⟦<Watched<D> as Disk>⟧.told ⟦<Watched<D> as Disk>⟧.faults ⟦<Watched<D> as Disk>⟧.fate O.telling terms g result made self.new }
-        ensures refused { (terms : Terms) (g : Game) (made : ℕ) → Joins ⟦<Watched<D> as Disk>⟧.told ⟦<Watched<D> as Disk>⟧.size U.took A.handler g made station self.old → MayFailAt terms.scripted made (terms.fails made) (U.fate station.out) → AreRefused U.faults U.fate terms made self.old → IfOk result (λ x. AreRefused U.faults U.fate terms (made + 1) self.new) }
+        requires { MayAdd D.Disk U.Outlet A.App station self.old }
+        ensures joins { JoinsRun D.Disk U.Outlet A.App station self.old result self.new }
+        ensures adds { AddsStation D.Disk U.Outlet A.App station self.old result self.new }
+        ensures accounts { AccountsJoined D.Disk O.Oracle U.Outlet A.App station self.old result self.new }
+        ensures refused { RefusesJoined D.Disk U.Outlet A.App station self.old result self.new }
         ensures most { self.new.restarts ≡ self.old.restarts }
     {
         self.stations.reserve(1)?;
@@ -70,11 +69,13 @@ fn fill<W: World, A: App + Drop>(
 ) -> Result<(), RunFault>
     requires limits { IsWithinLimits (game_of script.now.facts) }
     requires modest { HasModestActs script.now }
-    requires started { IsStarted ⟦<Watched<W::Dev> as Disk>⟧.told ⟦<Watched<W::Dev> as Disk>⟧.size W.Out.took A.handler (game_by (A.handler run.old.app) script.now) 0 run.old }
+    requires started { Started W.Dev.Disk W.Out.Outlet A.App (game_by (A.handler run.old.app) script.now) 0 run.old }
     requires most { run.old.restarts ≡ script.now.restarts }
-    ensures fills { FillsBy ⟦<Watched<W::Dev> as Disk>⟧.told ⟦<Watched<W::Dev> as Disk>⟧.size W.Out.took A.handler W.scripted W.Luck.telling W.Out.faults W.Out.fate (A.handler run.old.app) script.now result run.new }
-    ensures accounts { FillsAccountsBy ⟦<Watched<W::Dev> as Disk>⟧.told ⟦<Watched<W::Dev> as Disk>⟧.faults ⟦<Watched<W::Dev> as Disk>⟧.fate W.Luck.telling (terms_of W.scripted script.now) (game_by (A.handler run.old.app) script.now) result run.new }
-    ensures refused { IfOk result (λ x. AreRefused W.Out.faults W.Out.fate (terms_of W.scripted script.now) script.now.facts.nodes run.new) }
+    ensures fills { FillsRun W.Dev.Disk W.Luck.Oracle W.Out.Outlet A.App
+        W.scripted (A.handler run.old.app) script.now result run.new }
+    ensures accounts { AccountsFilled W.Dev.Disk W.Luck.Oracle W.Out.Outlet A.App
+        W.scripted (A.handler run.old.app) script.now result run.new }
+    ensures refused { IfOk result (λ x. RefusesStarted W.Out.Outlet W.scripted script.now run.new) }
     ensures kept { (v : ℕ) → W.kept world.new v ≡ W.kept world.old v }
 {
     for node in 0..script.facts.nodes {
@@ -96,9 +97,11 @@ pub fn start<W: World, A: App + Drop>(
     requires modest { HasModestActs script.now }
     requires serves { Serves (A.handler app) script.now }
     requires none { HasKeptNothing (W.kept world.old) }
-    ensures starts { StartsBy ⟦<Watched<W::Dev> as Disk>⟧.told ⟦<Watched<W::Dev> as Disk>⟧.size W.Out.took A.handler W.scripted W.Luck.telling W.Out.faults W.Out.fate (A.handler app) script.now result (W.kept world.new) }
-    ensures accounts { StartsAccountsBy ⟦<Watched<W::Dev> as Disk>⟧.told ⟦<Watched<W::Dev> as Disk>⟧.faults ⟦<Watched<W::Dev> as Disk>⟧.fate W.Luck.telling (terms_of W.scripted script.now) (game_by (A.handler app) script.now) result (W.kept world.new) }
-    ensures refused { IfOk result (λ r. AreRefused W.Out.faults W.Out.fate (terms_of W.scripted script.now) script.now.facts.nodes r) }
+    ensures starts { StartsRun W.Dev.Disk W.Luck.Oracle W.Out.Outlet A.App
+        W.scripted (A.handler app) script.now result (W.kept world.new) }
+    ensures accounts { AccountsStarted W.Dev.Disk W.Luck.Oracle W.Out.Outlet A.App
+        W.scripted (A.handler app) script.now result (W.kept world.new) }
+    ensures refused { IfOk result (RefusesStarted W.Out.Outlet W.scripted script.now) }
 {
     let mut run = Run::empty(alloc, app, script)?;
     match fill(&mut run, alloc, script, world) {

@@ -1,25 +1,13 @@
 // A node of a run with all that is its own.
-ghost use Rattle.std.specs.Prelude.{◌≡◌, ◌<◌, ◌≤◌, ◌+◌, ◌^◌, ◌⊎◌, ℕ, [], List, length, IfOk, OnOk};
-ghost use Rattle.ken_app.specs.Oracles.{Answers, HasAnswered};
-ghost use Rattle.ken_model.specs.declared.messages.Out.{Out};
-ghost use Rattle.ken_model.specs.Game.{Game};
-ghost use Rattle.ken_core.specs.Calls.{Doubt};
-ghost use Rattle.ken_core.specs.Nodes as core;
-ghost use Rattle.ken_core.specs.Packets.{Packet};
-ghost use Rattle.ken_store.specs.declared.disks.Disks.{Disks};
+ghost use Rattle.std.specs.Prelude.{◌≡◌, ◌<◌, ◌≤◌, ◌+◌, ◌^◌, ◌⊎◌, [], length, IfOk, OnOk};
+ghost use Rattle.ken_app.specs.Oracles.{HasAnswered};
 ghost use Rattle.ken_ship.specs.Causes.{HasCause};
 ghost use Rattle.ken_ship.specs.Emitting.{outlet_answer};
 ghost use Rattle.ken_ship.specs.Fates.{Follows, Suffers};
-ghost use Rattle.ken_ship.specs.Outlets.{also_took};
-ghost use Rattle.ken_node.specs.Down.{IsDown, MayRestart};
-ghost use Rattle.ken_node.specs.NodeCalls.{DisksFailBy, EmitStepsBy, HearSteps, SendSteps, UnlessMemory};
-ghost use Rattle.ken_node.specs.NodeTurns.{TurnStepsBy};
-ghost use Rattle.ken_node.specs.Synced.{IsSynced};
-ghost use Rattle.ken_node.specs.Stages.{HasDisks, emissions_in, image_told, refusals_in};
-ghost use Rattle.ken_node.specs.Up.{IsUp, MayBeCalled, MayBeCalledOn, MayTakeTurns};
-ghost use Rattle.ken_drive.specs.Accounts.{AccountsStation, IsHeld, Terms};
-ghost use Rattle.ken_drive.specs.Ends.{WereGiven, WerePut};
-ghost use Rattle.ken_drive.specs.Stations.{RestartsStation};
+ghost use Rattle.ken_node.specs.NodeCalls.{UnlessMemory};
+ghost use Rattle.ken_node.specs.Stages.{refusals_in};
+ghost use Rattle.ken_drive.specs.Ends.{WereGiven};
+ghost use Rattle.ken_drive.specs.StationClauses.{AccountsBack, ComesBack, EmitsAs, FailsDisks, HearsAs, IsRestartOf, KeepsDisks, KeepsEmissions, KeepsImageTold, KeepsRefusals, MayCall, MayCallOn, MayComeBack, MayTurn, SendsAs, StaysSynced, SyncsTurn, TurnsAs};
 
 use crate::inboxes::{InFlight, end_of, give_back};
 use ken_app::{App, Oracle};
@@ -53,17 +41,18 @@ impl<D: Disk, O: Oracle, U: Outlet> Station<D, O, U> {
     ) -> Result<Took, NodeFault>
         requires placed { self.old.acks.from < length waiting.old.mail }
         requires to_each { length waiting.old.acks ≡ length self.old.acks.links }
-        requires may { MayTakeTurns ⟦<Watched<D> as Disk>⟧.told ⟦<Watched<D> as Disk>⟧.size (A.handler app.now) self.old.acks.from (length waiting.old.acks) self.old.node.stage }
-        ensures steps { (g : Game) (v : ℕ) (n : core.Node) → (up : IsUp ⟦<Watched<D> as Disk>⟧.told ⟦<Watched<D> as Disk>⟧.size g v n self.old.node.stage) → v ≡ self.old.acks.from → A.handler app.now ≡ g.handler → (nones : ℕ) × TurnStepsBy ⟦<Watched<D> as Disk>⟧.told ⟦<Watched<D> as Disk>⟧.size g v n (WereGiven v nones waiting.old.mail waiting.new.mail) (WerePut self.old.acks self.new.acks waiting.old.acks waiting.new.acks) result (λ draws. Answers (O.telling.clocks self.old.luck) (O.telling.clocks self.new.luck) ((A.handler app.now).clocks draws) × Answers (O.telling.words self.old.luck) (O.telling.words self.new.luck) ((A.handler app.now).words draws)) 0 nones up.handler self.new.node.stage }
-        ensures emissions { emissions_in self.new.node.stage ≡ emissions_in self.old.node.stage }
-        ensures disks { (old new : Disks (Watched D)) → HasDisks old self.old.node.stage → HasDisks new self.new.node.stage → DisksFailBy ⟦<Watched<D> as Disk>⟧.told ⟦<Watched<D> as Disk>⟧.faults ⟦<Watched<D> as Disk>⟧.fate result old new }
-        ensures synced { (g : Game) (v : ℕ) (n : core.Node) → IsUp ⟦<Watched<D> as Disk>⟧.told ⟦<Watched<D> as Disk>⟧.size g v n self.old.node.stage → A.handler app.now ≡ g.handler → IsSynced ⟦<Watched<D> as Disk>⟧.told ⟦<Watched<D> as Disk>⟧.faults g v self.old.node.stage → UnlessMemory result (IsSynced ⟦<Watched<D> as Disk>⟧.told ⟦<Watched<D> as Disk>⟧.faults g v self.new.node.stage) }
+        requires may { MayTurn D.Disk (A.handler app.now) self.old.acks.from (length waiting.old.acks) self.old }
+        ensures steps { TurnsAs D.Disk O.Oracle (A.handler app.now)
+            waiting.old.mail waiting.new.mail waiting.old.acks waiting.new.acks self.old result self.new }
+        ensures emissions { KeepsEmissions self.old self.new }
+        ensures disks { FailsDisks D.Disk self.old result self.new }
+        ensures synced { SyncsTurn D.Disk (A.handler app.now) self.old result self.new }
         ensures clocks_go_on { HasAnswered (O.telling.clocks self.old.luck) (O.telling.clocks self.new.luck) }
         ensures words_go_on { HasAnswered (O.telling.words self.old.luck) (O.telling.words self.new.luck) }
         ensures origin { O.telling.origin self.new.luck ≡ O.telling.origin self.old.luck }
         ensures undrawn { IfOk result (λ took. (took ≡ Took.Turn) ⊎ (self.new.luck ≡ self.old.luck)) }
-        ensures refusals { refusals_in self.new.node.stage ≡ refusals_in self.old.node.stage }
-        ensures image { image_told ⟦<Watched<D> as Disk>⟧.told self.new.node.stage ≡ image_told ⟦<Watched<D> as Disk>⟧.told self.old.node.stage }
+        ensures refusals { KeepsRefusals self.old self.new }
+        ensures image { KeepsImageTold D.Disk self.old self.new }
         ensures rest { self.new ≡ record self.old { node = self.new.node; luck = self.new.luck; acks = self.new.acks } }
     {
         let mut end = end_of(alloc, &mut self.acks, &mut waiting.mail, &mut waiting.acks);
@@ -76,13 +65,13 @@ impl<D: Disk, O: Oracle, U: Outlet> Station<D, O, U> {
     pub(crate) fn send(&mut self, alloc: Global, waiting: &mut InFlight) -> Result<(), AllocError>
         requires placed { self.old.mail.from < length waiting.old.acks }
         requires to_each { length waiting.old.mail ≡ length self.old.mail.links }
-        requires may { MayBeCalledOn ⟦<Watched<D> as Disk>⟧.told ⟦<Watched<D> as Disk>⟧.size self.old.mail.from (length waiting.old.mail) self.old.node.stage }
-        ensures steps { (g : Game) (v : ℕ) (n : core.Node) → IsUp ⟦<Watched<D> as Disk>⟧.told ⟦<Watched<D> as Disk>⟧.size g v n self.old.node.stage → v ≡ self.old.mail.from → OnOk result (SendSteps ⟦<Watched<D> as Disk>⟧.told ⟦<Watched<D> as Disk>⟧.size g v n (WerePut self.old.mail self.new.mail waiting.old.mail waiting.new.mail) self.new.node.stage) }
-        ensures emissions { emissions_in self.new.node.stage ≡ emissions_in self.old.node.stage }
-        ensures refusals { refusals_in self.new.node.stage ≡ refusals_in self.old.node.stage }
+        requires may { MayCallOn D.Disk self.old.mail.from (length waiting.old.mail) self.old }
+        ensures steps { SendsAs D.Disk waiting.old.mail waiting.new.mail self.old result self.new }
+        ensures emissions { KeepsEmissions self.old self.new }
+        ensures refusals { KeepsRefusals self.old self.new }
         ensures given { WereGiven self.old.mail.from 0 waiting.old.acks waiting.new.acks [] }
-        ensures disks { (old new : Disks (Watched D)) → HasDisks old self.old.node.stage → HasDisks new self.new.node.stage → new ≡ old }
-        ensures synced { (g : Game) (v : ℕ) → IsSynced ⟦<Watched<D> as Disk>⟧.told ⟦<Watched<D> as Disk>⟧.faults g v self.old.node.stage → IsSynced ⟦<Watched<D> as Disk>⟧.told ⟦<Watched<D> as Disk>⟧.faults g v self.new.node.stage }
+        ensures disks { KeepsDisks self.old self.new }
+        ensures synced { StaysSynced D.Disk self.old self.new }
         ensures rest { self.new ≡ record self.old { node = self.new.node; mail = self.new.mail } }
     {
         let mut end = end_of(alloc, &mut self.mail, &mut waiting.acks, &mut waiting.mail);
@@ -95,13 +84,13 @@ impl<D: Disk, O: Oracle, U: Outlet> Station<D, O, U> {
     pub(crate) fn hear(&mut self, alloc: Global, waiting: &mut InFlight) -> Result<(), AllocError>
         requires placed { self.old.mail.from < length waiting.old.acks }
         requires to_each { length waiting.old.mail ≡ length self.old.mail.links }
-        requires may { MayBeCalledOn ⟦<Watched<D> as Disk>⟧.told ⟦<Watched<D> as Disk>⟧.size self.old.mail.from (length waiting.old.mail) self.old.node.stage }
-        ensures steps { (g : Game) (v : ℕ) (n : core.Node) → IsUp ⟦<Watched<D> as Disk>⟧.told ⟦<Watched<D> as Disk>⟧.size g v n self.old.node.stage → v ≡ self.old.mail.from → (nones : ℕ) × OnOk result (HearSteps ⟦<Watched<D> as Disk>⟧.told ⟦<Watched<D> as Disk>⟧.size g v n (WereGiven v nones waiting.old.acks waiting.new.acks) 0 nones self.new.node.stage) }
-        ensures emissions { OnOk result (emissions_in self.new.node.stage ≡ emissions_in self.old.node.stage) }
-        ensures refusals { OnOk result (refusals_in self.new.node.stage ≡ refusals_in self.old.node.stage) }
+        requires may { MayCallOn D.Disk self.old.mail.from (length waiting.old.mail) self.old }
+        ensures steps { HearsAs D.Disk waiting.old.acks waiting.new.acks self.old result self.new }
+        ensures emissions { OnOk result (KeepsEmissions self.old self.new) }
+        ensures refusals { OnOk result (KeepsRefusals self.old self.new) }
         ensures put { waiting.new.mail ≡ waiting.old.mail }
-        ensures disks { (old new : Disks (Watched D)) → HasDisks old self.old.node.stage → HasDisks new self.new.node.stage → new ≡ old }
-        ensures synced { (g : Game) (v : ℕ) → IsSynced ⟦<Watched<D> as Disk>⟧.told ⟦<Watched<D> as Disk>⟧.faults g v self.old.node.stage → IsSynced ⟦<Watched<D> as Disk>⟧.told ⟦<Watched<D> as Disk>⟧.faults g v self.new.node.stage }
+        ensures disks { KeepsDisks self.old self.new }
+        ensures synced { StaysSynced D.Disk self.old self.new }
         ensures rest { self.new ≡ record self.old { node = self.new.node } }
     {
         let mut end = end_of(alloc, &mut self.mail, &mut waiting.acks, &mut waiting.mail);
@@ -112,12 +101,14 @@ impl<D: Disk, O: Oracle, U: Outlet> Station<D, O, U> {
 
     /// The node emits the output that is due.
     pub(crate) fn emit(&mut self) -> Result<Emit, NodeFault>
-        requires { MayBeCalled ⟦<Watched<D> as Disk>⟧.told ⟦<Watched<D> as Disk>⟧.size self.old.node.stage }
-        ensures steps { (g : Game) (v : ℕ) (n : core.Node) → IsUp ⟦<Watched<D> as Disk>⟧.told ⟦<Watched<D> as Disk>⟧.size g v n self.old.node.stage → EmitStepsBy ⟦<Watched<D> as Disk>⟧.told ⟦<Watched<D> as Disk>⟧.size result g v n (λ (taken : List Out). U.took self.new.out ≡ also_took taken (U.took self.old.out)) self.old.node.stage self.new.node.stage }
-        ensures disks { (old new : Disks (Watched D)) → HasDisks old self.old.node.stage → HasDisks new self.new.node.stage → new ≡ old }
-        ensures synced { (g : Game) (v : ℕ) → IsSynced ⟦<Watched<D> as Disk>⟧.told ⟦<Watched<D> as Disk>⟧.faults g v self.old.node.stage → IsSynced ⟦<Watched<D> as Disk>⟧.told ⟦<Watched<D> as Disk>⟧.faults g v self.new.node.stage }
-        ensures cause { UnlessMemory result (HasCause (U.faults self.old.out) (U.faults self.new.out) (outlet_answer result)) }
-        ensures fate { UnlessMemory result (Follows (Suffers (outlet_answer result)) (U.fate self.old.out) (U.fate self.new.out)) }
+        requires { MayCall D.Disk self.old }
+        ensures steps { EmitsAs D.Disk U.Outlet self.old result self.new }
+        ensures disks { KeepsDisks self.old self.new }
+        ensures synced { StaysSynced D.Disk self.old self.new }
+        ensures cause { UnlessMemory result
+            (HasCause (U.faults self.old.out) (U.faults self.new.out) (outlet_answer result)) }
+        ensures fate { UnlessMemory result
+            (Follows (Suffers (outlet_answer result)) (U.fate self.old.out) (U.fate self.new.out)) }
         ensures rest { self.new ≡ record self.old { node = self.new.node; out = self.new.out } }
     {
         self.node.emit(&mut self.out)
@@ -125,13 +116,13 @@ impl<D: Disk, O: Oracle, U: Outlet> Station<D, O, U> {
 
     /// Restarts the node, and keeps with how many turns it goes on. The errors are those of its restart.
     pub(crate) fn restart(&mut self) -> Result<(), NodeFault>
-        requires may { MayRestart ⟦<Watched<D> as Disk>⟧.told self.old.node.stage }
+        requires may { MayComeBack D.Disk self.old }
         requires tries { self.old.restarts + 1 < 2 ^ 64 }
-        ensures back { (g : Game) (v : ℕ) (given : List Packet) (n : core.Node) (doubt : Doubt) → IsDown ⟦<Watched<D> as Disk>⟧.told g v given n doubt self.old.node.stage → RestartsStation ⟦<Watched<D> as Disk>⟧.told ⟦<Watched<D> as Disk>⟧.size result g v given n doubt self.old self.new }
-        ensures emissions { emissions_in self.new.node.stage ≡ emissions_in self.old.node.stage }
+        ensures back { ComesBack D.Disk self.old result self.new }
+        ensures emissions { KeepsEmissions self.old self.new }
         ensures refusals { refusals_in self.new.node.stage ≤ refusals_in self.old.node.stage }
-        ensures accounts { (terms : Terms) (g : Game) (v : ℕ) → IsHeld ⟦<Watched<D> as Disk>⟧.told ⟦<Watched<D> as Disk>⟧.faults ⟦<Watched<D> as Disk>⟧.fate O.telling terms g v self.old → self.old.restarts < terms.most → AccountsStation ⟦<Watched<D> as Disk>⟧.told ⟦<Watched<D> as Disk>⟧.faults ⟦<Watched<D> as Disk>⟧.fate O.telling terms g result v self.new }
-        ensures rest { self.new ≡ record self.old { node = self.new.node; restarts = self.new.restarts; lines = self.new.lines } }
+        ensures accounts { AccountsBack D.Disk O.Oracle self.old result self.new }
+        ensures rest { IsRestartOf self.old self.new }
     {
         self.lines.reserve(1)?;
         self.restarts += 1;

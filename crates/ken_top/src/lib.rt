@@ -1,5 +1,5 @@
-//! The top calls: a script is read, run over the devices of a world with the handler of its kind or with one of one's own, and its report
-//! written.
+//! The top calls: a script is read, run over the devices of a world with the handler of its kind or with one of one's own, and
+//! its report written.
 #![tactic(auto)]
 
 mod service;

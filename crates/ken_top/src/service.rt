@@ -4,6 +4,7 @@ ghost use Rattle.serde_json.specs.View.{members_view, view};
 ghost use Rattle.ken_app.specs.Limits.{KeepsLimits};
 ghost use Rattle.ken_app.specs.Lines.{KeepsLines};
 ghost use Rattle.ken_script.specs.Within.{KeepsRules};
+ghost use Rattle.ken_drive.specs.Clauses.{views_of};
 ghost use Rattle.ken_drive.specs.Worlds.{HasKeptNothing};
 ghost use Rattle.ken_top.specs.Service.{HasServed, IsServiceRefusal, IsServiceRun, IsMembersOf, SaysService, kind_among};
 
@@ -71,8 +72,10 @@ fn run<A: App + Drop, S: Source, W: World>(
     requires limits { (nodes size : ℕ) → KeepsLimits nodes size (A.handler app) }
     requires lines { (nodes size : ℕ) → KeepsLines nodes size (A.handler app) }
     requires none { HasKeptNothing (W.kept world.old) }
-    ensures ran { IfOk result (IsServiceRun (record { told = W.Dev.told; faults = W.Dev.faults; fate = W.Dev.fate; telling = W.Luck.telling; took = W.Out.took; refused = W.Out.faults; calls = W.Out.fate; scripted = W.scripted }) (A.handler app) (W.kept world.new) (S.left source.old)) }
-    ensures refused { IfErr result (IsServiceRefusal (record { told = W.Dev.told; faults = W.Dev.faults; fate = W.Dev.fate; telling = W.Luck.telling; took = W.Out.took; refused = W.Out.faults; calls = W.Out.fate; scripted = W.scripted }) (A.handler app) (W.kept world.new) (S.left source.old)) }
+    ensures ran { IfOk result (IsServiceRun (views_of W.Dev.Disk W.Luck.Oracle W.Out.Outlet W.scripted)
+        (A.handler app) (W.kept world.new) (S.left source.old)) }
+    ensures refused { IfErr result (IsServiceRefusal (views_of W.Dev.Disk W.Luck.Oracle W.Out.Outlet W.scripted)
+        (A.handler app) (W.kept world.new) (S.left source.old)) }
 {
     let bytes = read_all(alloc, source, LIMIT)?;
     let script = script_in(alloc, bytes.as_slice())?;
@@ -93,7 +96,8 @@ pub fn serve<A: App + Drop, S: Source, K: Sink, W: World>(
     requires limits { (nodes size : ℕ) → KeepsLimits nodes size (A.handler app) }
     requires lines { (nodes size : ℕ) → KeepsLines nodes size (A.handler app) }
     requires none { HasKeptNothing (W.kept world.old) }
-    ensures { HasServed (record { told = W.Dev.told; faults = W.Dev.faults; fate = W.Dev.fate; telling = W.Luck.telling; took = W.Out.took; refused = W.Out.faults; calls = W.Out.fate; scripted = W.scripted }) (A.handler app) (W.kept world.new) (S.left source.old) (K.took sink.old) (K.took sink.new) result }
+    ensures { HasServed (views_of W.Dev.Disk W.Luck.Oracle W.Out.Outlet W.scripted)
+        (A.handler app) (W.kept world.new) (S.left source.old) (K.took sink.old) (K.took sink.new) result }
 {
     match run(alloc, app, source, world) {
         Ok(lines) => written(alloc, sink, &lines),

@@ -2,6 +2,7 @@
 ghost use Rattle.std.specs.Prelude.{◌≡◌, ◌≢◌, ◌↔◌, ◌+◌, ◌≤◌, true, false, map, string_bytes, IfOk, IfErr, IsErrOf};
 ghost use Rattle.ken_io.specs.Causes.{Rose};
 ghost use Rattle.ken_io.specs.Transfers.{TakesAtMost};
+ghost use Rattle.ken_drive.specs.Clauses.{views_of};
 ghost use Rattle.ken_drive.specs.Worlds.{HasKeptNothing};
 ghost use Rattle.ken_top.specs.Headline.{are_plain, Ran, IsQuiet, IsComplete, IsLet, IsRunOfSource, IsRefusal, IsOut};
 
@@ -28,7 +29,8 @@ pub fn ken<R, S: Source, K: Sink, W: World>(
 ) -> Status
     requires { HasKeptNothing (W.kept world.old) }
     ensures usage { (result ≡ Status.Usage) ↔ (are_plain (map string_bytes words.now) ≡ false) }
-    ensures runs { Ran (record { told = W.Dev.told; faults = W.Dev.faults; fate = W.Dev.fate; telling = W.Luck.telling; took = W.Out.took; refused = W.Out.faults; calls = W.Out.fate; scripted = W.scripted }) (W.kept world.new) (S.left source.old) (K.took sink.old) (K.took sink.new) result }
+    ensures runs { Ran (views_of W.Dev.Disk W.Luck.Oracle W.Out.Outlet W.scripted)
+        (W.kept world.new) (S.left source.old) (K.took sink.old) (K.took sink.new) result }
     ensures down { W.scripted ≡ true → IsLet (S.left source.old) result }
     ensures complete { are_plain (map string_bytes words.now) ≡ true
         → W.scripted ≡ true
@@ -67,8 +69,10 @@ fn is_plain(words: &[String]) -> bool
 /// Reads a script and runs it.
 fn run<S: Source, W: World>(alloc: Global, source: &mut S, world: &mut W) -> Result<Lines, Status>
     requires { HasKeptNothing (W.kept world.old) }
-    ensures ran { IfOk result (IsRunOfSource (record { told = W.Dev.told; faults = W.Dev.faults; fate = W.Dev.fate; telling = W.Luck.telling; took = W.Out.took; refused = W.Out.faults; calls = W.Out.fate; scripted = W.scripted }) (W.kept world.new) (S.left source.old)) }
-    ensures refused { IfErr result (IsRefusal (record { told = W.Dev.told; faults = W.Dev.faults; fate = W.Dev.fate; telling = W.Luck.telling; took = W.Out.took; refused = W.Out.faults; calls = W.Out.fate; scripted = W.scripted }) (W.kept world.new) (S.left source.old)) }
+    ensures ran { IfOk result (IsRunOfSource (views_of W.Dev.Disk W.Luck.Oracle W.Out.Outlet W.scripted)
+        (W.kept world.new) (S.left source.old)) }
+    ensures refused { IfErr result (IsRefusal (views_of W.Dev.Disk W.Luck.Oracle W.Out.Outlet W.scripted)
+        (W.kept world.new) (S.left source.old)) }
     ensures lets { W.scripted ≡ true → IfErr result (IsLet (S.left source.old)) }
     ensures read { IsErrOf result Status.Read → Rose (S.faults source.old) (S.faults source.new) }
     ensures no_failed_read { (IsErrOf result Status.Read → ⊥) → S.faults source.new ≡ S.faults source.old }
