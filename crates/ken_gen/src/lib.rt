@@ -1,0 +1,11 @@
+//! The script of a number: what a run is of, and what fails in it, drawn by one generator.
+#![tactic(auto)]
+
+mod draws;
+mod generated;
+mod inputs;
+mod mishaps;
+#[cfg(test)]
+mod tests;
+
+pub use generated::script_of;
