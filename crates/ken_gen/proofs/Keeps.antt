@@ -1,5 +1,5 @@
 -- A generated script keeps the rules of a script that is read.
-use Rattle.std.proofs.Common.{◌≡◌, ℕ, zero, suc, ◌+◌, ◌<◌, ◌≤◌, ◌^◌, List, [], ◌∷◌, ◌++◌, length, Bool, true, false, if◌then◌else◌, decimal, refl, ap, lit≤, lit<, arith}
+use Rattle.std.proofs.Common.{◌≡◌, ℕ, zero, suc, ◌+◌, ◌<◌, ◌≤◌, List, [], ◌∷◌, ◌++◌, length, Bool, true, false, if◌then◌else◌, decimal, refl, ap, lit≤, lit<, arith}
 use Rattle.std.specs.List.{AllByRecursion, list_any}
 use Rattle.std.proofs.lemmas.Fmt.{length-decimal-le}
 use Rattle.std.proofs.lemmas.List.Elements.{recursion_from_All}
@@ -7,14 +7,10 @@ use Rattle.ken_model.specs.declared.facts.Input.{Input}
 use Rattle.ken_model.specs.declared.facts.TheConstants.{MAX_INPUTS, MAX_NODES, MAX_TEXT}
 use Rattle.ken_model.specs.Limits.{IsPlain, ArePlain}
 use Rattle.ken_num.proofs.Decimals.{All-decimal}
-use Rattle.ken_net.specs.declared.act.Act.{Act}
 use Rattle.ken_net.specs.declared.act.LinkAct.{LinkAct}
 use Rattle.ken_script.specs.declared.scripts.DiskCut.{DiskCut}
 use Rattle.ken_script.specs.declared.scripts.TheConstants.{DISKS, MAX_COUNT, MAX_HOLD}
 use Rattle.ken_script.specs.Within.{IsShortAct, KeepsRules}
-use Rattle.ken_gen.specs.declared.generated.TheConstants.{CUTS, MAIL, ACKS}
-use Rattle.ken_gen.specs.declared.inputs.TheConstants.{NUMBERS}
-use Rattle.ken_gen.specs.declared.mishaps.TheConstants.{CUT_DISKS, PUTS, HOLDS}
 use Rattle.ken_gen.specs.Draws.{drawn, past}
 use Rattle.ken_gen.specs.Inputs.{input_at, past_input, inputs_from, past_inputs}
 use Rattle.ken_gen.specs.Mishaps.{without_repeats, cut_at, past_cut, cuts_from, past_cuts, is_same_call, act_of, act_at, link_act_at, past_link_act, acts_from, past_acts, is_same_put}
@@ -36,14 +32,17 @@ kept_all P is_same earlier (x ∷ xs) all =
 
 -- ---- inputs
 
-number_small : (x : ℕ) → drawn NUMBERS x < 1000
-number_small x = drawn_below NUMBERS x (lit< tt)
+text_short : (x : ℕ) → length (decimal (drawn 1000 x)) ≤ MAX_TEXT
+text_short x =
+    let n : ℕ = drawn 1000 x in
+    let small : drawn 1000 x < 1000 = drawn_below 1000 x (lit< tt) in
+    omega (arith, length-decimal-le 3 n (omega arith) (omega (arith, small)) (omega arith))
 
-text_short : (n : ℕ) → n < 1000 → length (decimal n) ≤ MAX_TEXT
-text_short n small = omega (arith, length-decimal-le 3 n (omega arith) (omega (arith, small)) (omega arith))
-
-text_plain : (n : ℕ) → n < 1000 → ArePlain (decimal n)
-text_plain n small = recursion_from_All IsPlain (decimal n) (All-decimal IsPlain (λ b digit. (omega arith, omega arith)) n (omega arith))
+text_plain : (x : ℕ) → ArePlain (decimal (drawn 1000 x))
+text_plain x =
+    let n : ℕ = drawn 1000 x in
+    let small : drawn 1000 x < 1000 = drawn_below 1000 x (lit< tt) in
+    recursion_from_All IsPlain (decimal n) (All-decimal IsPlain (λ b digit. (omega arith, omega arith)) n (omega arith))
 
 inputs_length : (nodes count x : ℕ) → length (inputs_from nodes count x) ≡ count
 unfolding inputs_from
@@ -53,12 +52,12 @@ inputs_length nodes (suc count) x = ap (λ n. suc n) (inputs_length nodes count 
 inputs_within : (nodes count x : ℕ) → 0 < nodes → AllByRecursion (λ (i : Input). (i.node < nodes) × (length i.text ≤ MAX_TEXT)) (inputs_from nodes count x)
 unfolding inputs_from input_at
 inputs_within nodes zero x some = tt
-inputs_within nodes (suc count) x some = ((drawn_below nodes x some, text_short (drawn NUMBERS (past x)) (number_small (past x))), inputs_within nodes count (past_input x) some)
+inputs_within nodes (suc count) x some = ((drawn_below nodes x some, text_short (past x)), inputs_within nodes count (past_input x) some)
 
 inputs_plain : (nodes count x : ℕ) → AllByRecursion (λ (i : Input). ArePlain i.text) (inputs_from nodes count x)
 unfolding inputs_from input_at
 inputs_plain nodes zero x = tt
-inputs_plain nodes (suc count) x = (text_plain (drawn NUMBERS (past x)) (number_small (past x)), inputs_plain nodes count (past_input x))
+inputs_plain nodes (suc count) x = (text_plain (past x), inputs_plain nodes count (past_input x))
 
 -- ---- what is to fail
 
@@ -66,7 +65,7 @@ cuts_within : (nodes count x : ℕ) → 0 < nodes → AllByRecursion (λ (c : Di
 unfolding cuts_from cut_at
 cuts_within nodes zero x some = tt
 cuts_within nodes (suc count) x some =
-    let disk : drawn CUT_DISKS (past x) < 2 = drawn_below CUT_DISKS (past x) (lit< tt) in
+    let disk : drawn 2 (past x) < 2 = drawn_below 2 (past x) (lit< tt) in
     ((drawn_below nodes x some, omega arith), cuts_within nodes count (past_cut x) some)
 
 act_short : (n puts : ℕ) → puts ≤ MAX_HOLD → IsShortAct (act_of n puts)
@@ -77,21 +76,21 @@ act_short (suc (suc n)) puts few = few
 act_at_short : (x : ℕ) → IsShortAct (act_at x)
 unfolding act_at
 act_at_short x =
-    let held : drawn HOLDS (past x) < 4 = drawn_below HOLDS (past x) (lit< tt) in
-    act_short (drawn 3 x) (1 + drawn HOLDS (past x)) (omega arith)
+    let held : drawn 4 (past x) < 4 = drawn_below 4 (past x) (lit< tt) in
+    act_short (drawn 3 x) (1 + drawn 4 (past x)) (omega arith)
 
 acts_within : (nodes count x : ℕ) → 0 < nodes → AllByRecursion (λ (a : LinkAct). (a.from < nodes) × (a.to < nodes) × (a.n ≤ MAX_COUNT) × IsShortAct a.act) (acts_from nodes count x)
 unfolding acts_from link_act_at
 acts_within nodes zero x some = tt
 acts_within nodes (suc count) x some =
-    let put : drawn PUTS (past (past x)) < 100 = drawn_below PUTS (past (past x)) (lit< tt) in
+    let put : drawn 100 (past (past x)) < 100 = drawn_below 100 (past (past x)) (lit< tt) in
     ((drawn_below nodes x some, drawn_below nodes (past x) some, omega arith, act_at_short (past (past (past x)))), acts_within nodes count (past_link_act x) some)
 
 pub keeps_rules : (seed nodes inputs : ℕ) → 0 < nodes → nodes ≤ MAX_NODES → inputs ≤ MAX_INPUTS → KeepsRules (script_of seed nodes inputs)
 keeps_rules seed nodes inputs some few_nodes few_inputs =
     let at_cuts : ℕ = past_inputs inputs seed in
-    let at_mail : ℕ = past_cuts CUTS at_cuts in
-    let at_acks : ℕ = past_acts MAIL at_mail in
+    let at_mail : ℕ = past_cuts 6 at_cuts in
+    let at_acks : ℕ = past_acts 32 at_mail in
     let acts_keep : (count x : ℕ) → AllByRecursion (λ (a : LinkAct). (a.from < nodes) × (a.to < nodes) × (a.n ≤ MAX_COUNT) × IsShortAct a.act) (without_repeats is_same_put [] (acts_from nodes count x)) =
     λ count x. kept_all (λ (a : LinkAct). (a.from < nodes) × (a.to < nodes) × (a.n ≤ MAX_COUNT) × IsShortAct a.act) is_same_put [] (acts_from nodes count x) (acts_within nodes count x some) in
     record {
@@ -106,8 +105,8 @@ keeps_rules seed nodes inputs some few_nodes few_inputs =
       };
       plain = inputs_plain nodes inputs seed;
       restarts = lit≤ tt;
-      cuts = kept_all (λ (c : DiskCut). (c.node < nodes) × (c.disk < DISKS)) is_same_call [] (cuts_from nodes CUTS at_cuts) (cuts_within nodes CUTS at_cuts some);
-      mail = acts_keep MAIL at_mail;
-      acks = acts_keep ACKS at_acks;
+      cuts = kept_all (λ (c : DiskCut). (c.node < nodes) × (c.disk < DISKS)) is_same_call [] (cuts_from nodes 6 at_cuts) (cuts_within nodes 6 at_cuts some);
+      mail = acts_keep 32 at_mail;
+      acks = acts_keep 16 at_acks;
       outlets = tt;
     }

@@ -5,20 +5,20 @@ use Rattle.ken_net.specs.declared.act.Act.{Act}
 use Rattle.ken_net.specs.declared.act.Act.TheVariants.{Lose, Repeat, Hold}
 use Rattle.ken_net.specs.declared.act.LinkAct.{LinkAct}
 use Rattle.ken_script.specs.declared.scripts.DiskCut.{DiskCut}
-use Rattle.ken_gen.specs.declared.mishaps.TheConstants.{CUT_DISKS, FIRST_CALL, CALLS, PICKS, PUTS, HOLDS}
 use Rattle.ken_gen.specs.Draws.{drawn, past}
 
--- a list without the items that are the same as an earlier one, where some stand before it
+-- a list without each item that is the same as one before it, where the items of `earlier` stand before the list
 unfoldable pub without_repeats : {T : Type 0} → (T → T → Bool) → List T → List T → List T
 without_repeats is_same earlier [] = []
 without_repeats is_same earlier (x ∷ xs) = if list_any (is_same x) earlier then without_repeats is_same earlier xs else x ∷ without_repeats is_same (earlier ++ x ∷ []) xs
 
 -- ---- cuts
 
--- a cut: its node, disk, call and pick
+-- a cut: its node, its disk (the log or the image), its call, from 40 on, and its pick
 unfoldable pub cut_at : ℕ → ℕ → DiskCut
-cut_at nodes x = record { node = drawn nodes x; disk = drawn CUT_DISKS (past x); call = FIRST_CALL + drawn CALLS (past (past x)); pick = drawn PICKS (past (past (past x))) }
+cut_at nodes x = record { node = drawn nodes x; disk = drawn 2 (past x); call = 40 + drawn 400 (past (past x)); pick = drawn 10 (past (past (past x))) }
 
+-- the state after its answers
 unfoldable pub past_cut : ℕ → ℕ
 past_cut x = past (past (past (past x)))
 
@@ -27,6 +27,7 @@ unfoldable pub cuts_from : ℕ → ℕ → ℕ → List DiskCut
 cuts_from nodes zero x = []
 cuts_from nodes (suc count) x = cut_at nodes x ∷ cuts_from nodes count (past_cut x)
 
+-- the state after their answers
 unfoldable pub past_cuts : ℕ → ℕ → ℕ
 past_cuts zero x = x
 past_cuts (suc count) x = past_cuts count (past_cut x)
@@ -43,23 +44,25 @@ act_of zero puts = Lose
 act_of (suc zero) puts = Repeat
 act_of (suc (suc n)) puts = Hold puts
 
--- only an act that holds a packet takes a further answer
+-- the state after it: only an act that holds a packet takes a further answer
 abbrev pub past_act_of : ℕ → ℕ → ℕ
 past_act_of zero x = x
 past_act_of (suc zero) x = x
 past_act_of (suc (suc n)) x = past x
 
--- what becomes of a packet
+-- what becomes of a packet: with one answer it is lost, repeated or held, and with a further one held for 1 to 4 puts
 unfoldable pub act_at : ℕ → Act
-act_at x = act_of (drawn 3 x) (1 + drawn HOLDS (past x))
+act_at x = act_of (drawn 3 x) (1 + drawn 4 (past x))
 
+-- the state after its answers
 unfoldable pub past_act : ℕ → ℕ
 past_act x = past_act_of (drawn 3 x) (past x)
 
 -- an act on a put: the nodes that it goes from and to, its number, and what becomes of its packet
 unfoldable pub link_act_at : ℕ → ℕ → LinkAct
-link_act_at nodes x = record { from = drawn nodes x; to = drawn nodes (past x); n = 1 + drawn PUTS (past (past x)); act = act_at (past (past (past x))) }
+link_act_at nodes x = record { from = drawn nodes x; to = drawn nodes (past x); n = 1 + drawn 100 (past (past x)); act = act_at (past (past (past x))) }
 
+-- the state after its answers
 unfoldable pub past_link_act : ℕ → ℕ
 past_link_act x = past_act (past (past (past x)))
 
@@ -68,6 +71,7 @@ unfoldable pub acts_from : ℕ → ℕ → ℕ → List LinkAct
 acts_from nodes zero x = []
 acts_from nodes (suc count) x = link_act_at nodes x ∷ acts_from nodes count (past_link_act x)
 
+-- the state after their answers
 unfoldable pub past_acts : ℕ → ℕ → ℕ
 past_acts zero x = x
 past_acts (suc count) x = past_acts count (past_link_act x)

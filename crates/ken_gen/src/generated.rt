@@ -12,22 +12,22 @@ use ken_script::Script;
 use std::alloc::{AllocError, Global};
 
 /// The pages of each heap.
-pub(crate) const PAGES: u64 = 4;
+const PAGES: u64 = 4;
 
 /// The most turns of a node.
-pub(crate) const TURNS: u64 = 100_000;
+const TURNS: u64 = 100_000;
 
 /// The most restarts of a node.
-pub(crate) const RESTARTS: u64 = 64;
+const RESTARTS: u64 = 64;
 
 /// How many cuts are drawn.
-pub(crate) const CUTS: u8 = 6;
+const CUTS: u8 = 6;
 
 /// How many acts on puts of messages are drawn.
-pub(crate) const MAIL: u8 = 32;
+const MAIL: u8 = 32;
 
 /// How many acts on puts of acknowledgements are drawn.
-pub(crate) const ACKS: u8 = 16;
+const ACKS: u8 = 16;
 
 /// The script of a seed, for a run of so many nodes with so many inputs. It keeps the rules of a script that is read.
 #[tactic(auto, using(crate::proofs::Keeps::keeps_rules))]

@@ -9,7 +9,7 @@ use ken_num::{Lcg, put_decimal};
 use std::alloc::{AllocError, Global};
 
 /// The numbers in texts are below this.
-pub(crate) const NUMBERS: u64 = 1000;
+const NUMBERS: u64 = 1000;
 
 /// The decimal text of a number.
 fn draw_text(alloc: Global, generator: &mut Lcg) -> Result<Octets, AllocError>

@@ -10,22 +10,22 @@ use ken_script::DiskCut;
 use std::alloc::{AllocError, Global};
 
 /// The disks that are cut: the log and the image.
-pub(crate) const CUT_DISKS: u64 = 2;
+const CUT_DISKS: u64 = 2;
 
 /// Where the calls that are cut begin.
-pub(crate) const FIRST_CALL: u64 = 40;
+const FIRST_CALL: u64 = 40;
 
 /// Among how many calls a cut is.
-pub(crate) const CALLS: u64 = 400;
+const CALLS: u64 = 400;
 
 /// The picks are below this.
-pub(crate) const PICKS: u64 = 10;
+const PICKS: u64 = 10;
 
 /// Among how many puts of a link an act is, from the first.
-pub(crate) const PUTS: u64 = 100;
+const PUTS: u64 = 100;
 
 /// The most later puts for which a packet is held.
-pub(crate) const HOLDS: u64 = 4;
+const HOLDS: u64 = 4;
 
 /// A cut of a disk: its node, disk, call and pick.
 #[tactic(auto, unfolding(crate::specs::Mishaps::cut_at, crate::specs::Mishaps::past_cut))]
