@@ -14,6 +14,7 @@ pub mod Machines
 pub mod Staying
 pub mod Ledgers
 pub mod Groups
+pub mod Grouped
 pub mod Marking
 pub mod Turnovers
 pub mod Sealings

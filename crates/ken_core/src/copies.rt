@@ -4,45 +4,9 @@ ghost use Rattle.ken_cover.specs.Sides.{changes_at, recounted};
 ghost use Rattle.ken_core.specs.Turns.{effects_line};
 
 use ken_cover::{Change, Layer};
-use ken_model::{Items, Message, Octets, Out, Step, TurnLine};
+use ken_model::{Items, Step, TryClone, TurnLine};
 use ken_record::{Effects, Page};
 use std::alloc::{AllocError, Global};
-
-pub(crate) fn octets(alloc: Global, bytes: &Octets) -> Result<Octets, AllocError>
-    ensures { IfOk result (λ x. x ≡ bytes.now) }
-{
-    Ok(Octets::new(Vec::from_slice(alloc, bytes.as_slice())?))
-}
-
-pub(crate) fn page(alloc: Global, page: &Page) -> Result<Page, AllocError>
-    ensures { IfOk result (λ x. x ≡ page.now) }
-{
-    Ok(Page {
-        page: page.page,
-        bytes: octets(alloc, &page.bytes)?,
-    })
-}
-
-pub(crate) fn out(alloc: Global, out: &Out) -> Result<Out, AllocError>
-    ensures { IfOk result (λ x. x ≡ out.now) }
-{
-    Ok(Out {
-        number: out.number,
-        text: octets(alloc, &out.text)?,
-    })
-}
-
-pub(crate) fn message(alloc: Global, message: &Message) -> Result<Message, AllocError>
-    ensures { IfOk result (λ x. x ≡ message.now) }
-{
-    Ok(Message {
-        from: message.from,
-        to: message.to,
-        number: message.number,
-        stamp: message.stamp,
-        bytes: octets(alloc, &message.bytes)?,
-    })
-}
 
 pub(crate) fn draws(alloc: Global, draws: &[u64]) -> Result<Items<u64>, AllocError>
     ensures { IfOk result (λ x. x ≡ draws.now) }
@@ -58,7 +22,7 @@ pub(crate) fn layer(alloc: Global, turn: u64, pages: &[Page]) -> Result<Layer, A
     for changed in pages {
         changes.push(Change {
             turn,
-            page: page(alloc, changed)?,
+            page: changed.try_clone(alloc)?,
         })?;
     }
     Ok(Layer {
@@ -75,7 +39,7 @@ pub(crate) fn recounted(alloc: Global, layer: &Layer) -> Result<Layer, AllocErro
     for change in layer.changes.as_slice() {
         changes.push(Change {
             turn: layer.turn,
-            page: page(alloc, &change.page)?,
+            page: change.page.try_clone(alloc)?,
         })?;
     }
     Ok(Layer {

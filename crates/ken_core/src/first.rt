@@ -7,13 +7,12 @@ ghost use Rattle.ken_model.specs.Layout.{first_heap};
 ghost use Rattle.ken_model.specs.Network.{inputs_for, inputs_from};
 ghost use Rattle.ken_core.specs.Nodes.{heap_pages};
 
-use crate::copies;
 use crate::heap::Heap;
 use crate::ledger::Ledger;
 use crate::machine::Machine;
 use crate::number_set::Numbers;
 use crate::pages::Pages;
-use ken_model::{Facts, Head, Message, OUTSIDE, PAGE, empty_header};
+use ken_model::{Facts, Head, Message, OUTSIDE, PAGE, TryClone, empty_header};
 use std::alloc::{AllocError, Global};
 use std::collections::VecDeque;
 
@@ -82,7 +81,7 @@ fn inputs(alloc: Global, facts: &Facts, node: u8) -> Result<Vec<Message>, AllocE
                 to: input.node,
                 number,
                 stamp: 0,
-                bytes: copies::octets(alloc, &input.text)?,
+                bytes: input.text.try_clone(alloc)?,
             })?;
         }
     }

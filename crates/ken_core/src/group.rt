@@ -6,8 +6,8 @@ ghost use Rattle.ken_model.specs.Limits.{IsWithinLimits};
 use crate::machine::Machine;
 use crate::sealing::Sealing;
 use crate::timeline::Timeline;
-use crate::{Event, Outcome, Told, copies};
-use ken_model::{Emission, Facts, Items, Message, OUTSIDE, TurnLine};
+use crate::{Event, Outcome, Told};
+use ken_model::{Emission, Facts, Items, Message, OUTSIDE, TryClone, TurnLine};
 use ken_record::Page;
 use std::alloc::{AllocError, Global};
 
@@ -21,7 +21,8 @@ pub(crate) struct Group<'a> {
 
 impl<'a> Group<'a> {
     ghost use Rattle.ken_core.specs.declared.events.Event.TheVariants.{Seal, SealCut, Patch, SyncImage, Turnover, Send, Ack, TakeAck, Emit, Crash, Recover};
-    ghost use Rattle.ken_core.specs.Groups.{group_of, AreKept, Plays};
+    ghost use Rattle.ken_core.specs.Groups.{group_of, AreKept};
+    ghost use Rattle.ken_core.specs.Grouped.{game_in, cluster_in, IsKept, Lets, StandsStill};
     ghost use Rattle.ken_core.specs.Clusters.{start, IsHistoryOf};
     ghost use Rattle.ken_core.specs.Accord.{Accord};
     ghost use Rattle.ken_core.specs.Next.{IsNextOf, IsReady, IsUnready};
@@ -46,10 +47,10 @@ impl<'a> Group<'a> {
 
     /// Lets an event happen: false exactly where it isn't enabled. After that, and after an error, nothing has changed.
     pub(crate) fn step(&mut self, alloc: Global, event: &Event) -> Result<bool, AllocError>
-        requires kept { AreKept (game_of self.old.facts.now) self.old.machines.items }
-        ensures plays { IfOk result (λ happened. Plays (game_of self.old.facts.now) (group_of (game_of self.old.facts.now) self.old.machines.items self.old.emissions.items) event.now (group_of (game_of self.old.facts.now) self.new.machines.items self.new.emissions.items) happened) }
-        ensures err { OnErr result (group_of (game_of self.old.facts.now) self.new.machines.items self.new.emissions.items ≡ group_of (game_of self.old.facts.now) self.old.machines.items self.old.emissions.items) }
-        ensures kept { AreKept (game_of self.old.facts.now) self.new.machines.items }
+        requires kept { IsKept self.old }
+        ensures plays { IfOk result (Lets event.now self.old self.new) }
+        ensures err { OnErr result (StandsStill self.old self.new) }
+        ensures kept { AreKept (game_in self.old) self.new.machines.items }
         ensures facts { self.new.facts.now ≡ self.old.facts.now }
     {
         if event.node() >= self.facts.nodes {
@@ -91,9 +92,9 @@ impl<'a> Group<'a> {
 
     /// The turns of all nodes, in the order of stamps and nodes.
     pub(crate) fn history(&self, alloc: Global) -> Result<Items<TurnLine>, AllocError>
-        requires kept { AreKept (game_of self.now.facts.now) self.now.machines.items }
-        requires accord { Accord (game_of self.now.facts.now) (group_of (game_of self.now.facts.now) self.now.machines.items self.now.emissions.items) }
-        ensures { IfOk result (IsHistoryOf (group_of (game_of self.now.facts.now) self.now.machines.items self.now.emissions.items)) }
+        requires kept { IsKept self.now }
+        requires accord { Accord (game_in self.now) (cluster_in self.now) }
+        ensures { IfOk result (IsHistoryOf (cluster_in self.now)) }
     {
         let mut timeline = Timeline::new(alloc);
         for node in 0..self.facts.nodes {
@@ -105,10 +106,10 @@ impl<'a> Group<'a> {
 
     /// The image of a node is synced.
     fn sync(&mut self, node: u8) -> bool
-        requires kept { AreKept (game_of self.old.facts.now) self.old.machines.items }
+        requires kept { IsKept self.old }
         requires known { node < self.old.facts.now.nodes }
-        ensures plays { Plays (game_of self.old.facts.now) (group_of (game_of self.old.facts.now) self.old.machines.items self.old.emissions.items) (SyncImage node) (group_of (game_of self.old.facts.now) self.new.machines.items self.new.emissions.items) result }
-        ensures kept { AreKept (game_of self.old.facts.now) self.new.machines.items }
+        ensures plays { Lets (SyncImage node) self.old self.new result }
+        ensures kept { AreKept (game_in self.old) self.new.machines.items }
         ensures facts { self.new.facts.now ≡ self.old.facts.now }
     {
         let machine = &mut self.machines[usize::from(node)];
@@ -121,10 +122,10 @@ impl<'a> Group<'a> {
 
     /// A page of the oldest record to patch is written to the image.
     fn patch(&mut self, node: u8, page: u32) -> bool
-        requires kept { AreKept (game_of self.old.facts.now) self.old.machines.items }
+        requires kept { IsKept self.old }
         requires known { node < self.old.facts.now.nodes }
-        ensures plays { Plays (game_of self.old.facts.now) (group_of (game_of self.old.facts.now) self.old.machines.items self.old.emissions.items) (Patch node page) (group_of (game_of self.old.facts.now) self.new.machines.items self.new.emissions.items) result }
-        ensures kept { AreKept (game_of self.old.facts.now) self.new.machines.items }
+        ensures plays { Lets (Patch node page) self.old self.new result }
+        ensures kept { AreKept (game_in self.old) self.new.machines.items }
         ensures facts { self.new.facts.now ≡ self.old.facts.now }
     {
         let machine = &mut self.machines[usize::from(node)];
@@ -136,11 +137,11 @@ impl<'a> Group<'a> {
 
     /// A node crashes, and the open pages hold these bytes.
     fn crash(&mut self, alloc: Global, node: u8, pages: &Items<Page>) -> Result<bool, AllocError>
-        requires kept { AreKept (game_of self.old.facts.now) self.old.machines.items }
+        requires kept { IsKept self.old }
         requires known { node < self.old.facts.now.nodes }
-        ensures plays { IfOk result (λ happened. Plays (game_of self.old.facts.now) (group_of (game_of self.old.facts.now) self.old.machines.items self.old.emissions.items) (Crash node pages.now) (group_of (game_of self.old.facts.now) self.new.machines.items self.new.emissions.items) happened) }
-        ensures err { OnErr result (group_of (game_of self.old.facts.now) self.new.machines.items self.new.emissions.items ≡ group_of (game_of self.old.facts.now) self.old.machines.items self.old.emissions.items) }
-        ensures kept { AreKept (game_of self.old.facts.now) self.new.machines.items }
+        ensures plays { IfOk result (Lets (Crash node pages.now) self.old self.new) }
+        ensures err { OnErr result (StandsStill self.old self.new) }
+        ensures kept { AreKept (game_in self.old) self.new.machines.items }
         ensures facts { self.new.facts.now ≡ self.old.facts.now }
     {
         let machine = &mut self.machines[usize::from(node)];
@@ -154,11 +155,11 @@ impl<'a> Group<'a> {
 
     /// The mail of the i-th message to a node past the acknowledged number is put.
     fn send(&mut self, node: u8, to: u8, i: u64) -> Result<bool, AllocError>
-        requires kept { AreKept (game_of self.old.facts.now) self.old.machines.items }
+        requires kept { IsKept self.old }
         requires known { node < self.old.facts.now.nodes }
-        ensures plays { IfOk result (λ happened. Plays (game_of self.old.facts.now) (group_of (game_of self.old.facts.now) self.old.machines.items self.old.emissions.items) (Send node to i) (group_of (game_of self.old.facts.now) self.new.machines.items self.new.emissions.items) happened) }
-        ensures err { OnErr result (group_of (game_of self.old.facts.now) self.new.machines.items self.new.emissions.items ≡ group_of (game_of self.old.facts.now) self.old.machines.items self.old.emissions.items) }
-        ensures kept { AreKept (game_of self.old.facts.now) self.new.machines.items }
+        ensures plays { IfOk result (Lets (Send node to i) self.old self.new) }
+        ensures err { OnErr result (StandsStill self.old self.new) }
+        ensures kept { AreKept (game_in self.old) self.new.machines.items }
         ensures facts { self.new.facts.now ≡ self.old.facts.now }
     {
         let machine = &mut self.machines[usize::from(node)];
@@ -170,11 +171,11 @@ impl<'a> Group<'a> {
 
     /// The next output is emitted.
     fn emit(&mut self, alloc: Global, node: u8) -> Result<bool, AllocError>
-        requires kept { AreKept (game_of self.old.facts.now) self.old.machines.items }
+        requires kept { IsKept self.old }
         requires known { node < self.old.facts.now.nodes }
-        ensures plays { IfOk result (λ happened. Plays (game_of self.old.facts.now) (group_of (game_of self.old.facts.now) self.old.machines.items self.old.emissions.items) (Emit node) (group_of (game_of self.old.facts.now) self.new.machines.items self.new.emissions.items) happened) }
-        ensures err { OnErr result (group_of (game_of self.old.facts.now) self.new.machines.items self.new.emissions.items ≡ group_of (game_of self.old.facts.now) self.old.machines.items self.old.emissions.items) }
-        ensures kept { AreKept (game_of self.old.facts.now) self.new.machines.items }
+        ensures plays { IfOk result (Lets (Emit node) self.old self.new) }
+        ensures err { OnErr result (StandsStill self.old self.new) }
+        ensures kept { AreKept (game_in self.old) self.new.machines.items }
         ensures facts { self.new.facts.now ≡ self.old.facts.now }
     {
         let machine = &mut self.machines[usize::from(node)];
@@ -184,7 +185,7 @@ impl<'a> Group<'a> {
         let Some(due) = machine.due() else {
             return Ok(false);
         };
-        let out = copies::out(alloc, due)?;
+        let out = due.try_clone(alloc)?;
         self.emissions.push(Emission { node, out })?;
         machine.emitted += 1;
         Ok(true)
@@ -192,11 +193,11 @@ impl<'a> Group<'a> {
 
     /// What a node consumed from another is acknowledged.
     fn acknowledge(&mut self, node: u8, from: u8) -> Result<bool, AllocError>
-        requires kept { AreKept (game_of self.old.facts.now) self.old.machines.items }
+        requires kept { IsKept self.old }
         requires known { node < self.old.facts.now.nodes }
-        ensures plays { IfOk result (λ happened. Plays (game_of self.old.facts.now) (group_of (game_of self.old.facts.now) self.old.machines.items self.old.emissions.items) (Ack node from) (group_of (game_of self.old.facts.now) self.new.machines.items self.new.emissions.items) happened) }
-        ensures err { OnErr result (group_of (game_of self.old.facts.now) self.new.machines.items self.new.emissions.items ≡ group_of (game_of self.old.facts.now) self.old.machines.items self.old.emissions.items) }
-        ensures kept { AreKept (game_of self.old.facts.now) self.new.machines.items }
+        ensures plays { IfOk result (Lets (Ack node from) self.old self.new) }
+        ensures err { OnErr result (StandsStill self.old self.new) }
+        ensures kept { AreKept (game_in self.old) self.new.machines.items }
         ensures facts { self.new.facts.now ≡ self.old.facts.now }
     {
         let machine = &mut self.machines[usize::from(node)];
@@ -208,10 +209,10 @@ impl<'a> Group<'a> {
 
     /// An acknowledgement of a node through a number is taken.
     fn take_ack(&mut self, node: u8, from: u8, through: u64) -> bool
-        requires kept { AreKept (game_of self.old.facts.now) self.old.machines.items }
+        requires kept { IsKept self.old }
         requires known { node < self.old.facts.now.nodes }
-        ensures plays { Plays (game_of self.old.facts.now) (group_of (game_of self.old.facts.now) self.old.machines.items self.old.emissions.items) (TakeAck node from through) (group_of (game_of self.old.facts.now) self.new.machines.items self.new.emissions.items) result }
-        ensures kept { AreKept (game_of self.old.facts.now) self.new.machines.items }
+        ensures plays { Lets (TakeAck node from through) self.old self.new result }
+        ensures kept { AreKept (game_in self.old) self.new.machines.items }
         ensures facts { self.new.facts.now ≡ self.old.facts.now }
     {
         if !self.has_answered(from, node, through) {
@@ -227,8 +228,8 @@ impl<'a> Group<'a> {
 
     /// Whether a node acknowledged what it consumed from another through a number.
     fn has_answered(&self, from: u8, to: u8, through: u64) -> bool
-        requires kept { AreKept (game_of self.now.facts.now) self.now.machines.items }
-        ensures answer { result ≡ (group_of (game_of self.now.facts.now) self.now.machines.items self.now.emissions.items).answer from to through }
+        requires kept { IsKept self.now }
+        ensures answer { result ≡ (cluster_in self.now).answer from to through }
         ensures known { IsTrue result → from < self.now.facts.now.nodes }
     {
         let Some(sender) = self.machines.get(usize::from(from)) else {
@@ -242,11 +243,11 @@ impl<'a> Group<'a> {
 
     /// A node recovers.
     fn recover(&mut self, alloc: Global, node: u8) -> Result<bool, AllocError>
-        requires kept { AreKept (game_of self.old.facts.now) self.old.machines.items }
+        requires kept { IsKept self.old }
         requires known { node < self.old.facts.now.nodes }
-        ensures plays { IfOk result (λ happened. Plays (game_of self.old.facts.now) (group_of (game_of self.old.facts.now) self.old.machines.items self.old.emissions.items) (Recover node) (group_of (game_of self.old.facts.now) self.new.machines.items self.new.emissions.items) happened) }
-        ensures err { OnErr result (group_of (game_of self.old.facts.now) self.new.machines.items self.new.emissions.items ≡ group_of (game_of self.old.facts.now) self.old.machines.items self.old.emissions.items) }
-        ensures kept { AreKept (game_of self.old.facts.now) self.new.machines.items }
+        ensures plays { IfOk result (Lets (Recover node) self.old self.new) }
+        ensures err { OnErr result (StandsStill self.old self.new) }
+        ensures kept { AreKept (game_in self.old) self.new.machines.items }
         ensures facts { self.new.facts.now ≡ self.old.facts.now }
     {
         let machine = &mut self.machines[usize::from(node)];
@@ -268,11 +269,11 @@ impl<'a> Group<'a> {
         outcome: Outcome,
         told: &Told,
     ) -> Result<bool, AllocError>
-        requires kept { AreKept (game_of self.old.facts.now) self.old.machines.items }
+        requires kept { IsKept self.old }
         requires known { node < self.old.facts.now.nodes }
-        ensures plays { IfOk result (λ happened. Plays (game_of self.old.facts.now) (group_of (game_of self.old.facts.now) self.old.machines.items self.old.emissions.items) (Turnover node outcome told.now) (group_of (game_of self.old.facts.now) self.new.machines.items self.new.emissions.items) happened) }
-        ensures err { OnErr result (group_of (game_of self.old.facts.now) self.new.machines.items self.new.emissions.items ≡ group_of (game_of self.old.facts.now) self.old.machines.items self.old.emissions.items) }
-        ensures kept { AreKept (game_of self.old.facts.now) self.new.machines.items }
+        ensures plays { IfOk result (Lets (Turnover node outcome told.now) self.old self.new) }
+        ensures err { OnErr result (StandsStill self.old self.new) }
+        ensures kept { AreKept (game_in self.old) self.new.machines.items }
         ensures facts { self.new.facts.now ≡ self.old.facts.now }
     {
         let machine = &mut self.machines[usize::from(node)];
@@ -281,9 +282,9 @@ impl<'a> Group<'a> {
 
     /// The next message of a sender for a node, where it came.
     fn next(&self, node: u8, from: u8) -> Option<&Message>
-        requires kept { AreKept (game_of self.now.facts.now) self.now.machines.items }
+        requires kept { IsKept self.now }
         requires known { node < self.now.facts.now.nodes }
-        ensures { IsNextOf (game_of self.now.facts.now) self.now.machines.items node from (option_copied result) }
+        ensures { IsNextOf (game_in self.now) self.now.machines.items node from (option_copied result) }
     {
         let receiver = &self.machines[usize::from(node)];
         let count = receiver.ledger.consumed_from(from)?;
@@ -303,18 +304,18 @@ impl<'a> Group<'a> {
         draws: &[u64],
         pages: &[Page],
     ) -> Result<Option<Sealing>, AllocError>
-        requires kept { AreKept (game_of self.old.facts.now) self.old.machines.items }
+        requires kept { IsKept self.old }
         requires known { node < self.old.facts.now.nodes }
-        ensures some { IfOk result (λ s. IfSome s (IsReady (game_of self.old.facts.now) self.new.machines.items self.new.emissions.items node from draws.now pages.now)) }
-        ensures none { IfOk result (λ s. IfNone s (IsUnready (game_of self.old.facts.now) self.new.machines.items self.new.emissions.items node from draws.now pages.now)) }
-        ensures same { group_of (game_of self.old.facts.now) self.new.machines.items self.new.emissions.items ≡ group_of (game_of self.old.facts.now) self.old.machines.items self.old.emissions.items }
-        ensures kept { AreKept (game_of self.old.facts.now) self.new.machines.items }
+        ensures some { IfOk result (λ s. IfSome s (IsReady (game_in self.old) self.new.machines.items self.new.emissions.items node from draws.now pages.now)) }
+        ensures none { IfOk result (λ s. IfNone s (IsUnready (game_in self.old) self.new.machines.items self.new.emissions.items node from draws.now pages.now)) }
+        ensures same { StandsStill self.old self.new }
+        ensures kept { AreKept (game_in self.old) self.new.machines.items }
         ensures facts { self.new.facts.now ≡ self.old.facts.now }
     {
         let Some(message) = self.next(node, from) else {
             return Ok(None);
         };
-        let message = copies::message(alloc, message)?;
+        let message = message.try_clone(alloc)?;
         let machine = &mut self.machines[usize::from(node)];
         Sealing::prepare(alloc, self.facts, node, machine, &message, draws, pages)
     }
@@ -328,11 +329,11 @@ impl<'a> Group<'a> {
         draws: &Items<u64>,
         pages: &Items<Page>,
     ) -> Result<bool, AllocError>
-        requires kept { AreKept (game_of self.old.facts.now) self.old.machines.items }
+        requires kept { IsKept self.old }
         requires known { node < self.old.facts.now.nodes }
-        ensures plays { IfOk result (λ happened. Plays (game_of self.old.facts.now) (group_of (game_of self.old.facts.now) self.old.machines.items self.old.emissions.items) (Seal node from draws.now pages.now) (group_of (game_of self.old.facts.now) self.new.machines.items self.new.emissions.items) happened) }
-        ensures err { OnErr result (group_of (game_of self.old.facts.now) self.new.machines.items self.new.emissions.items ≡ group_of (game_of self.old.facts.now) self.old.machines.items self.old.emissions.items) }
-        ensures kept { AreKept (game_of self.old.facts.now) self.new.machines.items }
+        ensures plays { IfOk result (Lets (Seal node from draws.now pages.now) self.old self.new) }
+        ensures err { OnErr result (StandsStill self.old self.new) }
+        ensures kept { AreKept (game_in self.old) self.new.machines.items }
         ensures facts { self.new.facts.now ≡ self.old.facts.now }
     {
         let sealing = self.sealing(alloc, node, from, draws.as_slice(), pages.as_slice())?;
@@ -355,11 +356,11 @@ impl<'a> Group<'a> {
         pages: &Items<Page>,
         landed: bool,
     ) -> Result<bool, AllocError>
-        requires kept { AreKept (game_of self.old.facts.now) self.old.machines.items }
+        requires kept { IsKept self.old }
         requires known { node < self.old.facts.now.nodes }
-        ensures plays { IfOk result (λ happened. Plays (game_of self.old.facts.now) (group_of (game_of self.old.facts.now) self.old.machines.items self.old.emissions.items) (SealCut node from draws.now pages.now landed) (group_of (game_of self.old.facts.now) self.new.machines.items self.new.emissions.items) happened) }
-        ensures err { OnErr result (group_of (game_of self.old.facts.now) self.new.machines.items self.new.emissions.items ≡ group_of (game_of self.old.facts.now) self.old.machines.items self.old.emissions.items) }
-        ensures kept { AreKept (game_of self.old.facts.now) self.new.machines.items }
+        ensures plays { IfOk result (Lets (SealCut node from draws.now pages.now landed) self.old self.new) }
+        ensures err { OnErr result (StandsStill self.old self.new) }
+        ensures kept { AreKept (game_in self.old) self.new.machines.items }
         ensures facts { self.new.facts.now ≡ self.old.facts.now }
     {
         let sealing = self.sealing(alloc, node, from, draws.as_slice(), pages.as_slice())?;

@@ -12,7 +12,7 @@ use crate::bytes::are_changed;
 use crate::copies;
 use crate::machine::Machine;
 use ken_cover::Layer;
-use ken_model::{Block, Facts, Items, Message, Octets, Out, Send, Value};
+use ken_model::{Block, Facts, Items, Message, Octets, Out, Send, TryClone, Value, copies_of};
 use ken_record::{Effects, Page, Sent};
 use std::alloc::{AllocError, Global};
 
@@ -115,7 +115,7 @@ impl Sealing {
             stamp,
             draws: copies::draws(alloc, draws)?,
             sends: sents(alloc, mails.as_slice())?,
-            outs: numbered_copy(alloc, outs.as_slice())?,
+            outs: copies_of(alloc, outs.as_slice())?,
         };
         Ok(Sealing {
             value,
@@ -189,7 +189,7 @@ fn mails(
             to: send.to,
             number,
             stamp,
-            bytes: copies::octets(alloc, &send.bytes)?,
+            bytes: send.bytes.try_clone(alloc)?,
         })?;
     }
     Ok(mails)
@@ -204,7 +204,7 @@ fn sents(alloc: Global, mails: &[Message]) -> Result<Items<Sent>, AllocError>
         sends.push(Sent {
             to: mail.to,
             number: mail.number,
-            bytes: copies::octets(alloc, &mail.bytes)?,
+            bytes: mail.bytes.try_clone(alloc)?,
         })?;
     }
     Ok(Items::new(sends))
@@ -221,18 +221,8 @@ fn numbered(alloc: Global, before: usize, texts: &[Octets]) -> Result<Vec<Out>, 
         let number = (before + outs.len()) as u64 + 1;
         outs.push(Out {
             number,
-            text: copies::octets(alloc, text)?,
+            text: text.try_clone(alloc)?,
         })?;
     }
     Ok(outs)
-}
-
-fn numbered_copy(alloc: Global, outs: &[Out]) -> Result<Items<Out>, AllocError>
-    ensures { IfOk result (λ copies. copies ≡ outs.now) }
-{
-    let mut copied = Vec::with_capacity(alloc, outs.len())?;
-    for out in outs {
-        copied.push(copies::out(alloc, out)?)?;
-    }
-    Ok(Items::new(copied))
 }

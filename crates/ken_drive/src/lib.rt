@@ -1,7 +1,6 @@
 //! The drive of a run: what a run meets beside its script, and the passes over its nodes.
 #![tactic(auto)]
 
-mod copies;
 mod creation;
 mod devices;
 mod drain;

@@ -8,13 +8,12 @@ ghost use Rattle.ken_node.specs.Stages.{IsCreated, emissions_in, turns_in};
 ghost use Rattle.ken_drive.specs.Ended.{AddsHeap, AreWords, HaveSaid, ending_of, restart_lines, waits_for, waits_in};
 ghost use Rattle.ken_drive.specs.Clauses.{Over, ReportsRun, Tells};
 
-use crate::copies;
 use crate::run::Run;
 use crate::station::Station;
 use ken_app::{App, Oracle};
 use ken_core::Timeline;
 use ken_disk::Disk;
-use ken_model::{Emission, Ending, Items, Lines, OUTSIDE, RestartLine, Value};
+use ken_model::{Emission, Ending, Items, Lines, OUTSIDE, RestartLine, TryClone, Value};
 use ken_node::Watched;
 use ken_ship::Outlet;
 use std::alloc::{AllocError, Global};
@@ -82,7 +81,7 @@ fn add_emissions(
     ensures { OnOk result (all.new.items ≡ all.old.items ++ emissions.now) }
 {
     for emission in emissions {
-        all.push(copies::emission(alloc, emission)?)?;
+        all.push(emission.try_clone(alloc)?)?;
     }
     Ok(())
 }

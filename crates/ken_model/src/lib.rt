@@ -4,6 +4,7 @@
 
 mod actors;
 mod cells;
+mod clones;
 mod commands;
 mod facts;
 mod faults;
@@ -25,6 +26,7 @@ mod values;
 
 pub use actors::Actors;
 pub use cells::{CELLS, HEAD, Head};
+pub use clones::{TryClone, copies_of};
 pub use commands::{Command, is_pair_of};
 pub use facts::{Facts, Input, MAX_INPUTS, MAX_NODES, MAX_PAGES, MAX_TEXT, MAX_TURNS, PAGE};
 pub use faults::StepFault;

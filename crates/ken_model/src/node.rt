@@ -9,7 +9,7 @@ ghost use Rattle.ken_model.specs.Answers.{changed, value_after};
 ghost use Rattle.ken_model.specs.Letters.{send_of, copy_of, count_at};
 
 use crate::handler::{Answer, BlockChange};
-use crate::{Block, Input, Items, Message, OUTSIDE, Octets, Out, Send, Value};
+use crate::{Block, Input, Items, Message, OUTSIDE, Octets, Out, Send, TryClone, Value};
 use std::alloc::{AllocError, Global};
 
 #[derive(Debug, Drop)]
@@ -80,7 +80,7 @@ impl Node {
             to: input.node,
             number,
             stamp: 0,
-            bytes: copied(alloc, &input.text)?,
+            bytes: input.text.try_clone(alloc)?,
         })?;
         Ok(())
     }
@@ -159,13 +159,6 @@ pub(crate) fn change(value: &mut Value, blocks: BlockChange) -> Result<(), Alloc
     Ok(())
 }
 
-/// A copy of a text.
-fn copied(alloc: Global, text: &Octets) -> Result<Octets, AllocError>
-    ensures { IfOk result (λ t. t ≡ text.now) }
-{
-    Ok(Octets::new(Vec::from_slice(alloc, text.as_slice())?))
-}
-
 /// Copies of outputs, numbered on from `before`.
 #[tactic(auto, unfolding(crate::specs::Network::outputs_from))]
 fn numbered_outs(alloc: Global, before: usize, texts: &[Octets]) -> Result<Vec<Out>, AllocError>
@@ -177,7 +170,7 @@ fn numbered_outs(alloc: Global, before: usize, texts: &[Octets]) -> Result<Vec<O
         let number = (before + outs.len()) as u64 + 1;
         outs.push(Out {
             number,
-            text: copied(alloc, text)?,
+            text: text.try_clone(alloc)?,
         })?;
     }
     Ok(outs)
@@ -190,7 +183,7 @@ fn letters(alloc: Global, sends: Vec<Send>) -> Result<Vec<Letter>, AllocError>
 {
     let mut letters = Vec::new(alloc);
     for send in sends {
-        let copy = copied(alloc, &send.bytes)?;
+        let copy = send.bytes.try_clone(alloc)?;
         letters.push(Letter { send, copy })?;
     }
     Ok(letters)

@@ -9,7 +9,7 @@ ghost use Rattle.ken_ship.specs.Fits.{AreSent};
 ghost use Rattle.ken_node.specs.Making.{IsHanded};
 ghost use Rattle.ken_node.specs.Restarts.{effects_in};
 
-use ken_model::{Items, MAX_NODES, Octets, Out, Send};
+use ken_model::{Items, MAX_NODES, Octets, Out, Send, copies_of};
 use ken_record::{Effects, Record, Sent};
 use ken_ship::Sealed;
 use std::alloc::{AllocError, Global};
@@ -68,39 +68,6 @@ pub(crate) fn outs_of(
     Ok(Items::new(outs))
 }
 
-fn octets(alloc: Global, octets: &Octets) -> Result<Octets, AllocError>
-    ensures { IfOk result (λ copy. copy ≡ octets.now) }
-{
-    Ok(Octets::new(Vec::from_slice(alloc, octets.as_slice())?))
-}
-
-fn sends_copy(alloc: Global, sends: &[Sent]) -> Result<Items<Sent>, AllocError>
-    ensures { IfOk result (λ copies. copies ≡ sends.now) }
-{
-    let mut copies = Vec::with_capacity(alloc, sends.len())?;
-    for sent in sends {
-        copies.push(Sent {
-            to: sent.to,
-            number: sent.number,
-            bytes: octets(alloc, &sent.bytes)?,
-        })?;
-    }
-    Ok(Items::new(copies))
-}
-
-fn outs_copy(alloc: Global, outs: &[Out]) -> Result<Items<Out>, AllocError>
-    ensures { IfOk result (λ copies. copies ≡ outs.now) }
-{
-    let mut copies = Vec::with_capacity(alloc, outs.len())?;
-    for out in outs {
-        copies.push(Out {
-            number: out.number,
-            text: octets(alloc, &out.text)?,
-        })?;
-    }
-    Ok(Items::new(copies))
-}
-
 // What the externaliser is handed of a turn.
 pub(crate) fn handed(alloc: Global, turn: u64, effects: &Effects) -> Result<Sealed, AllocError>
     requires { AreSent effects.now.stamp effects.now.sends }
@@ -109,8 +76,8 @@ pub(crate) fn handed(alloc: Global, turn: u64, effects: &Effects) -> Result<Seal
     Ok(Sealed {
         turn,
         stamp: effects.stamp,
-        sends: sends_copy(alloc, effects.sends.as_slice())?,
-        outs: outs_copy(alloc, effects.outs.as_slice())?,
+        sends: copies_of(alloc, effects.sends.as_slice())?,
+        outs: copies_of(alloc, effects.outs.as_slice())?,
     })
 }
 
@@ -123,7 +90,7 @@ pub(crate) fn effects_of(alloc: Global, last: &Record) -> Result<Effects, AllocE
         number: last.number,
         stamp: last.stamp,
         draws: Items::new(Vec::from_slice(alloc, last.draws.as_slice())?),
-        sends: sends_copy(alloc, last.sends.as_slice())?,
-        outs: outs_copy(alloc, last.outs.as_slice())?,
+        sends: copies_of(alloc, last.sends.as_slice())?,
+        outs: copies_of(alloc, last.outs.as_slice())?,
     })
 }

@@ -3,21 +3,8 @@ ghost use Rattle.std.specs.Prelude.{◌≡◌, ◌<◌, ◌≤◌, IfOk};
 ghost use Rattle.std.specs.List.{AllByRecursion};
 ghost use Rattle.ken_model.specs.Network.{inputs_from};
 
-use ken_model::{Input, Message, OUTSIDE, Octets};
+use ken_model::{Input, Message, OUTSIDE, TryClone};
 use std::alloc::{AllocError, Global};
-
-// A copy of a message.
-pub(crate) fn copy(alloc: Global, message: &Message) -> Result<Message, AllocError>
-    ensures { IfOk result (λ copy. copy ≡ message.now) }
-{
-    Ok(Message {
-        from: message.from,
-        to: message.to,
-        number: message.number,
-        stamp: message.stamp,
-        bytes: Octets::new(Vec::from_slice(alloc, message.bytes.as_slice())?),
-    })
-}
 
 // The inputs for a node, numbered from 1.
 pub(crate) fn inputs_for(
@@ -35,7 +22,7 @@ pub(crate) fn inputs_for(
                 to: node,
                 number: messages.len() as u64 + 1,
                 stamp: 0,
-                bytes: Octets::new(Vec::from_slice(alloc, input.text.as_slice())?),
+                bytes: input.text.try_clone(alloc)?,
             })?;
         }
     }

@@ -7,10 +7,9 @@ ghost use Rattle.ken_node.specs.Hearing.{Listens, ack_put, chosen};
 ghost use Rattle.ken_node.specs.Making.{IsMessage};
 
 use crate::hearing::Heard;
-use crate::inputs;
 use crate::worker::TurnWorker;
 use ken_disk::Disk;
-use ken_model::{Message, OUTSIDE, Octets};
+use ken_model::{Message, OUTSIDE, Octets, TryClone};
 use ken_net::{Handed, Net};
 use ken_order::Order;
 use ken_packet::{Packet, encode};
@@ -123,7 +122,7 @@ pub(crate) fn next_input(
     ensures waits { OnErr result (IsSome (chosen inputs.now order.now None)) }
 {
     match inputs.get(order.through(OUTSIDE) as usize) {
-        Some(input) => Ok(Some(inputs::copy(alloc, input)?)),
+        Some(input) => Ok(Some(input.try_clone(alloc)?)),
         None => Ok(None),
     }
 }

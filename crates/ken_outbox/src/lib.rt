@@ -1,7 +1,6 @@
 //! What a node has sent and output and may still have to send or emit.
 #![tactic(auto)]
 
-mod copies;
 mod line;
 mod lines;
 mod outbox;

@@ -3,8 +3,8 @@ ghost use Rattle.std.specs.VecDeque.{deque_len, deque_capacity};
 ghost use Rattle.ken_outbox.specs.Waiting.{nothing, resumed, with_sends, acked_by, next_number, no_line, AreFor};
 
 use crate::line::Line;
-use crate::{copies, lines};
-use ken_model::{Items, Message, Octets, Out, State};
+use crate::lines;
+use ken_model::{Items, Message, Octets, Out, State, copies_of};
 use std::alloc::{AllocError, Global};
 use std::collections::VecDeque;
 use std::marker::Model;
@@ -54,8 +54,8 @@ impl Outbox {
             outs: VecDeque::new(alloc),
         };
         outbox.add(
-            copies::messages(alloc, waiting)?,
-            copies::outs(alloc, state.outs.as_slice())?,
+            copies_of(alloc, waiting)?,
+            copies_of(alloc, state.outs.as_slice())?,
         )?;
         Ok(outbox)
     }

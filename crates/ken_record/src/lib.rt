@@ -3,6 +3,7 @@
 
 mod base;
 mod bytes;
+mod clones;
 mod due;
 mod effects;
 mod faults;

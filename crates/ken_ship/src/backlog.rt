@@ -8,7 +8,7 @@ ghost use Rattle.ken_ship.specs.Handing.{acked_in, with_turn, progress_in};
 use crate::copies;
 use crate::items::{Progress, Sealed};
 use ken_links::{PopEnd, PushEnd, SLOTS, beside};
-use ken_model::{MAX_NODES, Message, Out, State};
+use ken_model::{MAX_NODES, Message, Out, State, TryClone, copies_of};
 use ken_outbox::Outbox;
 use std::alloc::{AllocError, Global};
 use std::collections::VecDeque;
@@ -36,7 +36,7 @@ fn add_turn(alloc: Global, node: u8, outbox: &mut Outbox, turn: &Sealed) -> Resu
     ensures err { OnErr result (outbox.new ≡ outbox.old) }
 {
     let sends = copies::mails(alloc, node, turn.stamp, turn.sends.as_slice())?;
-    let outs = copies::outs(alloc, turn.outs.as_slice())?;
+    let outs = copies_of(alloc, turn.outs.as_slice())?;
     outbox.add(sends, outs)
 }
 
@@ -197,7 +197,7 @@ impl Backlog {
         match self.outbox.next_out() {
             Some((number, text)) => Ok(Some(Out {
                 number,
-                text: copies::octets(self.alloc, text)?,
+                text: text.try_clone(self.alloc)?,
             })),
             None => Ok(None),
         }

@@ -1,16 +1,10 @@
-// Copies of what a turn sent and output.
+// Copies of what a turn sent, as messages.
 ghost use Rattle.std.specs.Prelude.{◌≡◌, map, IfOk};
 ghost use Rattle.ken_core.specs.Turns.{mail_of};
 
-use ken_model::{Items, Message, Octets, Out};
+use ken_model::{Items, Message, TryClone};
 use ken_record::Sent;
 use std::alloc::{AllocError, Global};
-
-pub(crate) fn octets(alloc: Global, octets: &Octets) -> Result<Octets, AllocError>
-    ensures { IfOk result (λ copy. copy ≡ octets.now) }
-{
-    Ok(Octets::new(Vec::from_slice(alloc, octets.as_slice())?))
-}
 
 // A message that a turn of a node with this stamp sent.
 fn mail(alloc: Global, node: u8, stamp: u64, sent: &Sent) -> Result<Message, AllocError>
@@ -21,16 +15,7 @@ fn mail(alloc: Global, node: u8, stamp: u64, sent: &Sent) -> Result<Message, All
         to: sent.to,
         number: sent.number,
         stamp,
-        bytes: octets(alloc, &sent.bytes)?,
-    })
-}
-
-pub(crate) fn out(alloc: Global, out: &Out) -> Result<Out, AllocError>
-    ensures { IfOk result (λ copy. copy ≡ out.now) }
-{
-    Ok(Out {
-        number: out.number,
-        text: octets(alloc, &out.text)?,
+        bytes: sent.bytes.try_clone(alloc)?,
     })
 }
 
@@ -47,14 +32,4 @@ pub(crate) fn mails(
         mails.push(mail(alloc, node, stamp, sent)?)?;
     }
     Ok(Items::new(mails))
-}
-
-pub(crate) fn outs(alloc: Global, items: &[Out]) -> Result<Items<Out>, AllocError>
-    ensures { IfOk result (λ copies. copies ≡ items.now) }
-{
-    let mut copies = Vec::new(alloc);
-    for item in items {
-        copies.push(out(alloc, item)?)?;
-    }
-    Ok(Items::new(copies))
 }

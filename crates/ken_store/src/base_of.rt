@@ -13,10 +13,10 @@ ghost use Rattle.ken_store.specs.Turning.{Turning, turn_pages, changed_in};
 ghost use Rattle.ken_store.specs.Turnovers.{due_of, record_dues, dues_in, is_due, unacked_to, all_due, outs_above, page_in, turn_in, changes_kept, base_of};
 
 use crate::turning::TurnSide;
-use crate::{copies, waiting};
+use crate::waiting;
 use ken_alloc::Objects;
 use ken_disk::Disk;
-use ken_model::{Items, MAX_NODES, Octets, Out, PAGE};
+use ken_model::{Items, MAX_NODES, Octets, Out, PAGE, TryClone};
 use ken_record::{Base, Due, Page, Record};
 use std::alloc::{AllocError, Global};
 
@@ -120,12 +120,7 @@ fn put_due(
 {
     for message in due {
         if is_due(acked, to, message.to, message.number) {
-            messages.push(Due {
-                to: message.to,
-                number: message.number,
-                stamp: message.stamp,
-                bytes: copies::octets(alloc, &message.bytes)?,
-            })?;
+            messages.push(message.try_clone(alloc)?)?;
         }
     }
     Ok(())
@@ -146,7 +141,7 @@ fn put_sent(
                 to: sent.to,
                 number: sent.number,
                 stamp: item.stamp,
-                bytes: copies::octets(alloc, &sent.bytes)?,
+                bytes: sent.bytes.try_clone(alloc)?,
             })?;
         }
     }
@@ -187,10 +182,7 @@ fn put_outs(
 {
     for out in items {
         if out.number > emitted {
-            outs.push(Out {
-                number: out.number,
-                text: copies::octets(alloc, &out.text)?,
-            })?;
+            outs.push(out.try_clone(alloc)?)?;
         }
     }
     Ok(())

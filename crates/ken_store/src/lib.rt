@@ -6,7 +6,6 @@ mod base_of;
 mod base_size;
 mod bases;
 mod calls;
-mod copies;
 mod creation;
 mod disks;
 mod faults;

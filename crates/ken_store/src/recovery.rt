@@ -19,6 +19,7 @@ ghost use Rattle.ken_store.specs.Ahead.{AreFound, ahead_layers, origins, page_la
 ghost use Rattle.ken_store.specs.Kept.{base_pages, HasPagesWithin};
 ghost use Rattle.ken_store.specs.Recovered.{checked, recovered, with_log, with_state};
 
+use crate::StoreFault;
 use crate::disks::{Disks, apart};
 use crate::faults::of_log;
 use crate::handing::ahead_of;
@@ -31,11 +32,10 @@ use crate::store::{Recovered, Store};
 use crate::together::together;
 use crate::turning::TurnSide;
 use crate::waiting::base_pages;
-use crate::{StoreFault, copies};
 use ken_disk::Disk;
 use ken_image::Image;
 use ken_log::Log;
-use ken_model::{Items, PAGE};
+use ken_model::{Items, PAGE, copies_of};
 use ken_record::Record;
 use std::alloc::{AllocError, Global};
 use std::collections::VecDeque;
@@ -230,7 +230,7 @@ fn kept_of<D: Disk>(
     base_turns.resize(pages.len(), turns)?;
     Ok(Kept {
         base_turns,
-        records: copies::records(alloc, records)?,
+        records: copies_of(alloc, records)?.into_vec(),
         ahead: ahead_of(alloc, turns, pages, records, count)?,
     })
 }

@@ -8,15 +8,15 @@ ghost use Rattle.ken_store.specs.Lending.{LendsHeap};
 ghost use Rattle.ken_store.specs.Numbers.{follows, after_record};
 ghost use Rattle.ken_store.specs.Turning.{Turning, KeepsLog, begun_on, undone, turn_pages, record_of, changed_pages, coming_record, AreChangedPages, IsSealed, IsUndone, IsStillBegun, IsSameNode, SealsOn, log_answer};
 
+use crate::StoreFault;
 use crate::disks::Which;
 use crate::numbers::Numbers;
 use crate::owner::Owner;
-use crate::{StoreFault, copies};
 use ken_alloc::Objects;
 use ken_disk::Disk;
 use ken_frame::Frame;
 use ken_log::{Log, SealFault};
-use ken_model::{Items, Octets};
+use ken_model::{Items, Octets, copies_of};
 use ken_record::{Effects, Page, Record};
 use std::alloc::{AllocError, Global};
 use std::sync::Arc;
@@ -178,8 +178,8 @@ fn record_of(
         from: effects.from,
         number: effects.number,
         draws: Items::new(Vec::from_slice(alloc, effects.draws.as_slice())?),
-        sends: copies::sends(alloc, effects.sends.as_slice())?,
-        outs: copies::outs(alloc, effects.outs.as_slice())?,
+        sends: copies_of(alloc, effects.sends.as_slice())?,
+        outs: copies_of(alloc, effects.outs.as_slice())?,
         pages: pages_in(alloc, frames)?,
     })
 }

@@ -4,10 +4,9 @@ ghost use Rattle.std.specs.List.{flat_map};
 ghost use Rattle.ken_record.specs.declared.record.Record.{Record};
 ghost use Rattle.ken_store.specs.Kept.{due_to, sent_to, messages_to, messages_in, outs_in, base_messages, base_outs, base_pages, record_outs};
 
-use crate::copies;
 use ken_disk::Disk;
 use ken_log::Log;
-use ken_model::{Items, MAX_NODES, Message, Out};
+use ken_model::{Items, MAX_NODES, Message, Out, TryClone};
 use ken_record::{Due, Page, Record};
 use std::alloc::{AllocError, Global};
 
@@ -104,7 +103,7 @@ fn put_due(
                 to,
                 number: message.number,
                 stamp: message.stamp,
-                bytes: copies::octets(alloc, &message.bytes)?,
+                bytes: message.bytes.try_clone(alloc)?,
             })?;
         }
     }
@@ -127,7 +126,7 @@ fn put_sent(
                 to,
                 number: sent.number,
                 stamp: item.stamp,
-                bytes: copies::octets(alloc, &sent.bytes)?,
+                bytes: sent.bytes.try_clone(alloc)?,
             })?;
         }
     }
@@ -138,10 +137,7 @@ fn put_outs(alloc: Global, outs: &mut Vec<Out>, items: &[Out]) -> Result<(), All
     ensures { OnOk result (outs.new.items ≡ outs.old.items ++ items.now) }
 {
     for out in items {
-        outs.push(Out {
-            number: out.number,
-            text: copies::octets(alloc, &out.text)?,
-        })?;
+        outs.push(out.try_clone(alloc)?)?;
     }
     Ok(())
 }

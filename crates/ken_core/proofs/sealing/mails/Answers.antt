@@ -23,8 +23,8 @@ loop-send-preserved c =
       made = subst (λ k. c.push.new.self.items ++ posted_after c.args.node c.args.stamp (λ w. slice_index (slice_set counts k (c.index.result.now + 1)) w) (drop (i + 1) sends) ≡ whole) (sym at)
           (subst (λ n. c.push.new.self.items ++ posted_after c.args.node c.args.stamp (λ w. slice_index (slice_set counts s.to (n + 1)) w) (drop (i + 1) sends) ≡ whole) (sym number)
           (ap (λ ms. ms ++ posted_after c.args.node c.args.stamp (λ w. slice_index (slice_set counts s.to (slice_index counts s.to + 1)) w) (drop (i + 1) sends)) c.in_ok-push.ensures.items
-          ∙ posted_more c.args.node c.args.stamp counts c.loop-send.mails.items whole (record { from = c.args.node; to = s.to; number = c.index.result.now + 1; stamp = c.args.stamp; bytes = c.in_ok-octets.field-0 }) sends i s c.loop-send-test.true c.send-item.is known
-          (ap (λ n. record { from = c.args.node; to = s.to; number = n + 1; stamp = c.args.stamp; bytes = c.in_ok-octets.field-0 }) number ∙ ap (λ b. record { from = c.args.node; to = s.to; number = slice_index counts s.to + 1; stamp = c.args.stamp; bytes = b }) c.in_ok-octets.ensures)
+          ∙ posted_more c.args.node c.args.stamp counts c.loop-send.mails.items whole (record { from = c.args.node; to = s.to; number = c.index.result.now + 1; stamp = c.args.stamp; bytes = c.in_ok-try_clone.field-0 }) sends i s c.loop-send-test.true c.send-item.is known
+          (ap (λ n. record { from = c.args.node; to = s.to; number = n + 1; stamp = c.args.stamp; bytes = c.in_ok-try_clone.field-0 }) number ∙ ap (λ b. record { from = c.args.node; to = s.to; number = slice_index counts s.to + 1; stamp = c.args.stamp; bytes = b }) c.in_ok-try_clone.ensures)
           c.loop-send.invariant.made));
       width = length-set counts c.from-to.result (c.index.result.now + 1) ∙ c.loop-send.invariant.width;
       room = λ w. subst (λ k. slice_index (slice_set counts k (c.index.result.now + 1)) w + (length sends - (i + 1)) < 18446744073709551616) (sym at)
