@@ -34,14 +34,15 @@ use Rattle.ken_drive.specs.Accounts.{AreAccounted, AreOwnDisks, IsAccounted, Tel
 use Rattle.ken_drive.specs.Driven.{HaveCauses, KeepsNode, KeepsRun, Views, out_numbers, restarts_of, steps_at}
 use Rattle.ken_drive.specs.Ended.{IsEnded, IsReportOf, restarts_from}
 use Rattle.ken_drive.specs.Finishing.{WasKept, unwatched}
-use Rattle.ken_drive.specs.Recovering.{RecoversAt}
+use Rattle.ken_drive.specs.Patched.{HasItsImage, HaveImages}
+use Rattle.ken_drive.specs.Recovering.{HoldsHeapAt, RecoversAt}
 use Rattle.ken_drive.specs.Refusals.{AreRefused, IsRefused}
 use Rattle.ken_drive.specs.Running.{IsRunning}
 use Rattle.ken_drive.specs.Worlds.{IsTold, MayFailAt}
 use Rattle.ken_app.specs.declared.turn.TheConstants.{MAX_DRAWS}
 use Rattle.ken_drive.proofs.Fewer.{few-turns}
 use Rattle.ken_drive.specs.Sequences.{IsSubsequence, NeverFall, descents}
-use Rattle.ken_drive.proofs.Recovering.{up-recovers}
+use Rattle.ken_drive.proofs.Recovering.{up-recovers, up-image}
 
 -- an element of a list
 record HasElement {A : Type 0} (xs : List A) (v : ℕ) : Type 0 where
@@ -136,7 +137,7 @@ module _ {D O U A : Type 0} (views : Views D O U) (size : D → ℕ) (handles : 
   fate-of w = views.fate w.disk
 
   module _ (ended : IsEnded told-of size-of views.took handles g r) (report : IsReportOf told-of size-of views.took handles g r ended l) (accounts : AreAccounted told-of faults-in fate-of views.telling terms g ended.made r) (refusals : AreRefused views.refused views.calls terms ended.made r)
-      (few : terms.most ≤ 1000) (legal : HistoryIsLegal) (apart : ApartRecovers told-of size-of) (synced : UpHasSynced told-of size-of faults-in) where
+      (images : HaveImages told-of r) (few : terms.most ≤ 1000) (legal : HistoryIsLegal) (apart : ApartRecovers told-of size-of) (synced : UpHasSynced told-of size-of faults-in) where
     abbrev running : IsRunning told-of size-of views.took handles g ended.made r
     running = ended.running
 
@@ -232,6 +233,14 @@ module _ {D O U A : Type 0} (views : Views D O U) (size : D → ℕ) (handles : 
             let watched = up-recovers told-of size-of g v running.nodes running.emissions l.turns s.node.stage running.stands.accord played up apart disks has in
             record { state = watched.state; recovers = watched.recovers; is = watched.is }
 
+        -- its image, where it was never restarted
+        image : restarts_of v l.restarts ≡ [] → HoldsHeapAt views.told g v (play g (steps_of l.turns)) disks.image.disk
+        image none =
+            let there : v < length r.stations.items = subst (λ (n : ℕ). v < n) (sym running.stands.width) made-low in
+            let is-its = subst (λ (x : Station D O U). x.lines.items ≡ [] → HasItsImage told-of x) is (images v s there) (sym restarts-are ∙ none) in
+            let watched = up-image told-of size-of g v running.nodes running.emissions l.turns s.node.stage running.stands.accord played up apart disks has is-its.patched is-its.rests in
+            record { rests = watched.rests; reads = watched.reads }
+
         keeps-node : (kept : Option (Disks D × O × U)) → kept ≡ Some (unwatched disks, s.luck, s.out) → KeepsNode views g terms v (steps_of l.turns) l.emissions l.restarts kept
         keeps-node kept is-kept = record {
           disks = unwatched disks;
@@ -239,6 +248,7 @@ module _ {D O U A : Type 0} (views : Views D O U) (size : D → ℕ) (handles : 
           out = s.out;
           is = is-kept;
           recovers = recovers;
+          image = image;
           synced = subst (λ (n : ℕ). HasSynced told-of faults-in n disks) (played.place v).turns (synced g v (running.nodes v) s.node.stage disks up books.books.synced has);
           took = subst (λ (os : List Out). IfSome (views.took s.out) (λ told. told ≡ os)) (sym outs-are) (subst (λ (x : Station D O U). IfSome (views.took x.out) (λ told. told ≡ emitted_by v running.emissions)) is (running.stands.each v s made-low).emitted.took_it);
           often = s.restarts;

@@ -1,6 +1,9 @@
 -- A node that is up is recovered at its place of the network.
-use Rattle.std.proofs.Common.{arith, ◌≡◌, ◌≢◌, ◌∙◌, ℕ, ◌<◌, ◌≤◌, List, length, drop, slice_index, Option, Some, sym, ap, subst}
-use Rattle.ken_disk.specs.Story.{Story}
+use Rattle.std.proofs.Common.{arith, ◌≡◌, ◌≢◌, ◌∙◌, ◌*◌, ℕ, ◌<◌, ◌≤◌, List, [], ◌++◌, length, drop, take, slice_index, Option, Some, refl, sym, ap, subst}
+use Rattle.std.proofs.lemmas.List.{append_cancel_left, append-nil}
+use Rattle.ken_cover.specs.Sides.{ImagePages, pages_of}
+use Rattle.ken_cover.specs.Overlay.{overlay}
+use Rattle.ken_disk.specs.Story.{Story, IsAtRest, Tells}
 use Rattle.ken_model.specs.declared.reports.Emission.{Emission}
 use Rattle.ken_model.specs.declared.reports.TurnLine.{TurnLine}
 use Rattle.ken_model.specs.Game.{Game}
@@ -11,27 +14,38 @@ use Rattle.ken_model.specs.Reading.{read_value}
 use Rattle.ken_model.specs.Schedule.{play}
 use Rattle.ken_core.specs.Accord.{Accord}
 use Rattle.ken_core.specs.Laws.{IsPlayedBy}
-use Rattle.ken_core.specs.Nodes.{Node}
+use Rattle.ken_core.specs.Nodes.{Node, heap_pages}
 use Rattle.ken_core.specs.Turns.{consumed_from, sealed}
 use Rattle.ken_core.proofs.Numbers.{consumed-sealed, length-outputs_from}
 use Rattle.ken_store.specs.declared.disks.Disks.{Disks}
 use Rattle.ken_store.specs.declared.owner.Owner.{Owner}
-use Rattle.ken_store.specs.Apart.{ApartRecovers, disks_apart}
+use Rattle.ken_store.specs.Ahead.{ahead_layers}
+use Rattle.ken_store.specs.Answers.{disks_from}
+use Rattle.ken_store.specs.Apart.{ApartRecovers, disks_apart, hand_all}
+use Rattle.ken_store.specs.declared.disks.Which.{Which}
+use Rattle.ken_store.specs.declared.disks.Which.TheVariants.{First, Second}
 use Rattle.ken_store.specs.Recovered.{Whole}
 use Rattle.ken_store.specs.Standing.{RecoversTo}
 use Rattle.ken_store.specs.Turning.{state_in, turn_pages}
 use Rattle.ken_node.specs.declared.stage.Stage.{Stage}
 use Rattle.ken_node.specs.Created.{owner_of}
 use Rattle.ken_node.specs.Patches.{waits_of}
-use Rattle.ken_node.specs.Stages.{HasDisks}
+use Rattle.ken_node.specs.declared.items.Frozen.{Frozen}
+use Rattle.ken_node.specs.Stages.{HasDisks, image_told}
 use Rattle.ken_node.specs.Up.{IsUp}
 use Rattle.ken_node.proofs.GoesDown.{owner-is}
 use Rattle.ken_flow.specs.Groups.{group_of}
-use Rattle.ken_drive.specs.Recovering.{IsStateAt, KeepsWaiting, RecoversAt}
+use Rattle.ken_drive.specs.Patched.{IsPatched}
+use Rattle.ken_drive.specs.Recovering.{HoldsHeapAt, IsStateAt, KeepsWaiting, RecoversAt}
 
 -- what a node has consumed is counted by its turns as it keeps them
 taken-of : (u v : ℕ) (n : Node) (ts : List Turn) → n.turning.turns ≡ sealed v ts → consumed_from u n.turning.turns ≡ length (consumed u ts)
 taken-of u v n ts are = ap (consumed_from u) are ∙ consumed-sealed u v ts
+
+-- where the disks of a store have its image
+image-from : {D : Type 0} (which : Which) (current image other : D) → (disks_from which current image other).image ≡ image
+image-from First current image other = refl
+image-from Second current image other = refl
 
 module _ {D : Type 0} (told : D → Option Story) (size : D → ℕ) (g : Game) (v : ℕ) (nodes : ℕ → Node) (emissions : List Emission) (lines : List TurnLine) (stage : Stage D)
     (accord : Accord g (group_of g nodes emissions)) (played : IsPlayedBy g (group_of g nodes emissions) lines) (up : IsUp told size g v (nodes v) stage)
@@ -88,3 +102,42 @@ module _ {D : Type 0} (told : D → Option Story) (size : D → ℕ) (g : Game) 
         recovers = subst (λ (ds : Disks D). RecoversTo told (owner_of g v) ds (Whole (state_in up.handler.side) (w.place v).value)) (sym are) (subst (λ (o : Owner). RecoversTo told o (disks_apart up.handler.side up.patcher.side) (Whole (state_in up.handler.side) (w.place v).value)) owner recovers);
         is = is-state;
       }
+
+  -- nothing is on its way to the patcher
+  no-queue : up.whole.pages.queue ≡ []
+  no-queue =
+      let pages = up.whole.pages in
+      append_cancel_left _ pages.queue [] (sym pages.ring ∙ sym up.empty.pages.all ∙ sym (append-nil _))
+
+  -- where no page waits, the image has the heap's bytes
+  module _ (patched : up.patcher.side.ahead.items ≡ []) where
+    image-is : up.whole.pages.image.image ≡ (turn_pages up.handler.side).heap
+    image-is =
+        let pages = up.whole.pages in
+        let none : pages.image.ahead ≡ [] = sym pages.apart.patches.ahead ∙ ap ahead_layers patched in
+        let goal : overlay (hand_all (waits_of pages.queue) pages.image).image (pages_of (hand_all (waits_of pages.queue) pages.image).ahead) ≡ (turn_pages up.handler.side).heap = pages.apart.covers.goal refl in
+        let now : overlay pages.image.image (pages_of pages.image.ahead) ≡ (turn_pages up.handler.side).heap =
+        subst (λ (q : List Frozen). overlay (hand_all (waits_of q) pages.image).image (pages_of (hand_all (waits_of q) pages.image).ahead) ≡ (turn_pages up.handler.side).heap) no-queue goal in
+        subst (λ a. overlay pages.image.image (pages_of a) ≡ (turn_pages up.handler.side).heap) none now
+
+    count-is : up.patcher.side.image.pages ≡ heap_pages g
+    count-is =
+        let pages = up.whole.pages in
+        let owner = owner-is told size g v n up.handler up.patcher up.sender up.whole.workers pages.turning in
+        pages.apart.count ∙ ap (λ (o : Owner). o.pages) owner
+
+    heap-read : (h : Story) → told up.patcher.side.image.disk ≡ Some h → read_value (take (256 * heap_pages g) h.now.seen) ≡ Some (w.place v).value
+    heap-read h is =
+        let holds = up.whole.pages.apart.patches.holds h is in
+        ap (λ (pages : ℕ). read_value (take (256 * pages) h.now.seen)) (sym count-is)
+        ∙ ap read_value (holds.seen ∙ image-is)
+        ∙ reads
+
+  -- the image of a node whose pages are all in it
+  pub up-image : (disks : Disks D) → HasDisks disks stage → IsPatched stage → Tells (image_told told stage) (λ h. IsAtRest h.now) → HoldsHeapAt told g v w disks.image
+  up-image disks has patched rests =
+      let are : disks ≡ disks_apart up.handler.side up.patcher.side = subst (λ (s : Stage D). HasDisks disks s) up.stage_is has in
+      let image : disks.image ≡ up.patcher.side.image.disk = ap (λ (ds : Disks D). ds.image) are ∙ image-from up.handler.side.which up.handler.side.log.disk up.patcher.side.image.disk up.handler.side.other in
+      let none : up.patcher.side.ahead.items ≡ [] = subst IsPatched up.stage_is patched in
+      let still : Tells (told up.patcher.side.image.disk) (λ h. IsAtRest h.now) = subst (λ (s : Stage D). Tells (image_told told s) (λ h. IsAtRest h.now)) up.stage_is rests in
+      subst (HoldsHeapAt told g v w) (sym image) (record { rests = still; reads = heap-read none })

@@ -27,7 +27,8 @@ use Rattle.ken_drive.specs.declared.station.Station.{Station}
 use Rattle.ken_drive.specs.Accounts.{AreAccounted, AreOwnDisks, HasBooks, IsUsedUp, Terms, faults_of}
 use Rattle.ken_drive.specs.Ended.{IsEnded, IsReportOf, IsRunOf}
 use Rattle.ken_drive.specs.Finishing.{WasKept}
-use Rattle.ken_drive.specs.Recovering.{RecoversAt}
+use Rattle.ken_drive.specs.Patched.{HaveImages}
+use Rattle.ken_drive.specs.Recovering.{HoldsHeapAt, RecoversAt}
 use Rattle.ken_drive.specs.Refusals.{AreRefused, IsWornOut}
 use Rattle.ken_drive.specs.Sequences.{IsSubsequence, NeverFall, descents}
 use Rattle.ken_drive.specs.Starting.{game_by, terms_of}
@@ -82,14 +83,15 @@ pub record AreOwnDevices {D O U : Type 0} (views : Views D O U) (terms : Terms) 
   pub outlet : MayFailAt terms.scripted v (terms.fails v) (views.calls out)
 
 -- what is kept of node v after a run with this schedule, these emissions and restarts: whatever a crash leaves of its disks recovers to its
--- place in the abstract network; its outlet took what it emitted; what its turns drew is among what its oracle answered, in order; and its
--- logs were synced for each turn
+-- place in the abstract network, and where it was never restarted its image alone is its heap; its outlet took what it emitted; what its turns
+-- drew is among what its oracle answered, in order; and its logs were synced for each turn
 pub record KeepsNode {D O U : Type 0} (views : Views D O U) (g : Game) (terms : Terms) (v : ℕ) (schedule : List Step) (emissions : List Emission) (restarts : List RestartLine) (kept : Option (Disks D × O × U)) : Type 0 where
   pub disks : Disks D
   pub luck : O
   pub out : U
   pub is : kept ≡ Some (disks, luck, out)
   pub recovers : RecoversAt views.told g v (play g schedule) disks
+  pub image : restarts_of v restarts ≡ [] → HoldsHeapAt views.told g v (play g schedule) disks.image
   pub synced : HasSynced views.told views.faults ((play g schedule).place v).turns disks
   pub took : IfSome (views.took out) (λ told. told ≡ emitted_by v emissions)
   pub often : ℕ
@@ -176,6 +178,7 @@ EndedRunsKeep {D} {O} {U} {A} views size handles =
     → IsReportOf (λ w. views.told w.disk) (λ w. size w.disk) views.took handles g r ended l
     → AreAccounted (λ w. views.told w.disk) (λ w. views.faults w.disk) (λ w. views.fate w.disk) views.telling terms g ended.made r
     → AreRefused views.refused views.calls terms ended.made r
+    → HaveImages (λ w. views.told w.disk) r
     → terms.most ≤ 1000
     → (kept : ℕ → Option (Disks D × O × U)) → ((v : ℕ) (d : Station D O U) → v < length r.stations.items → WasKept (slice_index_or r.stations.items v d) (kept v)) → ((v : ℕ) → length r.stations.items ≤ v → kept v ≡ None)
     → KeepsRun views g terms (steps_of l.turns) l.emissions l.restarts kept

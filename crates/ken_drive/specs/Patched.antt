@@ -1,6 +1,6 @@
 -- What the calls of a visit make of a node's station and of its image: its pages are written there and synced, or it is restarted.
 use Rattle.std.specs.Prelude.{◌≡◌, ◌≢◌, ◌⊎◌, ℕ, ◌<◌, ◌≤◌, [], length, slice_index_or, Option, Result, Ok, Err, OnOk}
-use Rattle.ken_disk.specs.Story.{Story, Follows, IsAtRest}
+use Rattle.ken_disk.specs.Story.{Story, Follows, IsAtRest, Tells}
 use Rattle.ken_model.specs.Network.{outside}
 use Rattle.ken_order.specs.Consumed.{consumed_from}
 use Rattle.ken_ship.specs.declared.faults.NodeFault.{NodeFault}
@@ -90,6 +90,15 @@ module _ {D O U : Type 0} (told : Watched D → Option Story) where
   pub record IsSettledSince (old new : Station D O U) : Type 0 where
     pub patched : IsPatched new.node.stage
     pub synced : Follows (λ (a b : Story). IsAtRest b.now × (a.now.syncs < b.now.syncs)) (image_told told old.node.stage) (image_told told new.node.stage)
+
+  -- all its pages are in its image, and nothing is pending there
+  pub record HasItsImage (s : Station D O U) : Type 0 where
+    pub patched : IsPatched s.node.stage
+    pub rests : Tells (image_told told s.node.stage) (λ h. IsAtRest h.now)
+
+  -- so it is of each node that was never restarted
+  abbrev pub HaveImages : {A : Type 0} → Run D O U A → Type 0
+  HaveImages r = (v : ℕ) (d : Station D O U) → v < length r.stations.items → (slice_index_or r.stations.items v d).lines.items ≡ [] → HasItsImage (slice_index_or r.stations.items v d)
 
   -- it was visited: it was restarted, or did all that there was to do
   abbrev pub WasVisited : Station D O U → Station D O U → Type 0

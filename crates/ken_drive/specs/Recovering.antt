@@ -1,16 +1,17 @@
 -- What the disks of a node recover to: its place in the abstract network.
-use Rattle.std.specs.Prelude.{◌≡◌, ℕ, ◌<◌, ◌≤◌, List, length, drop, slice_index, Option}
-use Rattle.ken_disk.specs.Story.{Story}
+use Rattle.std.specs.Prelude.{◌≡◌, ℕ, ◌*◌, ◌<◌, ◌≤◌, List, length, drop, take, slice_index, Option, Some}
+use Rattle.ken_disk.specs.Story.{Story, IsAtRest, Tells}
 use Rattle.ken_model.specs.declared.reports.Emission.{Emission}
 use Rattle.ken_model.specs.declared.reports.TurnLine.{TurnLine}
 use Rattle.ken_model.specs.declared.states.State.{State}
 use Rattle.ken_model.specs.Game.{Game}
 use Rattle.ken_model.specs.Laws.{steps_of}
 use Rattle.ken_model.specs.Network.{Network, outputs_from}
+use Rattle.ken_model.specs.Reading.{read_value}
 use Rattle.ken_model.specs.Schedule.{play}
 use Rattle.ken_core.specs.Accord.{Accord}
 use Rattle.ken_core.specs.Laws.{IsPlayedBy}
-use Rattle.ken_core.specs.Nodes.{Node}
+use Rattle.ken_core.specs.Nodes.{Node, heap_pages}
 use Rattle.ken_order.specs.Consumed.{IsSender, place}
 use Rattle.ken_outbox.specs.Waiting.{sent_to}
 use Rattle.ken_store.specs.declared.disks.Disks.{Disks}
@@ -44,6 +45,11 @@ pub record RecoversAt {D : Type 0} (told : D → Option Story) (g : Game) (v : �
   pub state : State
   pub recovers : RecoversTo told (owner_of g v) disks (Whole state (w.place v).value)
   pub is : IsStateAt g v w state
+
+-- the image alone is the node's heap in a network: nothing is pending there, and what a read gives stands for its value
+pub record HoldsHeapAt {D : Type 0} (told : D → Option Story) (g : Game) (v : ℕ) (w : Network) (image : D) : Type 0 where
+  pub rests : Tells (told image) (λ h. IsAtRest h.now)
+  pub reads : Tells (told image) (λ h. read_value (take (256 * heap_pages g) h.now.seen) ≡ Some (w.place v).value)
 
 -- so it is of the disks of a node that is up, in the network that a history of its group in accord plays
 abbrev pub UpRecovers : {D : Type 0} → (D → Option Story) → (D → ℕ) → Type 0

@@ -1,8 +1,9 @@
 // A whole run.
-ghost use Rattle.std.specs.Prelude.{◌≡◌, ◌<◌, ◌≤◌, true, IfErr};
+ghost use Rattle.std.specs.Prelude.{◌≡◌, ◌<◌, ◌≤◌, true, IfErr, OnOk};
 ghost use Rattle.ken_model.specs.Kinds.{handler_of};
 ghost use Rattle.ken_script.specs.Within.{KeepsRules};
 ghost use Rattle.ken_drive.specs.Driven.{DrivesBy};
+ghost use Rattle.ken_drive.specs.Patched.{HaveImages};
 ghost use Rattle.ken_drive.specs.Sparing.{IsLetBy};
 ghost use Rattle.ken_drive.specs.Starting.{Serves};
 ghost use Rattle.ken_drive.specs.Worlds.{HasKeptNothing};
@@ -27,16 +28,18 @@ impl<D: Disk, O: Oracle, U: Outlet, A: App> Run<D, O, U, A> {
     /// Drains the run, and answers what it says then. The errors are those of `drain` and `lines`.
     fn told(&mut self) -> Result<Lines, RunFault>
         requires { Drains D.Disk U.Outlet A.App self.old }
-        ensures { TellsRun D.Disk O.Oracle U.Outlet A.App self.old result self.new }
+        ensures tells { TellsRun D.Disk O.Oracle U.Outlet A.App self.old result self.new }
+        ensures images { OnOk result (HaveImages ⟦<Watched<D> as Disk>⟧.told self.new) }
     {
         self.drain()?;
         Ok(self.lines()?)
     }
 }
 
-/// Runs a script with an application over the devices of a world, and answers the lines of its report. The script's kind isn't looked at.
-/// The disks, the oracle and the outlet of each node are given to `World::keep` then. `Down`: that node's disks failed once more than it may be restarted, or its outlet refused one output 65
-/// times in a row; the devices of each node that was made are given back too. After `Memory` nothing is kept.
+/// Runs a script with an application over the devices of a world, and answers the lines of its report. The script's kind isn't
+/// looked at. The disks, the oracle and the outlet of each node are given to `World::keep` then. `Down`: that node's disks failed once
+/// more than it may be restarted, or its outlet refused one output 65 times in a row; the devices of each node that was made are
+/// given back too. After `Memory` nothing is kept.
 pub fn drive<W: World, A: App + Drop>(
     alloc: Global,
     app: A,
