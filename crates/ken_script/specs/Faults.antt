@@ -77,14 +77,22 @@ abbrev pub fault_in : Data → Option (ℕ × ℕ)
 fault_in d = first_of (rules_of d)
 
 -- a text breaks rule 1 if it is no object that is short enough, and else the first rule that the object breaks
-pub data Breaks (b : List ℕ) : ℕ → ℕ → Type 0 where
-  no_object : ((d : Data) → IsObject b d → ⊥) → Breaks b 1 0
-  in_object : (d : Data) (rule index : ℕ) → IsObject b d → fault_in d ≡ Some (rule, index) → Breaks b rule index
+pub data BreaksBy (fault : Data → Option (ℕ × ℕ)) (b : List ℕ) : ℕ → ℕ → Type 0 where
+  no_object : ((d : Data) → IsObject b d → ⊥) → BreaksBy fault b 1 0
+  in_object : (d : Data) (rule index : ℕ) → IsObject b d → fault d ≡ Some (rule, index) → BreaksBy fault b rule index
+
+abbrev pub Breaks : List ℕ → ℕ → ℕ → Type 0
+Breaks = BreaksBy fault_in
 
 -- a fault is right about a text: the rule that it names is the one that the text breaks, and there
 abbrev pub IsFaultOf : List ℕ → ScriptFault → Type 0
 IsFaultOf b (Rule rule index) = Breaks b rule index
 IsFaultOf b Memory = ⊤
+
+-- the text is no object that is short enough
+abbrev pub IsNoObject : List ℕ → ScriptFault → Type 0
+IsNoObject b (Rule rule index) = (rule ≡ 1) × (index ≡ 0) × ((d : Data) → IsObject b d → ⊥)
+IsNoObject b Memory = ⊤
 
 -- the same of an object
 abbrev pub IsFaultIn : Data → ScriptFault → Type 0

@@ -6,4 +6,5 @@ pub mod Lists
 pub mod Mishaps
 pub mod Object
 pub mod Says
+pub mod Service
 pub mod Within

@@ -25,7 +25,10 @@ pub record States (d : Data) (s : Script) : Type 0 where
   pub outlets : out_fails_in d ≡ Some s.outlets
 
 -- the text is an object that states the script
-pub record Says (b : List ℕ) (s : Script) : Type 0 where
+pub record SaysBy (reading : Data → Script → Type 0) (b : List ℕ) (s : Script) : Type 0 where
   pub members : Data
   pub object : IsObject b members
-  pub states : States members s
+  pub states : reading members s
+
+abbrev pub Says : List ℕ → Script → Type 0
+Says = SaysBy States

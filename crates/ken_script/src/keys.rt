@@ -8,7 +8,8 @@ use crate::scripts::{DEFAULT_PAGES, DEFAULT_RESTARTS, DEFAULT_SEED, DEFAULT_TURN
 use ken_model::{Kind, MAX_NODES, MAX_PAGES, MAX_TURNS};
 use serde_json::Value;
 
-fn is_key(name: &str) -> bool
+/// Whether a script may have a key.
+pub(crate) fn is_key(name: &str) -> bool
     ensures { result ≡ is_key name.now }
 {
     matches!(

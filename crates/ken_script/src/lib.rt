@@ -10,11 +10,13 @@ mod mishaps;
 mod numbers;
 mod reading;
 mod scripts;
+mod service;
 
 pub use faults::ScriptFault;
 pub use laws::refusals_are_exact;
-pub use reading::{read, read_value};
+pub use reading::read;
 pub use scripts::{
     DEFAULT_PAGES, DEFAULT_RESTARTS, DEFAULT_SEED, DEFAULT_TURNS, DISKS, DiskCut, LIMIT, MAX_ACTS,
     MAX_COUNT, MAX_CUTS, MAX_HOLD, MAX_OUT_FAILS, MAX_RESTARTS, OutFail, Script,
 };
+pub use service::read_service;

@@ -1,7 +1,7 @@
 ghost use Rattle.std.specs.Prelude.{IfOk, IfErr};
 ghost use Rattle.serde_json.specs.View.{view};
 ghost use Rattle.ken_script.specs.Object.{IsObject};
-ghost use Rattle.ken_script.specs.Faults.{IsFaultOf, IsFaultIn};
+ghost use Rattle.ken_script.specs.Faults.{IsFaultOf, IsFaultIn, IsNoObject};
 ghost use Rattle.ken_script.specs.Says.{States, Says};
 ghost use Rattle.ken_script.specs.Within.{KeepsRules};
 
@@ -20,9 +20,9 @@ use serde_json::Value;
 use std::alloc::Global;
 
 /// The object that the text is.
-fn object_in(alloc: Global, bytes: &[u8]) -> Result<Value, ScriptFault>
+pub(crate) fn object_in(alloc: Global, bytes: &[u8]) -> Result<Value, ScriptFault>
     ensures ok { IfOk result (λ value. IsObject bytes.now (view value)) }
-    ensures err { IfErr result (IsFaultOf bytes.now) }
+    ensures err { IfErr result (IsNoObject bytes.now) }
 {
     if bytes.len() > LIMIT {
         return Err(ScriptFault::at(OBJECT, 0));
@@ -91,9 +91,8 @@ fn script_in(alloc: Global, object: &Value) -> Result<Script, ScriptFault>
     })
 }
 
-/// Reads the script that a JSON value states, as `read` does a text. A value that breaks a rule is refused by the first rule that
-/// it breaks, with the least place at which it does; one that is no object has no nodes.
-pub fn read_value(alloc: Global, object: &Value) -> Result<Script, ScriptFault>
+/// What a value states, which keeps the rules.
+pub(crate) fn read_value(alloc: Global, object: &Value) -> Result<Script, ScriptFault>
     ensures states { IfOk result (States (view object.now)) }
     ensures breaks { IfErr result (IsFaultIn (view object.now)) }
     ensures keeps { IfOk result KeepsRules }

@@ -1,4 +1,3 @@
 mod Reported
 mod Complete
 mod Texts
-pub mod Served

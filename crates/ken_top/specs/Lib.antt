@@ -1,3 +1,3 @@
+pub mod Programs
 pub mod Headline
 pub mod Statuses
-pub mod Service

@@ -1,12 +1,13 @@
 // A service of one's own.
-ghost use Rattle.std.specs.Prelude.{◌≡◌, ℕ, IfOk, IfErr};
-ghost use Rattle.serde_json.specs.View.{members_view, view};
+ghost use Rattle.std.specs.Prelude.{◌≡◌, ◌≢◌, ◌+◌, ◌≤◌, ℕ, true, IfOk, IfErr, IsErrOf};
+ghost use Rattle.ken_io.specs.Causes.{Rose};
+ghost use Rattle.ken_io.specs.Transfers.{TakesAtMost};
 ghost use Rattle.ken_app.specs.Limits.{KeepsLimits};
 ghost use Rattle.ken_app.specs.Lines.{KeepsLines};
-ghost use Rattle.ken_script.specs.Within.{KeepsRules};
 ghost use Rattle.ken_drive.specs.Clauses.{views_of};
 ghost use Rattle.ken_drive.specs.Worlds.{HasKeptNothing};
-ghost use Rattle.ken_top.specs.Service.{HasServed, IsServiceRefusal, IsServiceRun, IsMembersOf, SaysService, kind_among};
+ghost use Rattle.ken_top.specs.Headline.{Ran, HasCauses, IsQuiet, IsComplete, IsLet, IsRunOfSource, IsRefusal};
+ghost use Rattle.ken_top.specs.Programs.{service};
 
 use crate::status::Status;
 use crate::top::written;
@@ -14,52 +15,40 @@ use ken_app::App;
 use ken_drive::{World, drive};
 use ken_io::{Sink, Source, read_all};
 use ken_model::Lines;
-use ken_script::{LIMIT, Script, ScriptFault, read_value};
-use serde_json::{Map, Value};
-use std::alloc::{AllocError, Global};
+use ken_script::{LIMIT, read_service};
+use std::alloc::Global;
 
-/// The members of the object that the text is.
-fn members_in(alloc: Global, bytes: &[u8]) -> Result<Map<String, Value>, ScriptFault>
-    ensures { IfOk result (λ members. IsMembersOf bytes.now (members_view members.entries)) }
+/// Runs a service of one's own as `ken` runs the kinds, and promises the same of it: reads a script of the keys of `ken run` but
+/// `kind`, runs it with the application over the world's devices, and writes the report. The handler keeps the limits of a turn,
+/// and outputs no line feed.
+///
+/// Each status comes as it does from `ken`, but for `Usage`, which never comes; a `kind` is refused as a key that isn't known.
+pub fn serve<A: App + Drop, S: Source, K: Sink, W: World>(
+    alloc: Global,
+    app: A,
+    source: &mut S,
+    sink: &mut K,
+    world: &mut W,
+) -> Status
+    requires limits { (nodes size : ℕ) → KeepsLimits nodes size (A.handler app) }
+    requires lines { (nodes size : ℕ) → KeepsLines nodes size (A.handler app) }
+    requires none { HasKeptNothing (W.kept world.old) }
+    ensures runs { Ran (service (A.handler app)) (views_of W.Dev.Disk W.Luck.Oracle W.Out.Outlet W.scripted)
+        (W.kept world.new) (S.left source.old) (K.took sink.old) (K.took sink.new) result }
+    ensures down { W.scripted ≡ true → IsLet (service (A.handler app)) (S.left source.old) result }
+    ensures complete { W.scripted ≡ true
+        → (Rose (S.faults source.old) (S.faults source.new) → ⊥)
+        → (Rose (K.faults sink.old) (K.faults sink.new) → ⊥)
+        → IsComplete (service (A.handler app)) (S.left source.old) result }
+    ensures causes { HasCauses (S.faults source.old) (S.faults source.new) (K.faults sink.old) (K.faults sink.new) result }
+    ensures taken { TakesAtMost (LIMIT + 1) (S.left source.old) (S.left source.new) }
+    ensures unwritten { IsQuiet result → sink.new ≡ sink.old }
+    ensures plain { result ≢ Status.Usage }
 {
-    let no_object = ScriptFault::Rule { rule: 1, index: 0 };
-    if bytes.len() > LIMIT {
-        return Err(no_object);
+    match run(alloc, app, source, world) {
+        Ok(lines) => written(alloc, sink, &lines),
+        Err(status) => status,
     }
-    let value = match Value::from_slice(alloc, bytes) {
-        Ok(value) => value,
-        Err(e) if e.is_memory() => return Err(ScriptFault::Memory),
-        Err(_e) => return Err(no_object),
-    };
-    match value {
-        Value::Object(members) => Ok(members),
-        _other => Err(no_object),
-    }
-}
-
-/// The object with these members and a kind, which nobody asks for.
-fn with_kind(alloc: Global, mut members: Map<String, Value>) -> Result<Value, AllocError>
-    ensures { IfOk result (λ object. view object ≡ kind_among (members_view members.entries)) }
-{
-    let kind = Value::String(String::from_str(alloc, "ring")?);
-    members.insert(String::from_str(alloc, "kind")?, kind)?;
-    Ok(Value::Object(members))
-}
-
-/// The script that the text says which has no kind. A kind is refused as any key that isn't known.
-fn script_in(alloc: Global, bytes: &[u8]) -> Result<Script, ScriptFault>
-    ensures says { IfOk result (SaysService bytes.now) }
-    ensures keeps { IfOk result KeepsRules }
-{
-    let members = members_in(alloc, bytes)?;
-    if let Some(place) = members.keys().position(|key| key.as_str() == "kind") {
-        return Err(ScriptFault::Rule {
-            rule: 2,
-            index: place as u64,
-        });
-    }
-    let object = with_kind(alloc, members)?;
-    read_value(alloc, &object)
 }
 
 /// Reads a service's script and runs it.
@@ -72,35 +61,18 @@ fn run<A: App + Drop, S: Source, W: World>(
     requires limits { (nodes size : ℕ) → KeepsLimits nodes size (A.handler app) }
     requires lines { (nodes size : ℕ) → KeepsLines nodes size (A.handler app) }
     requires none { HasKeptNothing (W.kept world.old) }
-    ensures ran { IfOk result (IsServiceRun (views_of W.Dev.Disk W.Luck.Oracle W.Out.Outlet W.scripted)
-        (A.handler app) (W.kept world.new) (S.left source.old)) }
-    ensures refused { IfErr result (IsServiceRefusal (views_of W.Dev.Disk W.Luck.Oracle W.Out.Outlet W.scripted)
-        (A.handler app) (W.kept world.new) (S.left source.old)) }
+    ensures ran { IfOk result (IsRunOfSource (service (A.handler app)) (views_of W.Dev.Disk W.Luck.Oracle W.Out.Outlet W.scripted)
+        (W.kept world.new) (S.left source.old)) }
+    ensures refused { IfErr result (IsRefusal (service (A.handler app)) (views_of W.Dev.Disk W.Luck.Oracle W.Out.Outlet W.scripted)
+        (W.kept world.new) (S.left source.old)) }
+    ensures lets { W.scripted ≡ true → IfErr result (IsLet (service (A.handler app)) (S.left source.old)) }
+    ensures read { IsErrOf result Status.Read → Rose (S.faults source.old) (S.faults source.new) }
+    ensures no_failed_read { (IsErrOf result Status.Read → ⊥) → S.faults source.new ≡ S.faults source.old }
+    ensures taken { TakesAtMost (LIMIT + 1) (S.left source.old) (S.left source.new) }
+    ensures faults { S.faults source.old ≤ S.faults source.new }
 {
     let bytes = read_all(alloc, source, LIMIT)?;
-    let script = script_in(alloc, bytes.as_slice())?;
+    let script = read_service(alloc, bytes.as_slice())?;
     let lines = drive(alloc, app, &script, world)?;
     Ok(lines)
-}
-
-/// Runs a service, whose handler keeps the limits of a turn, and sends and outputs no line feed: reads a script of the keys of `ken run` but `kind`, runs it with the application over the world's devices, and
-/// writes the report. The rules of a script are refused as `ken` does, a kind as a key that isn't known. `Usage` and `Damaged` never
-/// come. The world keeps the devices of a run that has ended, or of which a node is down, before anything is written.
-pub fn serve<A: App + Drop, S: Source, K: Sink, W: World>(
-    alloc: Global,
-    app: A,
-    source: &mut S,
-    sink: &mut K,
-    world: &mut W,
-) -> Status
-    requires limits { (nodes size : ℕ) → KeepsLimits nodes size (A.handler app) }
-    requires lines { (nodes size : ℕ) → KeepsLines nodes size (A.handler app) }
-    requires none { HasKeptNothing (W.kept world.old) }
-    ensures { HasServed (views_of W.Dev.Disk W.Luck.Oracle W.Out.Outlet W.scripted)
-        (A.handler app) (W.kept world.new) (S.left source.old) (K.took sink.old) (K.took sink.new) result }
-{
-    match run(alloc, app, source, world) {
-        Ok(lines) => written(alloc, sink, &lines),
-        Err(status) => status,
-    }
 }

@@ -4,7 +4,8 @@ ghost use Rattle.ken_io.specs.Causes.{Rose};
 ghost use Rattle.ken_io.specs.Transfers.{TakesAtMost};
 ghost use Rattle.ken_drive.specs.Clauses.{views_of};
 ghost use Rattle.ken_drive.specs.Worlds.{HasKeptNothing};
-ghost use Rattle.ken_top.specs.Headline.{are_plain, Ran, IsQuiet, IsComplete, IsLet, IsRunOfSource, IsRefusal, IsOut};
+ghost use Rattle.ken_top.specs.Headline.{are_plain, Ran, HasCauses, IsQuiet, IsComplete, IsLet, IsRunOfSource, IsRefusal, IsOut};
+ghost use Rattle.ken_top.specs.Programs.{kinds};
 
 use crate::status::Status;
 use ken_drive::{World, drive_kind};
@@ -29,21 +30,16 @@ pub fn ken<R, S: Source, K: Sink, W: World>(
 ) -> Status
     requires { HasKeptNothing (W.kept world.old) }
     ensures usage { (result ≡ Status.Usage) ↔ (are_plain (map string_bytes words.now) ≡ false) }
-    ensures runs { Ran (views_of W.Dev.Disk W.Luck.Oracle W.Out.Outlet W.scripted)
+    ensures runs { Ran kinds (views_of W.Dev.Disk W.Luck.Oracle W.Out.Outlet W.scripted)
         (W.kept world.new) (S.left source.old) (K.took sink.old) (K.took sink.new) result }
-    ensures down { W.scripted ≡ true → IsLet (S.left source.old) result }
+    ensures down { W.scripted ≡ true → IsLet kinds (S.left source.old) result }
     ensures complete { are_plain (map string_bytes words.now) ≡ true
         → W.scripted ≡ true
         → (Rose (S.faults source.old) (S.faults source.new) → ⊥)
         → (Rose (K.faults sink.old) (K.faults sink.new) → ⊥)
-        → IsComplete (S.left source.old) result }
-    ensures read { result ≡ Status.Read → Rose (S.faults source.old) (S.faults source.new) }
-    ensures write { result ≡ Status.Write → Rose (K.faults sink.old) (K.faults sink.new) }
+        → IsComplete kinds (S.left source.old) result }
+    ensures causes { HasCauses (S.faults source.old) (S.faults source.new) (K.faults sink.old) (K.faults sink.new) result }
     ensures taken { TakesAtMost (LIMIT + 1) (S.left source.old) (S.left source.new) }
-    ensures source_faults { S.faults source.old ≤ S.faults source.new }
-    ensures sink_faults { K.faults sink.old ≤ K.faults sink.new }
-    ensures no_failed_read { result ≢ Status.Read → S.faults source.new ≡ S.faults source.old }
-    ensures no_failed_write { result ≢ Status.Write → K.faults sink.new ≡ K.faults sink.old }
     ensures unread { result ≡ Status.Usage → source.new ≡ source.old }
     ensures unwritten { IsQuiet result → sink.new ≡ sink.old }
 {
@@ -69,11 +65,11 @@ fn is_plain(words: &[String]) -> bool
 /// Reads a script and runs it.
 fn run<S: Source, W: World>(alloc: Global, source: &mut S, world: &mut W) -> Result<Lines, Status>
     requires { HasKeptNothing (W.kept world.old) }
-    ensures ran { IfOk result (IsRunOfSource (views_of W.Dev.Disk W.Luck.Oracle W.Out.Outlet W.scripted)
+    ensures ran { IfOk result (IsRunOfSource kinds (views_of W.Dev.Disk W.Luck.Oracle W.Out.Outlet W.scripted)
         (W.kept world.new) (S.left source.old)) }
-    ensures refused { IfErr result (IsRefusal (views_of W.Dev.Disk W.Luck.Oracle W.Out.Outlet W.scripted)
+    ensures refused { IfErr result (IsRefusal kinds (views_of W.Dev.Disk W.Luck.Oracle W.Out.Outlet W.scripted)
         (W.kept world.new) (S.left source.old)) }
-    ensures lets { W.scripted ≡ true → IfErr result (IsLet (S.left source.old)) }
+    ensures lets { W.scripted ≡ true → IfErr result (IsLet kinds (S.left source.old)) }
     ensures read { IsErrOf result Status.Read → Rose (S.faults source.old) (S.faults source.new) }
     ensures no_failed_read { (IsErrOf result Status.Read → ⊥) → S.faults source.new ≡ S.faults source.old }
     ensures taken { TakesAtMost (LIMIT + 1) (S.left source.old) (S.left source.new) }

@@ -1,17 +1,8 @@
-use Rattle.ken_script.proofs.Told.{breaks_by_its_front, says_by_its_front, says_or_breaks, breaks_once, says_once}
+use Rattle.ken_script.proofs.Told.{kinds_language, service_language}
 use Rattle.ken_script.proofs.laws.refusals_are_exact.Goals as goal
 
-pub returns-clause-breaks_by_front : goal.returns-clause-breaks_by_front
-returns-clause-breaks_by_front c = breaks_by_its_front
+pub returns-clause-kinds : goal.returns-clause-kinds
+returns-clause-kinds c = kinds_language
 
-pub returns-clause-says_by_front : goal.returns-clause-says_by_front
-returns-clause-says_by_front c = says_by_its_front
-
-pub returns-clause-breaks_once : goal.returns-clause-breaks_once
-returns-clause-breaks_once c = breaks_once
-
-pub returns-clause-says_or_breaks : goal.returns-clause-says_or_breaks
-returns-clause-says_or_breaks c = says_or_breaks
-
-pub returns-clause-says_once : goal.returns-clause-says_once
-returns-clause-says_once c = says_once
+pub returns-clause-services : goal.returns-clause-services
+returns-clause-services c = service_language
