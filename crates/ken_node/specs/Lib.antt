@@ -27,3 +27,4 @@ pub mod NodeCalls
 pub mod NodeTurns
 pub mod DownLaws
 pub mod Remaining
+pub mod Clauses

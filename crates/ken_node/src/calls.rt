@@ -1,11 +1,12 @@
 // A call of a node's handler.
-ghost use Rattle.std.specs.Prelude.{◌≡◌, ◌*◌, ◌<◌, ◌⊎◌, ℕ, List, IfOk};
-ghost use Rattle.ken_app.specs.Oracles.{Answers, HasAnswered};
+ghost use Rattle.std.specs.Prelude.{◌≡◌, ◌*◌, ◌<◌, ◌⊎◌, IfOk};
+ghost use Rattle.ken_app.specs.Oracles.{HasAnswered};
 ghost use Rattle.ken_links.specs.Rings.{free};
 ghost use Rattle.ken_node.specs.Calls.{TakesTurn};
 ghost use Rattle.ken_node.specs.Capped.{IsCapped};
 ghost use Rattle.ken_node.specs.declared.worker.TurnWorker.{TurnWorker};
 ghost use Rattle.ken_app.specs.Limits.{KeepsLimits};
+ghost use Rattle.ken_node.specs.TurnLaws.{Drew};
 ghost use Rattle.ken_node.specs.Workers.{HearsNews, IsSameWorker, Working};
 
 use crate::faults::answered;
@@ -37,7 +38,10 @@ impl<D: Disk> TurnWorker<D> {
         requires end { (N.node net.old ≡ self.old.node) × (N.nodes net.old ≡ self.old.nodes) }
         requires slots { (0 < free self.old.pages) × (0 < free self.old.sealed) }
         ensures same { IsSameWorker self.old self.new }
-        ensures takes { (mid : TurnWorker D) × HearsNews self.old mid × TakesTurn D.told D.size D.faults D.fate (A.handler app.now) (λ draws. Answers (O.telling.clocks oracle.old) (O.telling.clocks oracle.new) ((A.handler app.now).clocks draws) × Answers (O.telling.words oracle.old) (O.telling.words oracle.new) ((A.handler app.now).words draws)) result mid self.new (N.given_between net.old net.new) (N.put_between net.old net.new) (N.nones net.old) (N.nones net.new) }
+        ensures takes { (mid : TurnWorker D) × HearsNews self.old mid
+            × TakesTurn D.told D.size D.faults D.fate (A.handler app.now)
+            (Drew O.telling.clocks O.telling.words (A.handler app.now) oracle.old oracle.new) result mid self.new
+            (N.given_between net.old net.new) (N.put_between net.old net.new) (N.nones net.old) (N.nones net.new) }
         ensures end { (N.node net.new ≡ N.node net.old) × (N.nodes net.new ≡ N.nodes net.old) }
         ensures clocks_go_on { HasAnswered (O.telling.clocks oracle.old) (O.telling.clocks oracle.new) }
         ensures words_go_on { HasAnswered (O.telling.words oracle.old) (O.telling.words oracle.new) }
@@ -64,7 +68,9 @@ impl<D: Disk> TurnWorker<D> {
         requires end { (N.node net.old ≡ self.old.node) × (N.nodes net.old ≡ self.old.nodes) }
         requires slots { (0 < free self.old.pages) × (0 < free self.old.sealed) }
         ensures same { IsSameWorker self.old self.new }
-        ensures takes { TakesTurn D.told D.size D.faults D.fate (A.handler app.now) (λ draws. Answers (O.telling.clocks oracle.old) (O.telling.clocks oracle.new) ((A.handler app.now).clocks draws) × Answers (O.telling.words oracle.old) (O.telling.words oracle.new) ((A.handler app.now).words draws)) result self.old self.new (N.given_between net.old net.new) (N.put_between net.old net.new) (N.nones net.old) (N.nones net.new) }
+        ensures takes { TakesTurn D.told D.size D.faults D.fate (A.handler app.now)
+            (Drew O.telling.clocks O.telling.words (A.handler app.now) oracle.old oracle.new) result self.old self.new
+            (N.given_between net.old net.new) (N.put_between net.old net.new) (N.nones net.old) (N.nones net.new) }
         ensures end { (N.node net.new ≡ N.node net.old) × (N.nodes net.new ≡ N.nodes net.old) }
         ensures clocks_go_on { HasAnswered (O.telling.clocks oracle.old) (O.telling.clocks oracle.new) }
         ensures words_go_on { HasAnswered (O.telling.words oracle.old) (O.telling.words oracle.new) }

@@ -41,7 +41,9 @@ impl<D: Disk> TurnWorker<D> {
         requires known { AllByRecursion (λ s. s.to < 8) made.sends.items }
         requires sends { (w : ℕ) → slice_index self.now.side.numbers.sent w + length made.sends.items < 2 ^ 64 }
         requires outs { self.now.side.numbers.outputs + length made.outs.items < 2 ^ 64 }
-        ensures kept { (v : ℕ) (value : Value) → IfOk result (λ e. e ≡ effects_in v self.now.side.numbers message.now made.draws.items (record { value = value; sends = made.sends.items; outs = made.outs.items })) }
+        ensures kept { (v : ℕ) (value : Value) → IfOk result (λ e. e
+            ≡ effects_in v self.now.side.numbers message.now made.draws.items
+            (record { value = value; sends = made.sends.items; outs = made.outs.items })) }
         ensures draws { IfOk result (λ e. AtMost 16 IsWord e.draws) }
     {
         let stamp = self.order.stamp().max(message.stamp) + 1;

@@ -29,6 +29,7 @@ impl<D: Disk> Node<D> {
     ghost use Rattle.ken_node.specs.Created.{IsCreation};
     ghost use Rattle.ken_node.specs.Down.{AreTold};
     ghost use Rattle.ken_node.specs.Faults.{IsFaultOfWorker};
+    ghost use Rattle.ken_node.specs.Clauses.{ComesUp, KeepsSynced, RestartsDisks, StaysDown};
     ghost use Rattle.ken_node.specs.Stages.{HasDisks, HasValue, IsCreated, IsUncreated, MayBeCreated, emissions_in, turns_in};
     ghost use Rattle.ken_node.specs.Synced.{IsSynced};
 
@@ -137,17 +138,11 @@ impl<D: Disk> Node<D> {
 }
 
 impl<D: Disk> Node<Watched<D>> {
-    ghost use Rattle.std.specs.Prelude.{◌≡◌, ◌≤◌, ℕ, List, IfOk, OnErr};
-    ghost use Rattle.ken_model.specs.Game.{Game};
-    ghost use Rattle.ken_core.specs.Calls.{Doubt};
-    ghost use Rattle.ken_core.specs.Nodes.{Node as Stood};
-    ghost use Rattle.ken_core.specs.Packets.{Packet};
-    ghost use Rattle.ken_store.specs.declared.disks.Disks.{Disks as Has};
-    ghost use Rattle.ken_node.specs.Down.{IsDown, MayRestart};
+    ghost use Rattle.std.specs.Prelude.{◌≡◌, ◌≤◌};
+    ghost use Rattle.ken_node.specs.Clauses.{ComesUp, KeepsSynced, RestartsDisks, StaysDown};
+    ghost use Rattle.ken_node.specs.Down.{MayRestart};
     ghost use Rattle.ken_node.specs.Faults.{IsFaultOfWorker};
-    ghost use Rattle.ken_node.specs.Restarts.{IsUpAgain, RestartsBy, pick_of};
-    ghost use Rattle.ken_node.specs.Stages.{HasDisks, emissions_in, refusals_in};
-    ghost use Rattle.ken_node.specs.Synced.{IsSynced};
+    ghost use Rattle.ken_node.specs.Stages.{emissions_in, refusals_in};
 
     /// Restarts the node: its workers meet, all its disks are restarted, and the node goes on with what they hold then. It
     /// answers how many turns it made. The pick for the disks is what the lowest of them proposes that has failed since it was last
@@ -155,13 +150,14 @@ impl<D: Disk> Node<Watched<D>> {
     /// kept. The errors are `Disk` and `Memory`: the node may be restarted again then, and no other call may follow.
     pub fn restart(&mut self) -> Result<u64, NodeFault>
         requires { MayRestart ⟦<Watched<D> as Disk>⟧.told self.old.stage }
-        ensures up { (g : Game) (v : ℕ) (given : List Packet) (n : Stood) (doubt : Doubt) → IsDown ⟦<Watched<D> as Disk>⟧.told g v given n doubt self.old.stage → IfOk result (λ turns. IsUpAgain ⟦<Watched<D> as Disk>⟧.told ⟦<Watched<D> as Disk>⟧.size g v given n doubt turns self.new.stage) }
-        ensures down { (g : Game) (v : ℕ) (given : List Packet) (n : Stood) (doubt : Doubt) → IsDown ⟦<Watched<D> as Disk>⟧.told g v given n doubt self.old.stage → OnErr result (IsDown ⟦<Watched<D> as Disk>⟧.told g v given n doubt self.new.stage) }
-        ensures synced { (g : Game) (v : ℕ) (given : List Packet) (n : Stood) (doubt : Doubt) → IsDown ⟦<Watched<D> as Disk>⟧.told g v given n doubt self.old.stage → IsSynced ⟦<Watched<D> as Disk>⟧.told ⟦<Watched<D> as Disk>⟧.faults g v self.old.stage → IsSynced ⟦<Watched<D> as Disk>⟧.told ⟦<Watched<D> as Disk>⟧.faults g v self.new.stage }
+        ensures up { ComesUp ⟦<Watched<D> as Disk>⟧.told ⟦<Watched<D> as Disk>⟧.size self.old.stage result self.new.stage }
+        ensures down { StaysDown ⟦<Watched<D> as Disk>⟧.told self.old.stage result self.new.stage }
+        ensures synced { KeepsSynced ⟦<Watched<D> as Disk>⟧.told ⟦<Watched<D> as Disk>⟧.faults self.old.stage self.new.stage }
         ensures sound { IsFaultOfWorker result }
         ensures emissions { emissions_in self.new.stage ≡ emissions_in self.old.stage }
         ensures refusals { refusals_in self.new.stage ≤ refusals_in self.old.stage }
-        ensures disks { (old new : Has (Watched D)) → HasDisks old self.old.stage → HasDisks new self.new.stage → RestartsBy ⟦<Watched<D> as Disk>⟧.told ⟦<Watched<D> as Disk>⟧.faults ⟦<Watched<D> as Disk>⟧.fate (pick_of ⟦<Watched<D> as Disk>⟧.hinted old) result old new }
+        ensures disks { RestartsDisks ⟦<Watched<D> as Disk>⟧.told ⟦<Watched<D> as Disk>⟧.faults ⟦<Watched<D> as Disk>⟧.fate ⟦<Watched<D> as Disk>⟧.hinted
+            self.old.stage result self.new.stage }
     {
         let (stage, result) = mem::replace(&mut self.stage, Stage::Moved).restarted();
         match mem::replace(&mut self.stage, stage) {

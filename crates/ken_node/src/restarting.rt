@@ -9,6 +9,7 @@ ghost use Rattle.ken_core.specs.Packets.{Packet};
 ghost use Rattle.ken_store.specs.declared.disks.Disks.{Disks as Has};
 ghost use Rattle.ken_store.specs.Answers.{AreAtRest, disks_in};
 ghost use Rattle.ken_store.specs.Apart.{disks_apart};
+ghost use Rattle.ken_node.specs.Clauses.{ComesUp, KeepsDisksSynced, KeepsSynced, RestartsDisks, StaysDown};
 ghost use Rattle.ken_ship.specs.Fits.{IsMailFrom};
 ghost use Rattle.ken_ship.specs.Parts.{part_of};
 ghost use Rattle.ken_node.specs.Down.{AreReady, AreTold, IsDown, IsOfNode, MayRestart};
@@ -16,9 +17,9 @@ ghost use Rattle.ken_node.specs.Faults.{IsFaultOfWorker};
 ghost use Rattle.ken_node.specs.Meeting.{AreJoined};
 ghost use Rattle.ken_node.specs.News.{AreInputs};
 ghost use Rattle.ken_node.specs.Restarting.{GoesOn, HaveCounts, IsCreatedAnew, IsPutBack, LeaveLess, RecoversBy, none_made, stage_of};
-ghost use Rattle.ken_node.specs.Restarts.{IsUpAgain, RestartsBy, WereRestarted, pick_of};
+ghost use Rattle.ken_node.specs.Restarts.{RestartsBy, WereRestarted, pick_of};
 ghost use Rattle.ken_node.specs.Stages.{HasDisks, IsUncreated, MayBeCreated, emissions_in, refusals_in, turns_in};
-ghost use Rattle.ken_node.specs.Synced.{IsSynced, KeepSyncs, LeavesSynced};
+ghost use Rattle.ken_node.specs.Synced.{IsSynced, KeepSyncs};
 ghost use Rattle.ken_node.specs.Whole.{AreOfRun};
 
 use crate::faults::answered;
@@ -55,14 +56,15 @@ impl<D: Disk> Stage<Watched<D>> {
     // Restarts the node. After an error it isn't created, or is as it was, and may be restarted again.
     pub(crate) fn restarted(self) -> (Stage<Watched<D>>, Result<u64, NodeFault>)
         requires { MayRestart ⟦<Watched<D> as Disk>⟧.told self }
-        ensures up { (g : Game) (v : ℕ) (given : List Packet) (n : Stood) (doubt : Doubt) → IsDown ⟦<Watched<D> as Disk>⟧.told g v given n doubt self → IfOk result.1 (λ turns. IsUpAgain ⟦<Watched<D> as Disk>⟧.told ⟦<Watched<D> as Disk>⟧.size g v given n doubt turns result.0) }
-        ensures down { (g : Game) (v : ℕ) (given : List Packet) (n : Stood) (doubt : Doubt) → IsDown ⟦<Watched<D> as Disk>⟧.told g v given n doubt self → OnErr result.1 (IsDown ⟦<Watched<D> as Disk>⟧.told g v given n doubt result.0) }
-        ensures synced { (g : Game) (v : ℕ) (given : List Packet) (n : Stood) (doubt : Doubt) → IsDown ⟦<Watched<D> as Disk>⟧.told g v given n doubt self → IsSynced ⟦<Watched<D> as Disk>⟧.told ⟦<Watched<D> as Disk>⟧.faults g v self → IsSynced ⟦<Watched<D> as Disk>⟧.told ⟦<Watched<D> as Disk>⟧.faults g v result.0 }
+        ensures up { ComesUp ⟦<Watched<D> as Disk>⟧.told ⟦<Watched<D> as Disk>⟧.size self result.1 result.0 }
+        ensures down { StaysDown ⟦<Watched<D> as Disk>⟧.told self result.1 result.0 }
+        ensures synced { KeepsSynced ⟦<Watched<D> as Disk>⟧.told ⟦<Watched<D> as Disk>⟧.faults self result.0 }
         ensures here { result.0 ≡ Stage.Moved → ⊥ }
         ensures sound { IsFaultOfWorker result.1 }
         ensures emissions { emissions_in result.0 ≡ emissions_in self }
         ensures refusals { refusals_in result.0 ≤ refusals_in self }
-        ensures disks { (old new : Has (Watched D)) → HasDisks old self → HasDisks new result.0 → RestartsBy ⟦<Watched<D> as Disk>⟧.told ⟦<Watched<D> as Disk>⟧.faults ⟦<Watched<D> as Disk>⟧.fate (pick_of ⟦<Watched<D> as Disk>⟧.hinted old) result.1 old new }
+        ensures disks { RestartsDisks ⟦<Watched<D> as Disk>⟧.told ⟦<Watched<D> as Disk>⟧.faults ⟦<Watched<D> as Disk>⟧.fate ⟦<Watched<D> as Disk>⟧.hinted
+            self result.1 result.0 }
     {
         match self.taken_apart() {
             Ok((disks, parts)) => {
@@ -130,9 +132,9 @@ fn up_again<D: Disk>(
     pick: u64,
 ) -> (Stage<D>, Result<u64, NodeFault>)
     requires { MayRestart D.told (Stage.Uncreated disks parts) }
-    ensures up { (g : Game) (v : ℕ) (given : List Packet) (n : Stood) (doubt : Doubt) → IsDown D.told g v given n doubt (Stage.Uncreated disks parts) → IfOk result.1 (λ turns. IsUpAgain D.told D.size g v given n doubt turns result.0) }
-    ensures down { (g : Game) (v : ℕ) (given : List Packet) (n : Stood) (doubt : Doubt) → IsDown D.told g v given n doubt (Stage.Uncreated disks parts) → OnErr result.1 (IsDown D.told g v given n doubt result.0) }
-    ensures synced { (g : Game) (v : ℕ) (given : List Packet) (n : Stood) (doubt : Doubt) → IsDown D.told g v given n doubt (Stage.Uncreated disks parts) → LeavesSynced D.told D.faults g v disks → IsSynced D.told D.faults g v result.0 }
+    ensures up { ComesUp D.told D.size (Stage.Uncreated disks parts) result.1 result.0 }
+    ensures down { StaysDown D.told (Stage.Uncreated disks parts) result.1 result.0 }
+    ensures synced { KeepsDisksSynced D.told D.faults (Stage.Uncreated disks parts) disks result.0 }
     ensures here { result.0 ≡ Stage.Moved → ⊥ }
     ensures sound { IsFaultOfWorker result.1 }
     ensures emissions { emissions_in result.0 ≡ (part_of parts.sends).emissions }
@@ -149,9 +151,9 @@ fn up_again<D: Disk>(
 fn recovered<D: Disk>(disks: Disks<D>, parts: Parts) -> (Stage<D>, Result<u64, NodeFault>)
     requires rests { AreAtRest D.told disks }
     requires down { MayRestart D.told (Stage.Uncreated disks parts) }
-    ensures up { (g : Game) (v : ℕ) (given : List Packet) (n : Stood) (doubt : Doubt) → IsDown D.told g v given n doubt (Stage.Uncreated disks parts) → IfOk result.1 (λ turns. IsUpAgain D.told D.size g v given n doubt turns result.0) }
-    ensures down { (g : Game) (v : ℕ) (given : List Packet) (n : Stood) (doubt : Doubt) → IsDown D.told g v given n doubt (Stage.Uncreated disks parts) → OnErr result.1 (IsDown D.told g v given n doubt result.0) }
-    ensures synced { (g : Game) (v : ℕ) (given : List Packet) (n : Stood) (doubt : Doubt) → IsDown D.told g v given n doubt (Stage.Uncreated disks parts) → LeavesSynced D.told D.faults g v disks → IsSynced D.told D.faults g v result.0 }
+    ensures up { ComesUp D.told D.size (Stage.Uncreated disks parts) result.1 result.0 }
+    ensures down { StaysDown D.told (Stage.Uncreated disks parts) result.1 result.0 }
+    ensures synced { KeepsDisksSynced D.told D.faults (Stage.Uncreated disks parts) disks result.0 }
     ensures here { result.0 ≡ Stage.Moved → ⊥ }
     ensures sound { IsFaultOfWorker result.1 }
     ensures emissions { emissions_in result.0 ≡ (part_of parts.sends).emissions }

@@ -1,6 +1,6 @@
 // A message is run: its turn is made, sealed and acknowledged.
 ghost use Rattle.std.specs.Prelude.{◌≡◌, ◌*◌, ◌+◌, ◌^◌, ◌<◌, ◌∷◌, ◌++◌, max, slice_set, vec_len, vec_capacity, OnOk, [], IfOk, IfSome};
-ghost use Rattle.ken_app.specs.Oracles.{Answers, HasAnswered};
+ghost use Rattle.ken_app.specs.Oracles.{HasAnswered};
 ghost use Rattle.ken_links.specs.Rings.{free};
 ghost use Rattle.ken_order.specs.Consumed.{IsSender, consumed_from, place};
 ghost use Rattle.ken_ship.specs.Fits.{AreSent};
@@ -10,6 +10,7 @@ ghost use Rattle.ken_store.specs.declared.turning.TurnSide.{TurnSide};
 ghost use Rattle.ken_node.specs.Calls.{IsQuiet, Runs, Seals, TakesMessage};
 ghost use Rattle.ken_node.specs.Making.{IsHanded, IsMade, IsMessage, MayTakeMore};
 ghost use Rattle.ken_app.specs.Limits.{KeepsLimits};
+ghost use Rattle.ken_node.specs.TurnLaws.{Drew};
 ghost use Rattle.ken_node.specs.Workers.{IsSameWorker, Working};
 
 use crate::effects::handed;
@@ -49,7 +50,10 @@ impl<D: Disk> TurnWorker<D> {
         requires may { MaySeal self.old.side effects }
         requires message { IsMessage self.old.node self.old.order message.now }
         requires slots { (0 < free self.old.pages) × (0 < free self.old.sealed) }
-        ensures seals { (h : Handler) (before : TurnSide D) → Working D.told D.size h (record self.old { side = before }) → IsMade h message.now effects before self.old.side → Seals D.told D.size D.faults D.fate h result message.now effects before self.old self.new }
+        ensures seals { (h : Handler) (before : TurnSide D)
+            → Working D.told D.size h (record self.old { side = before })
+            → IsMade h message.now effects before self.old.side
+            → Seals D.told D.size D.faults D.fate h result message.now effects before self.old self.new }
         ensures same { IsSameWorker self.old self.new }
     {
         let Ok(handed) = self.make_room(&effects) else {
@@ -82,7 +86,11 @@ impl<D: Disk> TurnWorker<D> {
         requires next { effects.number ≡ consumed_from self.old.order effects.from + 1 }
         requires early { (self.old.order.stamp + 1 < 2 ^ 64) × (stamp + 1 < 2 ^ 64) }
         ensures turns { self.new.turns.items ≡ self.old.turns.items ++ effects ∷ [] }
-        ensures order { self.new.order ≡ record { nodes = self.old.order.nodes; stamp = max self.old.order.stamp stamp + 1; consumed = slice_set self.old.order.consumed (place effects.from) effects.number } }
+        ensures order { self.new.order ≡ record {
+          nodes = self.old.order.nodes;
+          stamp = max self.old.order.stamp stamp + 1;
+          consumed = slice_set self.old.order.consumed (place effects.from) effects.number;
+        } }
         ensures rest { self.new ≡ record self.old { turns = self.new.turns; order = self.new.order } }
     {
         self.order.consume(effects.from, effects.number);
@@ -104,7 +112,9 @@ impl<D: Disk> TurnWorker<D> {
         requires message { IsMessage self.old.node self.old.order message.now }
         requires end { (N.node net.old ≡ self.old.node) × (N.nodes net.old ≡ self.old.nodes) }
         requires slots { (0 < free self.old.pages) × (0 < free self.old.sealed) }
-        ensures runs { Runs D.told D.size D.faults D.fate (A.handler app.now) (λ draws. Answers (O.telling.clocks oracle.old) (O.telling.clocks oracle.new) ((A.handler app.now).clocks draws) × Answers (O.telling.words oracle.old) (O.telling.words oracle.new) ((A.handler app.now).words draws)) result (N.put_between net.old net.new) message.now self.old self.new }
+        ensures runs { Runs D.told D.size D.faults D.fate (A.handler app.now)
+            (Drew O.telling.clocks O.telling.words (A.handler app.now) oracle.old oracle.new)
+            result (N.put_between net.old net.new) message.now self.old self.new }
         ensures took { IfOk result (λ took. took ≡ Took.Turn) }
         ensures same { IsSameWorker self.old self.new }
         ensures given { N.given_between net.old net.new [] }

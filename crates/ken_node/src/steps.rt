@@ -11,21 +11,17 @@ use ken_ship::{Emit, NodeFault, Outlet};
 use std::alloc::AllocError;
 
 impl<D: Disk> Node<D> {
-    ghost use Rattle.std.specs.Prelude.{◌≡◌, ◌⊎◌, [], ℕ, List, IfOk, OnOk};
-    ghost use Rattle.ken_app.specs.Oracles.{Answers, HasAnswered};
-    ghost use Rattle.ken_model.specs.declared.messages.Out.{Out};
-    ghost use Rattle.ken_model.specs.Game.{Game};
-    ghost use Rattle.ken_core.specs.Nodes as core;
+    ghost use Rattle.std.specs.Prelude.{◌≡◌, ◌⊎◌, [], IfOk, OnOk};
+    ghost use Rattle.ken_app.specs.Oracles.{HasAnswered};
     ghost use Rattle.ken_store.specs.declared.disks.Disks.{Disks};
     ghost use Rattle.ken_ship.specs.Causes.{HasCause};
     ghost use Rattle.ken_ship.specs.Emitting.{outlet_answer};
     ghost use Rattle.ken_ship.specs.Fates.{Follows, Suffers};
-    ghost use Rattle.ken_ship.specs.Outlets.{also_took};
-    ghost use Rattle.ken_node.specs.NodeCalls.{DisksFailBy, EmitStepsBy, HearSteps, PatchStepsBy, SendSteps, SettleStepsBy, UnlessMemory};
-    ghost use Rattle.ken_node.specs.NodeTurns.{TurnStepsBy};
+    ghost use Rattle.ken_node.specs.Clauses.{EmitsAs, FailsDisks, HearsAs, PatchesAs, SendsAs, SettlesAs, StaysSynced, SyncsTurn, TurnsAs};
+    ghost use Rattle.ken_node.specs.NodeCalls.{UnlessMemory};
     ghost use Rattle.ken_node.specs.Stages.{HasDisks, emissions_in, image_told, refusals_in};
-    ghost use Rattle.ken_node.specs.Synced.{HasMadeSync, IsSynced, KeepsSyncs};
-    ghost use Rattle.ken_node.specs.Up.{IsUp, MayBeCalled, MayBeCalledOn, MayTakeTurns};
+    ghost use Rattle.ken_node.specs.Synced.{HasMadeSync, KeepsSyncs};
+    ghost use Rattle.ken_node.specs.Up.{MayBeCalled, MayBeCalledOn, MayTakeTurns};
 
     /// Takes the next message, has the application make its turn, seals and acknowledges it. `Turn`: a turn was made, of the first
     /// next mail among the packets that were given, or, where none was one, of the next input. `Idle`: no packet that was given is
@@ -39,9 +35,10 @@ impl<D: Disk> Node<D> {
         oracle: &mut O,
     ) -> Result<Took, NodeFault>
         requires { MayTakeTurns D.told D.size (A.handler app.now) (N.node net.old) (N.nodes net.old) self.old.stage }
-        ensures steps { (g : Game) (v : ℕ) (n : core.Node) → (up : IsUp D.told D.size g v n self.old.stage) → A.handler app.now ≡ g.handler → TurnStepsBy D.told D.size g v n (N.given_between net.old net.new) (N.put_between net.old net.new) result (λ draws. Answers (O.telling.clocks oracle.old) (O.telling.clocks oracle.new) ((A.handler app.now).clocks draws) × Answers (O.telling.words oracle.old) (O.telling.words oracle.new) ((A.handler app.now).words draws)) (N.nones net.old) (N.nones net.new) up.handler self.new.stage }
-        ensures disks { (old new : Disks D) → HasDisks old self.old.stage → HasDisks new self.new.stage → DisksFailBy D.told D.faults D.fate result old new }
-        ensures synced { (g : Game) (v : ℕ) (n : core.Node) → IsUp D.told D.size g v n self.old.stage → A.handler app.now ≡ g.handler → IsSynced D.told D.faults g v self.old.stage → UnlessMemory result (IsSynced D.told D.faults g v self.new.stage) }
+        ensures steps { TurnsAs D.Disk N.Net O.Oracle (A.handler app.now)
+            self.old.stage net.old oracle.old result self.new.stage net.new oracle.new }
+        ensures disks { FailsDisks D.Disk self.old.stage result self.new.stage }
+        ensures synced { SyncsTurn D.Disk (A.handler app.now) self.old.stage result self.new.stage }
         ensures image { image_told D.told self.new.stage ≡ image_told D.told self.old.stage }
         ensures emissions { emissions_in self.new.stage ≡ emissions_in self.old.stage }
         ensures refusals { refusals_in self.new.stage ≡ refusals_in self.old.stage }
@@ -64,9 +61,9 @@ impl<D: Disk> Node<D> {
     /// `Memory`, after which it takes no more calls.
     pub fn patch(&mut self) -> Result<bool, NodeFault>
         requires { MayBeCalled D.told D.size self.old.stage }
-        ensures steps { (g : Game) (v : ℕ) (n : core.Node) → IsUp D.told D.size g v n self.old.stage → PatchStepsBy D.told D.size result g v n self.new.stage }
-        ensures disks { (old new : Disks D) → HasDisks old self.old.stage → HasDisks new self.new.stage → DisksFailBy D.told D.faults D.fate result old new }
-        ensures synced { (g : Game) (v : ℕ) → IsSynced D.told D.faults g v self.old.stage → IsSynced D.told D.faults g v self.new.stage }
+        ensures steps { PatchesAs D.Disk self.old.stage result self.new.stage }
+        ensures disks { FailsDisks D.Disk self.old.stage result self.new.stage }
+        ensures synced { StaysSynced D.Disk self.old.stage self.new.stage }
         ensures image { KeepsSyncs (image_told D.told self.old.stage) (image_told D.told self.new.stage) }
         ensures emissions { emissions_in self.new.stage ≡ emissions_in self.old.stage }
         ensures refusals { refusals_in self.new.stage ≡ refusals_in self.old.stage }
@@ -81,9 +78,9 @@ impl<D: Disk> Node<D> {
     /// `Disk`, after which the node must be restarted, and `Memory`, after which it takes no more calls.
     pub fn settle(&mut self) -> Result<(), NodeFault>
         requires { MayBeCalled D.told D.size self.old.stage }
-        ensures steps { (g : Game) (v : ℕ) (n : core.Node) → IsUp D.told D.size g v n self.old.stage → SettleStepsBy D.told D.size result g v n self.new.stage }
-        ensures disks { (old new : Disks D) → HasDisks old self.old.stage → HasDisks new self.new.stage → DisksFailBy D.told D.faults D.fate result old new }
-        ensures synced { (g : Game) (v : ℕ) → IsSynced D.told D.faults g v self.old.stage → IsSynced D.told D.faults g v self.new.stage }
+        ensures steps { SettlesAs D.Disk self.old.stage result self.new.stage }
+        ensures disks { FailsDisks D.Disk self.old.stage result self.new.stage }
+        ensures synced { StaysSynced D.Disk self.old.stage self.new.stage }
         ensures image { OnOk result (HasMadeSync (image_told D.told self.old.stage) (image_told D.told self.new.stage)) }
         ensures emissions { emissions_in self.new.stage ≡ emissions_in self.old.stage }
         ensures refusals { refusals_in self.new.stage ≡ refusals_in self.old.stage }
@@ -98,9 +95,9 @@ impl<D: Disk> Node<D> {
     /// memory, the node takes no more calls.
     pub fn send<N: Net>(&mut self, net: &mut N) -> Result<(), AllocError>
         requires { MayBeCalledOn D.told D.size (N.node net.old) (N.nodes net.old) self.old.stage }
-        ensures steps { (g : Game) (v : ℕ) (n : core.Node) → IsUp D.told D.size g v n self.old.stage → OnOk result (SendSteps D.told D.size g v n (N.put_between net.old net.new) self.new.stage) }
+        ensures steps { SendsAs D.Disk N.Net self.old.stage net.old result self.new.stage net.new }
         ensures disks { (old new : Disks D) → HasDisks old self.old.stage → HasDisks new self.new.stage → new ≡ old }
-        ensures synced { (g : Game) (v : ℕ) → IsSynced D.told D.faults g v self.old.stage → IsSynced D.told D.faults g v self.new.stage }
+        ensures synced { StaysSynced D.Disk self.old.stage self.new.stage }
         ensures emissions { emissions_in self.new.stage ≡ emissions_in self.old.stage }
         ensures refusals { refusals_in self.new.stage ≡ refusals_in self.old.stage }
         ensures end { (N.node net.new ≡ N.node net.old) × (N.nodes net.new ≡ N.nodes net.old) }
@@ -117,9 +114,9 @@ impl<D: Disk> Node<D> {
     /// error, which is want of memory, the node takes no more calls.
     pub fn hear<N: Net>(&mut self, net: &mut N) -> Result<(), AllocError>
         requires { MayBeCalledOn D.told D.size (N.node net.old) (N.nodes net.old) self.old.stage }
-        ensures steps { (g : Game) (v : ℕ) (n : core.Node) → IsUp D.told D.size g v n self.old.stage → OnOk result (HearSteps D.told D.size g v n (N.given_between net.old net.new) (N.nones net.old) (N.nones net.new) self.new.stage) }
+        ensures steps { HearsAs D.Disk N.Net self.old.stage net.old result self.new.stage net.new }
         ensures disks { (old new : Disks D) → HasDisks old self.old.stage → HasDisks new self.new.stage → new ≡ old }
-        ensures synced { (g : Game) (v : ℕ) → IsSynced D.told D.faults g v self.old.stage → IsSynced D.told D.faults g v self.new.stage }
+        ensures synced { StaysSynced D.Disk self.old.stage self.new.stage }
         ensures emissions { OnOk result (emissions_in self.new.stage ≡ emissions_in self.old.stage) }
         ensures refusals { OnOk result (refusals_in self.new.stage ≡ refusals_in self.old.stage) }
         ensures end { (N.node net.new ≡ N.node net.old) × (N.nodes net.new ≡ N.nodes net.old) }
@@ -136,9 +133,9 @@ impl<D: Disk> Node<D> {
     /// `Memory`, after which the node takes no more calls.
     pub fn emit<O: Outlet>(&mut self, out: &mut O) -> Result<Emit, NodeFault>
         requires { MayBeCalled D.told D.size self.old.stage }
-        ensures steps { (g : Game) (v : ℕ) (n : core.Node) → IsUp D.told D.size g v n self.old.stage → EmitStepsBy D.told D.size result g v n (λ (taken : List Out). O.took out.new ≡ also_took taken (O.took out.old)) self.old.stage self.new.stage }
+        ensures steps { EmitsAs D.Disk O.Outlet self.old.stage out.old result self.new.stage out.new }
         ensures disks { (old new : Disks D) → HasDisks old self.old.stage → HasDisks new self.new.stage → new ≡ old }
-        ensures synced { (g : Game) (v : ℕ) → IsSynced D.told D.faults g v self.old.stage → IsSynced D.told D.faults g v self.new.stage }
+        ensures synced { StaysSynced D.Disk self.old.stage self.new.stage }
         ensures cause { UnlessMemory result (HasCause (O.faults out.old) (O.faults out.new) (outlet_answer result)) }
         ensures fate { UnlessMemory result (Follows (Suffers (outlet_answer result)) (O.fate out.old) (O.fate out.new)) }
     {

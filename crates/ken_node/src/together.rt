@@ -1,20 +1,16 @@
 // Calls of a node's workers side by side: after each they meet.
-ghost use Rattle.std.specs.Prelude.{◌≡◌, ◌⊎◌, [], ℕ, List, IfOk, OnOk};
-ghost use Rattle.ken_app.specs.Oracles.{Answers, HasAnswered};
-ghost use Rattle.ken_model.specs.declared.messages.Out.{Out};
-ghost use Rattle.ken_model.specs.Game.{Game};
-ghost use Rattle.ken_core.specs.Nodes.{Node};
+ghost use Rattle.std.specs.Prelude.{◌≡◌, ◌⊎◌, [], IfOk, OnOk};
+ghost use Rattle.ken_app.specs.Oracles.{HasAnswered};
 ghost use Rattle.ken_store.specs.Apart.{disks_apart};
 ghost use Rattle.ken_ship.specs.Causes.{HasCause};
 ghost use Rattle.ken_ship.specs.Emitting.{outlet_answer};
 ghost use Rattle.ken_ship.specs.Fates.{Follows, Suffers};
-ghost use Rattle.ken_ship.specs.Outlets.{also_took};
 ghost use Rattle.ken_ship.specs.Parts.{part_of};
-ghost use Rattle.ken_node.specs.NodeCalls.{DisksFailBy, EmitStepsBy, HearSteps, PatchStepsBy, SendSteps, SettleStepsBy, UnlessMemory};
-ghost use Rattle.ken_node.specs.NodeTurns.{TurnStepsBy};
-ghost use Rattle.ken_node.specs.Synced.{HasMadeSync, KeepsSyncs, LeavesSynced};
+ghost use Rattle.ken_node.specs.Clauses.{EmitsAs, HearsAs, PatchesAs, SendsAs, SettlesAs, SyncsDisks, TurnsAs};
+ghost use Rattle.ken_node.specs.NodeCalls.{DisksFailBy, UnlessMemory};
+ghost use Rattle.ken_node.specs.Synced.{HasMadeSync, KeepsSyncs};
 ghost use Rattle.ken_node.specs.declared.stage.Stage.TheVariants.{Created};
-ghost use Rattle.ken_node.specs.Up.{IsUp, MayBeCalled, MayBeCalledOn, MayTakeTurns};
+ghost use Rattle.ken_node.specs.Up.{MayBeCalled, MayBeCalledOn, MayTakeTurns};
 
 use crate::meeting::meet;
 use crate::patcher::PatchWorker;
@@ -34,7 +30,7 @@ pub(crate) fn patch<D: Disk>(
 ) -> Result<bool, NodeFault>
     requires { MayBeCalled D.told D.size (Created turns.old patches.old sends.old) }
     ensures side { turns.new.side ≡ turns.old.side }
-    ensures steps { (g : Game) (v : ℕ) (n : Node) → IsUp D.told D.size g v n (Created turns.old patches.old sends.old) → PatchStepsBy D.told D.size result g v n (Created turns.new patches.new sends.new) }
+    ensures steps { PatchesAs D.Disk (Created turns.old patches.old sends.old) result (Created turns.new patches.new sends.new) }
     ensures disks { DisksFailBy D.told D.faults D.fate result (disks_apart turns.old.side patches.old.side) (disks_apart turns.new.side patches.new.side) }
     ensures image { KeepsSyncs (D.told patches.old.side.image.disk) (D.told patches.new.side.image.disk) }
     ensures emissions { (part_of sends.new).emissions ≡ (part_of sends.old).emissions }
@@ -53,7 +49,7 @@ pub(crate) fn settle<D: Disk>(
 ) -> Result<(), NodeFault>
     requires { MayBeCalled D.told D.size (Created turns.old patches.old sends.old) }
     ensures side { turns.new.side ≡ turns.old.side }
-    ensures steps { (g : Game) (v : ℕ) (n : Node) → IsUp D.told D.size g v n (Created turns.old patches.old sends.old) → SettleStepsBy D.told D.size result g v n (Created turns.new patches.new sends.new) }
+    ensures steps { SettlesAs D.Disk (Created turns.old patches.old sends.old) result (Created turns.new patches.new sends.new) }
     ensures disks { DisksFailBy D.told D.faults D.fate result (disks_apart turns.old.side patches.old.side) (disks_apart turns.new.side patches.new.side) }
     ensures image { OnOk result (HasMadeSync (D.told patches.old.side.image.disk) (D.told patches.new.side.image.disk)) }
     ensures emissions { (part_of sends.new).emissions ≡ (part_of sends.old).emissions }
@@ -72,7 +68,7 @@ pub(crate) fn send<D: Disk, N: Net>(
     net: &mut N,
 ) -> Result<(), AllocError>
     requires { MayBeCalledOn D.told D.size (N.node net.old) (N.nodes net.old) (Created turns.old patches.old sends.old) }
-    ensures steps { (g : Game) (v : ℕ) (n : Node) → IsUp D.told D.size g v n (Created turns.old patches.old sends.old) → OnOk result (SendSteps D.told D.size g v n (N.put_between net.old net.new) (Created turns.new patches.new sends.new)) }
+    ensures steps { SendsAs D.Disk N.Net (Created turns.old patches.old sends.old) net.old result (Created turns.new patches.new sends.new) net.new }
     ensures disks { disks_apart turns.new.side patches.new.side ≡ disks_apart turns.old.side patches.old.side }
     ensures emissions { (part_of sends.new).emissions ≡ (part_of sends.old).emissions }
     ensures refusals { (part_of sends.new).refusals ≡ (part_of sends.old).refusals }
@@ -93,7 +89,7 @@ pub(crate) fn hear<D: Disk, N: Net>(
     net: &mut N,
 ) -> Result<(), AllocError>
     requires { MayBeCalledOn D.told D.size (N.node net.old) (N.nodes net.old) (Created turns.old patches.old sends.old) }
-    ensures steps { (g : Game) (v : ℕ) (n : Node) → IsUp D.told D.size g v n (Created turns.old patches.old sends.old) → OnOk result (HearSteps D.told D.size g v n (N.given_between net.old net.new) (N.nones net.old) (N.nones net.new) (Created turns.new patches.new sends.new)) }
+    ensures steps { HearsAs D.Disk N.Net (Created turns.old patches.old sends.old) net.old result (Created turns.new patches.new sends.new) net.new }
     ensures disks { disks_apart turns.new.side patches.new.side ≡ disks_apart turns.old.side patches.old.side }
     ensures emissions { OnOk result ((part_of sends.new).emissions ≡ (part_of sends.old).emissions) }
     ensures refusals { OnOk result ((part_of sends.new).refusals ≡ (part_of sends.old).refusals) }
@@ -113,7 +109,7 @@ pub(crate) fn emit<D: Disk, O: Outlet>(
     out: &mut O,
 ) -> Result<Emit, NodeFault>
     requires { MayBeCalled D.told D.size (Created turns.old patches.old sends.old) }
-    ensures steps { (g : Game) (v : ℕ) (n : Node) → IsUp D.told D.size g v n (Created turns.old patches.old sends.old) → EmitStepsBy D.told D.size result g v n (λ (taken : List Out). O.took out.new ≡ also_took taken (O.took out.old)) (Created turns.old patches.old sends.old) (Created turns.new patches.new sends.new) }
+    ensures steps { EmitsAs D.Disk O.Outlet (Created turns.old patches.old sends.old) out.old result (Created turns.new patches.new sends.new) out.new }
     ensures disks { disks_apart turns.new.side patches.new.side ≡ disks_apart turns.old.side patches.old.side }
     ensures cause { UnlessMemory result (HasCause (O.faults out.old) (O.faults out.new) (outlet_answer result)) }
     ensures fate { UnlessMemory result (Follows (Suffers (outlet_answer result)) (O.fate out.old) (O.fate out.new)) }
@@ -133,9 +129,11 @@ pub(crate) fn turn<D: Disk, N: Net, A: App, O: Oracle>(
     oracle: &mut O,
 ) -> Result<Took, NodeFault>
     requires { MayTakeTurns D.told D.size (A.handler app.now) (N.node net.old) (N.nodes net.old) (Created turns.old patches.old sends.old) }
-    ensures steps { (g : Game) (v : ℕ) (n : Node) → (up : IsUp D.told D.size g v n (Created turns.old patches.old sends.old)) → A.handler app.now ≡ g.handler → TurnStepsBy D.told D.size g v n (N.given_between net.old net.new) (N.put_between net.old net.new) result (λ draws. Answers (O.telling.clocks oracle.old) (O.telling.clocks oracle.new) ((A.handler app.now).clocks draws) × Answers (O.telling.words oracle.old) (O.telling.words oracle.new) ((A.handler app.now).words draws)) (N.nones net.old) (N.nones net.new) up.handler (Created turns.new patches.new sends.new) }
+    ensures steps { TurnsAs D.Disk N.Net O.Oracle (A.handler app.now)
+        (Created turns.old patches.old sends.old) net.old oracle.old result (Created turns.new patches.new sends.new) net.new oracle.new }
     ensures disks { DisksFailBy D.told D.faults D.fate result (disks_apart turns.old.side patches.old.side) (disks_apart turns.new.side patches.new.side) }
-    ensures synced { (g : Game) (v : ℕ) (n : Node) → IsUp D.told D.size g v n (Created turns.old patches.old sends.old) → A.handler app.now ≡ g.handler → LeavesSynced D.told D.faults g v (disks_apart turns.old.side patches.old.side) → UnlessMemory result (LeavesSynced D.told D.faults g v (disks_apart turns.new.side patches.new.side)) }
+    ensures synced { SyncsDisks D.Disk (A.handler app.now) (Created turns.old patches.old sends.old)
+        (disks_apart turns.old.side patches.old.side) result (disks_apart turns.new.side patches.new.side) }
     ensures image { D.told patches.new.side.image.disk ≡ D.told patches.old.side.image.disk }
     ensures emissions { (part_of sends.new).emissions ≡ (part_of sends.old).emissions }
     ensures refusals { (part_of sends.new).refusals ≡ (part_of sends.old).refusals }
