@@ -52,7 +52,8 @@ impl Pages {
         changes: &mut Vec<Change>,
     ) -> Result<bool, AllocError>
         requires { 256 * page + 256 ≤ length self.now.heap }
-        ensures made { IfOk result (λ may. IsTrue may → (last : Option Change) → turn ≡ option_map (λ c. c.turn) last → changes.new.items ≡ changes.old.items ++ base_change settled self.now.heap page last) }
+        ensures made { IfOk result (λ may. IsTrue may → (last : Option Change) → turn ≡ option_map (λ c. c.turn) last
+            → changes.new.items ≡ changes.old.items ++ base_change settled self.now.heap page last) }
         ensures may { IfOk result (λ may. IsTrue may → MayStay settled page turn self.now) }
         ensures may_not { IfOk result (λ may. may ≡ false → MustStay settled page turn self.now) }
     {

@@ -1,5 +1,17 @@
 // What the definitions keep. Each law is the contract of a function that does nothing.
-ghost use Rattle.ken_core.specs.Laws.{StartIsInAccord, StepKeepsAccord, EventsKeepAccord, CallKeepsAccord, RunsKeepAccord, RunsApartKeepAccord, HistoryIsLegal, SealInDoubt, TurnoverInDoubt, RestartKeepsHeap, PutsAreHandedIn};
+ghost use Rattle.ken_core.specs.Laws.{
+  StartIsInAccord,
+  StepKeepsAccord,
+  EventsKeepAccord,
+  CallKeepsAccord,
+  RunsKeepAccord,
+  RunsApartKeepAccord,
+  HistoryIsLegal,
+  SealInDoubt,
+  TurnoverInDoubt,
+  RestartKeepsHeap,
+  PutsAreHandedIn,
+};
 
 /// The start is in accord.
 pub fn start_is_in_accord()

@@ -1,5 +1,17 @@
 // Each event keeps coverage. Each law is the contract of a function that does nothing.
-ghost use Rattle.ken_cover.specs.Laws.{StartIsCovered, SealKeepsCoverage, DownKeepsCoverage, PatchKeepsCoverage, SyncKeepsCoverage, TurnoverKeepsCoverage, CrashKeepsCoverage, ImagesRecover, RecoveryKeepsCoverage, ImagesAreLeft, CrashLeavesImage};
+ghost use Rattle.ken_cover.specs.Laws.{
+  StartIsCovered,
+  SealKeepsCoverage,
+  DownKeepsCoverage,
+  PatchKeepsCoverage,
+  SyncKeepsCoverage,
+  TurnoverKeepsCoverage,
+  CrashKeepsCoverage,
+  ImagesRecover,
+  RecoveryKeepsCoverage,
+  ImagesAreLeft,
+  CrashLeavesImage,
+};
 
 /// A node whose image holds its first heap is covered.
 pub fn start_is_covered()

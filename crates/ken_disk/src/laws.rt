@@ -36,7 +36,8 @@ pub fn synced_writes()
     ensures on { (result : Result (Unit {0}) DiskFault) (writes : List (ℕ × List ℕ)) (old new : Story) → Made result writes old new → WentOn old new }
     ensures never_fall { (result : Result (Unit {0}) DiskFault) (writes : List (ℕ × List ℕ)) (old new : Story) → Made result writes old new → old.now.syncs ≤ new.now.syncs }
     ensures counted { (writes : List (ℕ × List ℕ)) (old : Story) → (after_writes writes old).now.syncs ≡ old.now.syncs + length writes }
-    ensures fewer { (result : Result (Unit {0}) DiskFault) (writes : List (ℕ × List ℕ)) (old new : Story) → Made result writes old new → OnErr result (new.now.syncs < old.now.syncs + length writes) }
+    ensures fewer { (result : Result (Unit {0}) DiskFault) (writes : List (ℕ × List ℕ)) (old new : Story)
+        → Made result writes old new → OnErr result (new.now.syncs < old.now.syncs + length writes) }
     ensures rests { (write : ℕ × List ℕ) (writes : List (ℕ × List ℕ)) (old : Story) → IsAtRest (after_writes (write ∷ writes) old).now }
     ensures still { (writes : List (ℕ × List ℕ)) (old new : Story) → Made {T = Unit {0}} (Err Memory) writes old new → IsAtRest old.now → IsAtRest new.now }
 {}

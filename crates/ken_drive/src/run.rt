@@ -6,7 +6,29 @@ ghost use Rattle.ken_flow.specs.Standstill.{Emits, Heard, Passed, Posted, Rested
 ghost use Rattle.ken_drive.specs.Flowing.{work_left};
 ghost use Rattle.ken_drive.specs.Left.{left_at, outputs_left, pages_left, tries_at, turns_left};
 ghost use Rattle.ken_drive.specs.Patched.{AllVisited, Changes, HasPatched, HasSettled, IsCall, IsPatchedAt, IsSettledSince, KeepsImage, MakesNone, MaySync, TriesBy, WasRestarted, WasVisited};
-ghost use Rattle.ken_drive.specs.Clauses.{AccountsAgain, AccountsNode, AccountsRestarted, AccountsRun, AccountsVisited, GoesOn, LeavesAgain, LeavesNode, LeavesRestarted, LeavesRun, LeavesVisited, MovesNode, MovesRun, RefusesNode, RefusesRun, RefusesVisited, Restarts, StopsPass, StopsRestarted, StopsVisited, Works};
+ghost use Rattle.ken_drive.specs.Clauses.{
+  AccountsAgain,
+  AccountsNode,
+  AccountsRestarted,
+  AccountsRun,
+  AccountsVisited,
+  GoesOn,
+  LeavesAgain,
+  LeavesNode,
+  LeavesRestarted,
+  LeavesRun,
+  LeavesVisited,
+  MovesNode,
+  MovesRun,
+  RefusesNode,
+  RefusesRun,
+  RefusesVisited,
+  Restarts,
+  StopsPass,
+  StopsRestarted,
+  StopsVisited,
+  Works,
+};
 
 use crate::faults::RunFault;
 use crate::inboxes::InFlight;

@@ -7,7 +7,26 @@ ghost use Rattle.ken_ship.specs.Fates.{Follows, Suffers};
 ghost use Rattle.ken_node.specs.NodeCalls.{UnlessMemory};
 ghost use Rattle.ken_node.specs.Stages.{refusals_in};
 ghost use Rattle.ken_drive.specs.Ends.{WereGiven};
-ghost use Rattle.ken_drive.specs.StationClauses.{AccountsBack, ComesBack, EmitsAs, FailsDisks, HearsAs, IsRestartOf, KeepsDisks, KeepsEmissions, KeepsImageTold, KeepsRefusals, MayCall, MayCallOn, MayComeBack, MayTurn, SendsAs, StaysSynced, SyncsTurn, TurnsAs};
+ghost use Rattle.ken_drive.specs.StationClauses.{
+  AccountsBack,
+  ComesBack,
+  EmitsAs,
+  FailsDisks,
+  HearsAs,
+  IsRestartOf,
+  KeepsDisks,
+  KeepsEmissions,
+  KeepsImageTold,
+  KeepsRefusals,
+  MayCall,
+  MayCallOn,
+  MayComeBack,
+  MayTurn,
+  SendsAs,
+  StaysSynced,
+  SyncsTurn,
+  TurnsAs,
+};
 
 use crate::inboxes::{InFlight, end_of, give_back};
 use ken_app::{App, Oracle};

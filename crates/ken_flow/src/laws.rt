@@ -1,6 +1,18 @@
 // What holds of the group of a run's nodes, and of what is on its way between them. Each law is the contract of a function
 // that does nothing.
-ghost use Rattle.ken_flow.specs.Laws.{FirstIsInAccord, CallKeepsGroup, RunsKeepGroup, PutStaysPut, PutsArePut, AcksGoNoFurther, KnownStays, GivenAreKnown, PassedAreKnown, FirstAreKnown, SpelledAreKnown};
+ghost use Rattle.ken_flow.specs.Laws.{
+  FirstIsInAccord,
+  CallKeepsGroup,
+  RunsKeepGroup,
+  PutStaysPut,
+  PutsArePut,
+  AcksGoNoFurther,
+  KnownStays,
+  GivenAreKnown,
+  PassedAreKnown,
+  FirstAreKnown,
+  SpelledAreKnown,
+};
 ghost use Rattle.ken_flow.specs.Modest.{TurnsAreModest};
 ghost use Rattle.ken_flow.specs.StandstillLaws.{NeverMoreOpen, StampsAreLow, StandstillEnds};
 

@@ -27,5 +27,7 @@ pub fn mounting()
 pub fn counting<D: Disk>()
     ensures settled { (log : Log D) → IsSettled D.told D.size log → Tells (D.told log.disk) (λ h. IsMountedAs log (mount_of h.now.seen)) }
     ensures anew { (log new : Log D) (mounted : Mounted) → IsMountedAs log mounted → IsMountedAs new mounted → new.records ≡ log.records }
-    ensures again { (log new : Log D) (before : Mounted) (item : Record) (bytes : List ℕ) → IsMountedAs log before → MountsAsEither before (with_record item before) bytes → IsMountedAs new (mount_of bytes) → (log.records ≤ new.records) × (new.records ≤ log.records + 1) }
+    ensures again { (log new : Log D) (before : Mounted) (item : Record) (bytes : List ℕ) → IsMountedAs log before
+        → MountsAsEither before (with_record item before) bytes → IsMountedAs new (mount_of bytes)
+        → (log.records ≤ new.records) × (new.records ≤ log.records + 1) }
 {}

@@ -34,11 +34,18 @@ impl<D: Disk> Log<D> {
         requires length { length (base_bytes (version_of self.old.header) base.now) < 2 ^ 32 }
         requires generation { self.old.header.generation + 1 < 2 ^ 32 }
         requires turns { self.old.header.turns + self.old.records < 2 ^ 64 }
-        ensures story { Follows (λ h s. IsAtRest h.now → Replaces (Whole (next_header self.old base.now) (Some base.now) []) result h s) (D.told other.old) (D.told (written_disk result self.new other.new)) }
-        ensures calls { Follows (λ h s. MadeAfterRead (as_disk result) (log_writes (next_header self.old base.now) (Some base.now) h.now.seen) h s) (D.told other.old) (D.told (written_disk result self.new other.new)) }
+        ensures story { Follows
+            (λ h s. IsAtRest h.now → Replaces (Whole (next_header self.old base.now) (Some base.now) []) result h s)
+            (D.told other.old) (D.told (written_disk result self.new other.new)) }
+        ensures calls { Follows
+            (λ h s. MadeAfterRead (as_disk result)
+            (log_writes (next_header self.old base.now) (Some base.now) h.now.seen) h s)
+            (D.told other.old) (D.told (written_disk result self.new other.new)) }
         ensures own { old_disk result self.new other.new ≡ self.old.disk }
         ensures settled { OnOk result (IsSettled D.told D.size self.new) }
-        ensures made { OnOk result ((self.new.header ≡ next_header self.old base.now) × (self.new.base ≡ Some base.now) × (self.new.records ≡ 0) × (self.new.end ≡ 32 + length (base_bytes (version_of self.old.header) base.now))) }
+        ensures made { OnOk result ((self.new.header ≡ next_header self.old base.now)
+            × (self.new.base ≡ Some base.now) × (self.new.records ≡ 0)
+            × (self.new.end ≡ 32 + length (base_bytes (version_of self.old.header) base.now))) }
         ensures goes_on { IsErrOf result SealFault.Memory → self.new ≡ self.old }
         ensures rests { IsErrOf result SealFault.Memory → Follows (λ h s. IsAtRest h.now → IsAtRest s.now) (D.told other.old) (D.told other.new) }
         ensures spent { IsErrOf result SealFault.Disk → self.new ≡ record self.old { spent = true } }

@@ -15,7 +15,8 @@ ghost use Rattle.ken_net.specs.History.{AreNew, AreFor, passed_by};
 /// handed in for its receiver, and a packet with its own mail or number alone.
 pub fn what_may_be_put()
     ensures mail { (m : Message) (sealed : List Message) (consumed : List (ℕ × ℕ)) → IsMail m → Contains sealed m → MayPut m.from m.to sealed consumed (mail_bytes m) }
-    ensures ack { (from to n k : ℕ) (sealed : List Message) (consumed : List (ℕ × ℕ)) → IsAck from to n → Contains consumed (to, k) → n ≤ k → MayPut from to sealed consumed (ack_bytes from to n) }
+    ensures ack { (from to n k : ℕ) (sealed : List Message) (consumed : List (ℕ × ℕ))
+        → IsAck from to n → Contains consumed (to, k) → n ≤ k → MayPut from to sealed consumed (ack_bytes from to n) }
     ensures alone { (from to : ℕ) (bytes : List ℕ) → is_between from to (packet_of bytes) ≡ true → MayPut from to (own_sealed (packet_of bytes)) (own_consumed (packet_of bytes)) bytes }
 {}
 

@@ -200,7 +200,9 @@ pub fn decode_base(alloc: Global, len: u32, bytes: &[u8]) -> Result<Base, Record
     ensures length { IfOk result (λ base. length (base_bytes One base) ≡ len) }
     // The same as one definition.
     ensures exact { Gives (λ base. (base, drop len bytes.now)) result (within (base_at One) len bytes.now) }
-    ensures bad { IsErrOf result RecordFault.Bad → (base : Base) (rest : List ℕ) → IsBase One base → length (base_bytes One base) ≡ len → bytes.now ≡ base_bytes One base ++ rest → ⊥ }
+    ensures bad { IsErrOf result RecordFault.Bad
+        → (base : Base) (rest : List ℕ) → IsBase One base → length (base_bytes One base) ≡ len
+        → bytes.now ≡ base_bytes One base ++ rest → ⊥ }
 {
     let (base, _) = base_within(alloc, len as usize, bytes)?;
     Ok(base)

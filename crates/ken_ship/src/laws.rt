@@ -1,5 +1,18 @@
 // What the calls of an externaliser are as events of its node. Each law is the contract of a function that does nothing.
-ghost use Rattle.ken_ship.specs.Laws.{SendsAreEvents, SomeSendsAreEvents, AcksAreEvents, EmissionIsEvent, NothingIsDueFirst, OthersKeepDue, HandedOverIsDue, ResumedIsDue, NumbersRise, NumbersWereTold, WaitedBefore, WasHandedOver};
+ghost use Rattle.ken_ship.specs.Laws.{
+  SendsAreEvents,
+  SomeSendsAreEvents,
+  AcksAreEvents,
+  EmissionIsEvent,
+  NothingIsDueFirst,
+  OthersKeepDue,
+  HandedOverIsDue,
+  ResumedIsDue,
+  NumbersRise,
+  NumbersWereTold,
+  WaitedBefore,
+  WasHandedOver,
+};
 
 /// Where an externaliser was handed what its node's turns sent and output, and puts all that is due, this is the node's run of
 /// events that sends it; where it puts a front of that, it is some of these events, in order. The node doesn't change.

@@ -152,7 +152,8 @@ impl SendWorker {
         requires nodes { N.nodes net.old ≡ self.old.nodes }
         ensures worker { IsSameWorker self.old self.new }
         ensures told { self.new.told ≡ self.old.told }
-        ensures handed { HandedOver result self.old.backlog.node (popped self.old.sealed) (popped self.new.sealed) (nones self.old.sealed) (nones self.new.sealed) (part_of self.old).due (part_of self.new).due }
+        ensures handed { HandedOver result self.old.backlog.node (popped self.old.sealed) (popped self.new.sealed)
+            (nones self.old.sealed) (nones self.new.sealed) (part_of self.old).due (part_of self.new).due }
         ensures part { part_of self.new ≡ record (part_of self.old) { due = (part_of self.new).due } }
         ensures put { SentDue result (N.put_between net.old net.new) (all_due self.old.nodes (part_of self.new).due.lines) }
         ensures given { N.given_between net.old net.new [] }

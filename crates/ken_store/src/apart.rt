@@ -2,7 +2,35 @@
 // contracts of functions that do nothing.
 ghost use Rattle.std.specs.Prelude.{◌≡◌, []};
 ghost use Rattle.ken_cover.specs.Sides.{ImagePages};
-ghost use Rattle.ken_store.specs.Apart.{Apart, BeginKeepsApart, WorkKeepsApart, AbortKeepsApart, TurnKeepsApart, SealKeepsApart, TurnoverKeepsApart, WaitingMayBeHanded, HandKeepsApart, RoomKeepsApart, PatchKeepsApart, SyncKeepsApart, PatchesAreBehind, WaitingKeepsSettled, ToldIsSettled, ToldIsSealed, SealKeepsTold, PatchKeepsTold, SyncKeepsTold, ApartRecovers, PatchRecoversApart, SyncRecoversApart, SealRecoversApart, UnsealedRecoversApart, TurnoverRecoversApart, WorkMayBeUndone, WorkStandsUndone};
+ghost use Rattle.ken_store.specs.Apart.{
+  Apart,
+  BeginKeepsApart,
+  WorkKeepsApart,
+  AbortKeepsApart,
+  TurnKeepsApart,
+  SealKeepsApart,
+  TurnoverKeepsApart,
+  WaitingMayBeHanded,
+  HandKeepsApart,
+  RoomKeepsApart,
+  PatchKeepsApart,
+  SyncKeepsApart,
+  PatchesAreBehind,
+  WaitingKeepsSettled,
+  ToldIsSettled,
+  ToldIsSealed,
+  SealKeepsTold,
+  PatchKeepsTold,
+  SyncKeepsTold,
+  ApartRecovers,
+  PatchRecoversApart,
+  SyncRecoversApart,
+  SealRecoversApart,
+  UnsealedRecoversApart,
+  TurnoverRecoversApart,
+  WorkMayBeUndone,
+  WorkStandsUndone,
+};
 ghost use Rattle.ken_store.specs.Patching.{TakesPatches};
 ghost use Rattle.ken_store.specs.Standing.{Standing, TakesCalls};
 ghost use Rattle.ken_store.specs.Turning.{Turning};
@@ -26,7 +54,9 @@ impl<D: Disk> Store<D> {
     pub fn join(turns: TurnSide<D>, patches: PatchSide<D>) -> Store<D>
         ensures turns { result.turns ≡ turns }
         ensures patches { result.patches ≡ patches }
-        ensures takes { Turning D.told D.size turns → TakesPatches D.told D.size patches → patches.image.pages ≡ turns.owner.pages → patches.known ≡ turns.numbers.turns → TakesCalls D.told D.size result }
+        ensures takes { Turning D.told D.size turns → TakesPatches D.told D.size patches
+            → patches.image.pages ≡ turns.owner.pages → patches.known ≡ turns.numbers.turns
+            → TakesCalls D.told D.size result }
         ensures stands { (i : ImagePages) → Apart D.told D.size turns patches [] i → Standing D.told D.size result i }
     {
         Store { turns, patches }

@@ -200,7 +200,9 @@ fn last_turns(
     requires base { AllByRecursion (λ (e : Page). e.page < pages) base.now }
     requires records { AllByRecursion (λ (r : Record). AllByRecursion (λ (e : Page). e.page < pages) r.pages) records.now }
     ensures width { IfOk result (λ last. length last.items ≡ pages) }
-    ensures turns { IfOk result (λ last. (p : ℕ) → slice_index_or last.items p None ≡ option_map turn_in (newest_by page_in p (map changed_in (zip turns.now base.now) ++ flat_map (λ (r : Record). changes_at r.turn r.pages) records.now))) }
+    ensures turns { IfOk result (λ last. (p : ℕ) → slice_index_or last.items p None
+        ≡ option_map turn_in (newest_by page_in p
+        (map changed_in (zip turns.now base.now) ++ flat_map (λ (r : Record). changes_at r.turn r.pages) records.now))) }
 {
     let mut last = Vec::from_elem(alloc, None, pages as usize)?;
     note_all(&mut last, turns, base, records);
@@ -212,7 +214,10 @@ pub(crate) fn note_all(last: &mut [Option<u64>], turns: &[u64], base: &[Page], r
     requires turns { length turns.now ≡ length base.now }
     requires base { AllByRecursion (λ (e : Page). e.page < length last.old) base.now }
     requires records { AllByRecursion (λ (r : Record). AllByRecursion (λ (e : Page). e.page < length last.old) r.pages) records.now }
-    ensures { (p : ℕ) → slice_index_or last.new p None ≡ option_or (option_map turn_in (newest_by page_in p (map changed_in (zip turns.now base.now) ++ flat_map (λ (r : Record). changes_at r.turn r.pages) records.now))) (slice_index_or last.old p None) }
+    ensures { (p : ℕ) → slice_index_or last.new p None
+        ≡ option_or (option_map turn_in (newest_by page_in p
+        (map changed_in (zip turns.now base.now) ++ flat_map (λ (r : Record). changes_at r.turn r.pages) records.now)))
+        (slice_index_or last.old p None) }
 {
     note_base(last, turns, base);
     for item in records {
@@ -277,8 +282,12 @@ fn kept_pages(
 ) -> Result<KeptPages, AllocError>
     requires size { length objects.now.bytes ≡ 256 * length last.now }
     requires few { length last.now ≤ 4096 }
-    ensures pages { IfOk result (λ kept. (f : ℕ → Option Change) → ((p : ℕ) → slice_index_or last.now p None ≡ option_map turn_in (f p)) → kept.pages.items ≡ map page_in (flat_map (λ p. base_change settled objects.now.bytes p (f p)) (range_with_len 0 (length last.now)))) }
-    ensures turns { IfOk result (λ kept. (f : ℕ → Option Change) → ((p : ℕ) → slice_index_or last.now p None ≡ option_map turn_in (f p)) → kept.turns.items ≡ map turn_in (flat_map (λ p. base_change settled objects.now.bytes p (f p)) (range_with_len 0 (length last.now)))) }
+    ensures pages { IfOk result (λ kept. (f : ℕ → Option Change)
+        → ((p : ℕ) → slice_index_or last.now p None ≡ option_map turn_in (f p)) → kept.pages.items
+        ≡ map page_in (flat_map (λ p. base_change settled objects.now.bytes p (f p)) (range_with_len 0 (length last.now)))) }
+    ensures turns { IfOk result (λ kept. (f : ℕ → Option Change)
+        → ((p : ℕ) → slice_index_or last.now p None ≡ option_map turn_in (f p)) → kept.turns.items
+        ≡ map turn_in (flat_map (λ p. base_change settled objects.now.bytes p (f p)) (range_with_len 0 (length last.now)))) }
 {
     let mut kept = KeptPages {
         pages: Vec::new(alloc),
@@ -301,8 +310,10 @@ impl KeptPages {
         turn: Option<u64>,
     ) -> Result<(), AllocError>
         requires { 256 * page + 256 ≤ length objects.now.bytes }
-        ensures pages { OnOk result ((last : Option Change) → turn ≡ option_map turn_in last → self.new.pages.items ≡ self.old.pages.items ++ map page_in (base_change settled objects.now.bytes page last)) }
-        ensures turns { OnOk result ((last : Option Change) → turn ≡ option_map turn_in last → self.new.turns.items ≡ self.old.turns.items ++ map turn_in (base_change settled objects.now.bytes page last)) }
+        ensures pages { OnOk result ((last : Option Change) → turn ≡ option_map turn_in last → self.new.pages.items
+            ≡ self.old.pages.items ++ map page_in (base_change settled objects.now.bytes page last)) }
+        ensures turns { OnOk result ((last : Option Change) → turn ≡ option_map turn_in last → self.new.turns.items
+            ≡ self.old.turns.items ++ map turn_in (base_change settled objects.now.bytes page last)) }
     {
         let Some(turn) = turn else {
             return Ok(());

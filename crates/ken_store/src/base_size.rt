@@ -66,7 +66,9 @@ impl<D: Disk> TurnSide<D> {
 // How many of so many pages go into a base, by the turns that last changed them.
 fn count_kept(settled: u64, last: &[Option<u64>], pages: u32) -> usize
     requires { pages ≤ length last.now }
-    ensures count { (heap : List ℕ) (f : ℕ → Option Change) → ((p : ℕ) → slice_index_or last.now p None ≡ option_map turn_in (f p)) → result ≡ length (flat_map (λ p. base_change settled heap p (f p)) (range_with_len 0 pages)) }
+    ensures count { (heap : List ℕ) (f : ℕ → Option Change)
+        → ((p : ℕ) → slice_index_or last.now p None ≡ option_map turn_in (f p))
+        → result ≡ length (flat_map (λ p. base_change settled heap p (f p)) (range_with_len 0 pages)) }
     ensures most { result ≤ pages }
 {
     let mut count = 0;

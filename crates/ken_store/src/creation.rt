@@ -44,7 +44,9 @@ pub fn create<D: Disk>(
     requires most { pages ≤ 4096 }
     requires rests { AreAtRest D.told disks }
     requires none { AreUnformatted D.told disks }
-    ensures creates { TellsAll D.told disks (λ l i s. Tells (D.told (made_disks result).log) (λ l2. Tells (D.told (made_disks result).image) (λ i2. Creates (record { node = node; nodes = nodes; pages = pages }) (made_answer result) l i s l2 i2))) }
+    ensures creates { TellsAll D.told disks (λ l i s. Tells (D.told (made_disks result).log)
+        (λ l2. Tells (D.told (made_disks result).image) (λ i2. Creates
+        (record { node = node; nodes = nodes; pages = pages }) (made_answer result) l i s l2 i2))) }
     ensures calls { Follows (MayFormat (record { node = node; nodes = nodes; pages = pages }) (made_answer result)) (D.told disks.log) (D.told (made_disks result).log) }
     ensures log { CallsLog D.told D.faults (record { node = node; nodes = nodes; pages = pages }) (made_answer result) disks.log (made_disks result).log }
     ensures image { CallsImage D.told D.faults (record { node = node; nodes = nodes; pages = pages }) (made_answer result) disks (made_disks result) }

@@ -14,5 +14,7 @@ use ken_disk::Disk;
 /// Each image that a crash may leave of the disks of a store that takes calls recovers to what its log tells, and to the value of
 /// the heap after its sealed turns.
 pub fn standing_stores<D: Disk>()
-    ensures { (store : Store D) (i : ImagePages) (v : Value) → Standing D.told D.size store i → read_value (turn_pages store.turns).heap ≡ Some v → RecoversTo D.told store.turns.owner (disks_in store) (Whole (state_in store.turns) v) }
+    ensures { (store : Store D) (i : ImagePages) (v : Value) → Standing D.told D.size store i
+        → read_value (turn_pages store.turns).heap ≡ Some v
+        → RecoversTo D.told store.turns.owner (disks_in store) (Whole (state_in store.turns) v) }
 {}

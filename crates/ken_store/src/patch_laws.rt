@@ -1,6 +1,22 @@
 // What is to patch is behind the live records, and what was told as settled holds for ever after. Each law is the contract of a
 // function that does nothing.
-ghost use Rattle.ken_store.specs.PatchLaws.{SettledPagesAreClean, StartIsAhead, SealKeepsAhead, SealAloneKeepsAhead, HandKeepsAhead, PatchKeepsAhead, SyncKeepsAhead, TurnoverKeepsAhead, RecoveryIsAhead, SealKeepsSettled, SealAloneKeepsSettled, HandKeepsSettled, PatchKeepsSettled, SyncKeepsSettled, TurnoverKeepsSettled};
+ghost use Rattle.ken_store.specs.PatchLaws.{
+  SettledPagesAreClean,
+  StartIsAhead,
+  SealKeepsAhead,
+  SealAloneKeepsAhead,
+  HandKeepsAhead,
+  PatchKeepsAhead,
+  SyncKeepsAhead,
+  TurnoverKeepsAhead,
+  RecoveryIsAhead,
+  SealKeepsSettled,
+  SealAloneKeepsSettled,
+  HandKeepsSettled,
+  PatchKeepsSettled,
+  SyncKeepsSettled,
+  TurnoverKeepsSettled,
+};
 
 /// After a sync, each live page that a base with the told turn leaves out is clean.
 pub fn settled_pages_are_clean()

@@ -145,7 +145,9 @@ fn recover_store<D: Disk>(
     requires items { AllByRecursion (IsRecord One) records.items }
     requires end { length (log_bytes log.header log.base records.items) < 2 ^ 64 }
     requires image { Tells (D.told image) (λ h. IsAtRest h.now) }
-    ensures answers { Tells (D.told image) (λ i. Answers (answer_of result) (with_state owner log.base records.items i.now.seen (checked owner heads.which heads.first heads.second log.header log.base records.items))) }
+    ensures answers { Tells (D.told image) (λ i. Answers (answer_of result)
+        (with_state owner log.base records.items i.now.seen
+        (checked owner heads.which heads.first heads.second log.header log.base records.items))) }
     ensures ready { IsReady D.told D.size owner (answer_of result) }
     ensures over { IsOver (answer_of result) heads.which log records.items }
     ensures reads { ReadsDisks D.told D.faults D.fate (answer_of result) (disks_from heads.which log.disk image other) (disks_of result) }

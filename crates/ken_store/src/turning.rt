@@ -6,7 +6,23 @@ ghost use Rattle.ken_record.specs.Versions.{One};
 ghost use Rattle.ken_store.specs.Ahead.{frame_pages};
 ghost use Rattle.ken_store.specs.Lending.{LendsHeap};
 ghost use Rattle.ken_store.specs.Numbers.{follows, after_record};
-ghost use Rattle.ken_store.specs.Turning.{Turning, KeepsLog, begun_on, undone, turn_pages, record_of, changed_pages, coming_record, AreChangedPages, IsSealed, IsUndone, IsStillBegun, IsSameNode, SealsOn, log_answer};
+ghost use Rattle.ken_store.specs.Turning.{
+  Turning,
+  KeepsLog,
+  begun_on,
+  undone,
+  turn_pages,
+  record_of,
+  changed_pages,
+  coming_record,
+  AreChangedPages,
+  IsSealed,
+  IsUndone,
+  IsStillBegun,
+  IsSameNode,
+  SealsOn,
+  log_answer,
+};
 
 use crate::StoreFault;
 use crate::disks::Which;

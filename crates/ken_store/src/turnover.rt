@@ -28,7 +28,9 @@ impl<D: Disk> TurnSide<D> {
         ensures turning { OnOk result (Turning D.told D.size self.new) }
         ensures goes_on { IsErrOf result StoreFault.Memory → Turning D.told D.size self.new }
         ensures spent { IsErrOf result StoreFault.Disk → self.new.log.spent ≡ true }
-        ensures log { ReplacesOn D.told D.faults D.fate (log_answer result) (next_header self.old.log (base_of self.old settled acked.now emitted)) (base_of self.old settled acked.now emitted) self.old.other (replaced_disk result self.new) }
+        ensures log { ReplacesOn D.told D.faults D.fate (log_answer result)
+            (next_header self.old.log (base_of self.old settled acked.now emitted))
+            (base_of self.old settled acked.now emitted) self.old.other (replaced_disk result self.new) }
         ensures own { kept_disk result self.new ≡ self.old.log.disk }
         ensures sound { (disk place : ℕ) → IsErrOf result (StoreFault.Damaged disk place) → ⊥ }
     {
