@@ -38,6 +38,11 @@ abbrev pub with_block : Block → List Block → List Block
 with_block new [] = new ∷ []
 with_block new (b ∷ bs) = if nat_lt new.place b.place then new ∷ b ∷ bs else b ∷ with_block new bs
 
+-- the blocks with other bytes in the one at a place
+abbrev pub with_bytes : ℕ → List ℕ → List Block → List Block
+with_bytes place bytes [] = []
+with_bytes place bytes (b ∷ bs) = if b.place == place then record b { bytes = bytes } ∷ bs else b ∷ with_bytes place bytes bs
+
 -- the blocks without the one at a place
 abbrev pub without_block : ℕ → List Block → List Block
 without_block place [] = []

@@ -2,7 +2,7 @@
 use Rattle.std.specs.Prelude.{ℕ, ◌+◌, ◌-◌, ◌/◌, ◌%◌, ◌^◌, List, [], ◌∷◌, map, filter, ◌==◌, not, if◌then◌else◌, nat_lt, bytes_eq, Option, Some, None, codes, decimal}
 use Rattle.std.specs.List.{range_with_len}
 use Rattle.ken_model.specs.declared.kinds.Kind.{Kind}
-use Rattle.ken_model.specs.declared.kinds.Kind.TheVariants.{Ring, Tally, Share, Mix, Kv}
+use Rattle.ken_model.specs.declared.kinds.Kind.TheVariants.{Ring, Tally, Share, Mix, Kv, Bank}
 use Rattle.ken_model.specs.declared.values.Value.{Value}
 use Rattle.ken_model.specs.declared.messages.Message.{Message}
 use Rattle.ken_model.specs.declared.messages.Send.{Send}
@@ -11,10 +11,11 @@ use Rattle.ken_num.specs.Numbers.{num}
 use Rattle.ken_model.specs.Effects.{Effect, refused}
 use Rattle.ken_model.specs.Handler.{Handler}
 use Rattle.ken_model.specs.KeyValue.{kv, command_of}
+use Rattle.ken_model.specs.Bank.{bank, order_of}
 
 -- the kind of a name
 abbrev pub kind_of : List ℕ → Option Kind
-kind_of name = if bytes_eq name (codes "ring") then Some Ring else if bytes_eq name (codes "tally") then Some Tally else if bytes_eq name (codes "share") then Some Share else if bytes_eq name (codes "mix") then Some Mix else if bytes_eq name (codes "kv") then Some Kv else None
+kind_of name = if bytes_eq name (codes "ring") then Some Ring else if bytes_eq name (codes "tally") then Some Tally else if bytes_eq name (codes "share") then Some Share else if bytes_eq name (codes "mix") then Some Mix else if bytes_eq name (codes "kv") then Some Kv else if bytes_eq name (codes "bank") then Some Bank else None
 
 -- a handler that draws nothing isn't defined at any draws
 abbrev pub without_draws : List ℕ → Effect → Option Effect
@@ -83,6 +84,7 @@ after Tally node nodes value message draws = without_draws draws (tally node nod
 after Share node nodes value message draws = without_draws draws (share node nodes value (num message.bytes))
 after Mix node nodes value message draws = mix nodes value (num message.bytes) draws
 after Kv node nodes value message draws = without_draws draws (kv value (command_of message.bytes))
+after Bank node nodes value message draws = without_draws draws (bank nodes value message (order_of message.bytes))
 
 -- which of a kind's draws are readings of the clock
 abbrev pub clocks_in : Kind → List ℕ → List ℕ

@@ -2,6 +2,7 @@ pub mod Effects
 pub mod Heap
 pub mod KeyValue
 pub mod Commands
+pub mod Bank
 pub mod Handler
 pub mod Kinds
 pub mod Game

@@ -14,6 +14,8 @@ pub enum Kind {
     Mix,
     /// Texts are kept by keys, in the blocks of the heap.
     Kv,
+    /// Amounts are moved between accounts, which are blocks of the heaps.
+    Bank,
 }
 
 impl Kind {
@@ -31,6 +33,8 @@ impl Kind {
             Some(Kind::Mix)
         } else if name == b"kv".as_slice() {
             Some(Kind::Kv)
+        } else if name == b"bank".as_slice() {
+            Some(Kind::Bank)
         } else {
             None
         }
