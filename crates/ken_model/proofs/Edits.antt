@@ -1,12 +1,13 @@
 -- Blocks put in and taken away by their index.
-use Rattle.std.proofs.Common.{◌≡◌, ℕ, suc, ◌+◌, ◌<◌, ◌≤◌, List, [], ◌∷◌, length, Bool, true, false, ◌==◌, not, if◌then◌else◌, nat_lt, Some, None, unwrap_or, refl, sym, ap, ◌∙◌, arith, drop, slice_index_or, add-one}
+use Rattle.std.proofs.Common.{◌≡◌, ℕ, suc, ◌+◌, ◌<◌, ◌≤◌, List, [], ◌∷◌, length, set, Bool, true, false, ◌==◌, not, if◌then◌else◌, nat_lt, Some, None, unwrap_or, refl, sym, ap, ◌∙◌, arith, drop, slice_index_or, add-one}
 use Rattle.std.specs.List.{position, position_or_len, insert, remove, find}
 use Rattle.std.proofs.Math.Seq.{drop-cons}
 use Rattle.std.proofs.lemmas.Bool.{ltb-false}
+use Rattle.std.proofs.lemmas.Bool.Decides.{nat_tests}
 use Rattle.std.proofs.lemmas.List.Sums.{prefix_len-le-length}
 use Rattle.ken_model.specs.declared.values.Block.{Block}
 use Rattle.ken_model.specs.declared.values.Value.{Value}
-use Rattle.ken_model.specs.Heap.{with_block, without_block}
+use Rattle.ken_model.specs.Heap.{with_block, with_bytes, without_block}
 use Rattle.ken_model.specs.KeyValue.{pair_of, is_key, at_space}
 use Rattle.ken_model.proofs.Heaps.{pair-long}
 
@@ -61,6 +62,27 @@ remove_none place [] past = refl
 remove_none place (b ∷ bs) past = go (b.place == place) (position_or_len (λ (x : Block). x.place == place) bs) (remove_none place bs) past
   where
     go : (t : Bool) (k : ℕ) → (length bs ≤ k → without_block place bs ≡ bs) → length (b ∷ bs) ≤ (if not t then 1 + k else 0) → (if t then bs else b ∷ without_block place bs) ≡ b ∷ bs
+    go true k e less = absurd (omega arith)
+    go false k e less = ap (λ l. b ∷ l) (e (omega arith))
+
+set-later : (b new : Block) (bs : List Block) (k : ℕ) → b ∷ set bs k new ≡ set (b ∷ bs) (1 + k) new
+set-later b new bs k = let e : 1 + k ≡ suc k = omega arith in rw e refl
+
+-- where some block stands at the place, the first of them gets the bytes
+pub rewrite_first : (place : ℕ) (bytes : List ℕ) (bs : List Block) → position_or_len (λ (b : Block). b.place == place) bs < length bs → with_bytes place bytes bs ≡ set bs (position_or_len (λ (b : Block). b.place == place) bs) (record { place = place; bytes = bytes })
+rewrite_first place bytes [] within = absurd (omega arith)
+rewrite_first place bytes (b ∷ bs) within = go (b.place == place) (λ is. grind (arith, nat_tests, is)) (position_or_len (λ (x : Block). x.place == place) bs) (rewrite_first place bytes bs) within
+  where
+    go : (t : Bool) → (t ≡ true → b.place ≡ place) → (k : ℕ) → (k < length bs → with_bytes place bytes bs ≡ set bs k (record { place = place; bytes = bytes })) → (if not t then 1 + k else 0) < length (b ∷ bs) → (if t then record b { bytes = bytes } ∷ bs else b ∷ with_bytes place bytes bs) ≡ set (b ∷ bs) (if not t then 1 + k else 0) (record { place = place; bytes = bytes })
+    go true is k e less = ap (λ (p : ℕ). (let x : Block = record { place = p; bytes = bytes } in x ∷ bs)) (is refl)
+    go false is k e less = ap (λ l. b ∷ l) (e (omega arith)) ∙ set-later b (record { place = place; bytes = bytes }) bs k
+
+-- where none does, none does
+pub rewrite_none : (place : ℕ) (bytes : List ℕ) (bs : List Block) → length bs ≤ position_or_len (λ (b : Block). b.place == place) bs → with_bytes place bytes bs ≡ bs
+rewrite_none place bytes [] past = refl
+rewrite_none place bytes (b ∷ bs) past = go (b.place == place) (position_or_len (λ (x : Block). x.place == place) bs) (rewrite_none place bytes bs) past
+  where
+    go : (t : Bool) (k : ℕ) → (length bs ≤ k → with_bytes place bytes bs ≡ bs) → length (b ∷ bs) ≤ (if not t then 1 + k else 0) → (if t then record b { bytes = bytes } ∷ bs else b ∷ with_bytes place bytes bs) ≡ b ∷ bs
     go true k e less = absurd (omega arith)
     go false k e less = ap (λ l. b ∷ l) (e (omega arith))
 

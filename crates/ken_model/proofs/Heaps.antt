@@ -1,20 +1,23 @@
 -- Blocks of a heap: what putting one and taking one away keep.
-use Rattle.std.proofs.Common.{◌≡◌, ℕ, ◌+◌, ◌-◌, ◌/◌, ◌%◌, ◌<◌, ◌≤◌, ◌^◌, ◌⊎◌, List, [], ◌∷◌, length, take, drop, Bool, true, false, ◌==◌, if◌then◌else◌, nat_lt, bytes_eq, codes, Option, Some, None, option_map, inl, inr, ⊎_elim, refl, sym, ap, subst, ◌∙◌, arith}
+use Rattle.std.proofs.Common.{◌≡◌, ℕ, ◌+◌, ◌-◌, ◌/◌, ◌%◌, ◌<◌, ◌≤◌, ◌^◌, ◌⊎◌, List, [], ◌∷◌, ◌++◌, length, take, drop, Bool, true, false, ◌==◌, if◌then◌else◌, nat_lt, bytes_eq, codes, Option, Some, None, IfSome, option_map, inl, inr, ⊎_elim, refl, sym, ap, subst, ◌∙◌, arith}
 use Rattle.std.specs.List.{All, AllByRecursion, Contains, position}
 use Rattle.std.proofs.lemmas.Bool.{ltb-false}
 use Rattle.std.proofs.lemmas.Bool.Decides.{nat_tests}
-use Rattle.std.proofs.lemmas.List.{length-take}
+use Rattle.std.proofs.lemmas.List.{length-take, length-append}
 use Rattle.std.proofs.lemmas.List.Elements.{All-contains, Contains-append_right}
 use Rattle.std.proofs.lemmas.List.Quantifiers.{position-Some}
 use Rattle.std.proofs.lemmas.Slice.Eq.{bytes_eq-Decides}
+use Rattle.byteorder.specs.Endian.{big_bytes}
+use Rattle.byteorder.specs.Numbers.{length-bytes_high_first}
 use Rattle.ken_model.specs.declared.kinds.Kind.{Kind}
-use Rattle.ken_model.specs.declared.kinds.Kind.TheVariants.{Ring, Tally, Share, Mix, Kv}
+use Rattle.ken_model.specs.declared.kinds.Kind.TheVariants.{Ring, Tally, Share, Mix, Kv, Bank}
 use Rattle.ken_model.specs.declared.messages.Message.{Message}
 use Rattle.ken_model.specs.declared.values.Block.{Block}
 use Rattle.ken_model.specs.declared.values.Value.{Value}
 use Rattle.ken_model.specs.Effects.{Effect, refused}
-use Rattle.ken_model.specs.Heap.{IsHeap, rounded, end_of, AreBlocks, first_gap_from, first_gap, with_block, without_block, block_at}
+use Rattle.ken_model.specs.Heap.{IsHeap, rounded, end_of, AreBlocks, first_gap_from, first_gap, with_block, with_bytes, without_block, block_at}
 use Rattle.ken_model.specs.KeyValue.{Command, Put, Get, Delete, at_space, put_of, key_of, command_in, command_of, pair_of, is_key, without_pair, put_at, get_from, delete_from, kv}
+use Rattle.ken_model.specs.Bank.{Order, Open, Move, Credit, account, account_of, balance_of, of_length, opened, moved, moved_from, with_account, with_balance, with_credit, bank, order_of}
 use Rattle.ken_model.specs.Kinds.{after, ring, tally, share, mix, mix_counts, without_draws}
 use Rattle.ken_num.specs.Numbers.{num}
 
@@ -71,6 +74,15 @@ without_gap place from size (b ∷ bs) h = go (b.place == place) (without_gap pl
 pub blocks-from : (from size : ℕ) (bs : List Block) → AreBlocks from size bs → from ≤ size
 blocks-from from size [] h = h
 blocks-from from size (b ∷ bs) h = omega (arith, h.0, blocks-from (end_of b) size bs h.3)
+
+-- other bytes of the same length leave each gap as it is
+pub with_bytes-blocks : (place : ℕ) (bytes : List ℕ) (from size : ℕ) (bs : List Block) → AreBlocks from size bs → IfSome (block_at place bs) (λ old. length bytes ≡ length old) → AreBlocks from size (with_bytes place bytes bs)
+with_bytes-blocks place bytes from size [] h same = h
+with_bytes-blocks place bytes from size (b ∷ bs) h same = go (b.place == place) same (with_bytes-blocks place bytes (end_of b) size bs h.3)
+  where
+    go : (t : Bool) → IfSome (if t then Some b.bytes else block_at place bs) (λ old. length bytes ≡ length old) → (IfSome (block_at place bs) (λ old. length bytes ≡ length old) → AreBlocks (end_of b) size (with_bytes place bytes bs)) → AreBlocks from size (if t then record b { bytes = bytes } ∷ bs else b ∷ with_bytes place bytes bs)
+    go true long rest = (h.0, h.1, omega (arith, h.2, long), subst (λ (n : ℕ). AreBlocks (b.place + rounded n) size bs) (sym long) h.3)
+    go false long rest = (h.0, h.1, h.2, rest long)
 
 -- each block lies within the size
 pub blocks-within : (from size : ℕ) (bs : List Block) → AreBlocks from size bs → AllByRecursion (λ (b : Block). b.place + length b.bytes ≤ size) bs
@@ -201,6 +213,59 @@ kv-heap v (Some (Put key pair)) h some = put-heap v pair (pair_of key v.blocks) 
 kv-heap v (Some (Get key)) h some = get-heap v key (pair_of key v.blocks) h
 kv-heap v (Some (Delete key)) h some = delete-heap v (pair_of key v.blocks) h
 
+-- the bytes of an account are 9 more than its name's
+pub account-length : (name : List ℕ) (balance : ℕ) → length (account name balance) ≡ length name + 9
+account-length name balance = length-append name (32 ∷ big_bytes 8 balance) ∙ omega (arith, length-bytes_high_first 8 balance)
+
+-- the account of a name is its pair, and as long as an account
+pub record IsAccount (name : List ℕ) (blocks : List Block) (b : Block) : Type 0 where
+  pub pair : pair_of name blocks ≡ Some b
+  pub long : length b.bytes ≡ length name + 9
+
+pub account-is : (name : List ℕ) (blocks : List Block) (b : Block) → account_of name blocks ≡ Some b → IsAccount name blocks b
+account-is name blocks b found = go (pair_of name blocks) refl found
+  where
+    go : (o : Option Block) → pair_of name blocks ≡ o → of_length (length name + 9) o ≡ Some b → IsAccount name blocks b
+    go None e is = absurd cc
+    go (Some x) e is =
+        ⊎_elim
+        (λ fits. record { pair = e ∙ fits.1; long = (let same : x ≡ b = cc in grind (arith, nat_tests, fits.0, ap (λ (y : Block). length y.bytes) same)) })
+        (λ other. absurd cc)
+        (if_some (length x.bytes == length name + 9) (Some x) None b is)
+
+account-heap : (v : Value) (name : List ℕ) (balance place : ℕ) → IsHeap v → first_gap v (length name + 9) ≡ Some place → IsHeap (with_account place name balance v)
+account-heap v name balance place h gap =
+    let new : Block = record { place = place; bytes = account name balance } in
+    let placed = with_gap 16 v.size (length name + 9) v.blocks new (omega arith) h.blocks (omega arith) (sym (account-length name balance)) gap in
+    blocks-heap v (with_block new v.blocks) h placed.blocks
+
+balance-heap : (v : Value) (name : List ℕ) (balance : ℕ) (b : Block) → IsHeap v → account_of name v.blocks ≡ Some b → IsHeap (with_balance b.place name balance v)
+balance-heap v name balance b h found =
+    let is = account-is name v.blocks b found in
+    let at = pair-at 16 v.size name v.blocks b h.blocks is.pair in
+    let long : length (account name balance) ≡ length b.bytes = account-length name balance ∙ sym is.long in
+    blocks-heap v (with_bytes b.place (account name balance) v.blocks) h (with_bytes-blocks b.place (account name balance) 16 v.size v.blocks h.blocks (subst (λ o. IfSome o (λ old. length (account name balance) ≡ length old)) (sym at) long))
+
+open-heap : (v : Value) (name : List ℕ) (amount : ℕ) (a : Option Block) (o : Option ℕ) → IsHeap v → first_gap v (length name + 9) ≡ o → IsHeap (opened v name amount a o).value
+open-heap v name amount (Some b) o h gap = h
+open-heap v name amount None None h gap = h
+open-heap v name amount None (Some place) h gap = account-heap v name amount place h gap
+
+move-heap : (v : Value) (name : List ℕ) (amount to : ℕ) (other : List ℕ) (a : Option Block) → IsHeap v → account_of name v.blocks ≡ a → IsHeap (moved v name amount to other a).value
+move-heap v name amount to other None h found = h
+move-heap v name amount to other (Some b) h found = either-holds (λ (e : Effect). IsHeap e.value) (nat_lt (balance_of b.bytes) amount) _ _ h (balance-heap v name (balance_of b.bytes - amount) b h found)
+
+credit-heap : (v : Value) (name : List ℕ) (amount : ℕ) (a : Option Block) (o : Option ℕ) → IsHeap v → account_of name v.blocks ≡ a → first_gap v (length name + 9) ≡ o → IsHeap (with_credit v name amount a o)
+credit-heap v name amount (Some b) o h found gap = balance-heap v name ((balance_of b.bytes + amount) % 2 ^ 64) b h found
+credit-heap v name amount None (Some place) h found gap = account-heap v name amount place h gap
+credit-heap v name amount None None h found gap = root-heap v ((v.root + amount) % 2 ^ 64) h (omega arith)
+
+bank-heap : (nodes : ℕ) (v : Value) (m : Message) (o : Option Order) → IsHeap v → IsHeap (bank nodes v m o).value
+bank-heap nodes v m None h = h
+bank-heap nodes v m (Some (Open name amount)) h = open-heap v name amount (account_of name v.blocks) (first_gap v (length name + 9)) h refl
+bank-heap nodes v m (Some (Move name amount to other)) h = either-holds (λ (e : Effect). IsHeap e.value) (nat_lt to nodes) _ _ (move-heap v name amount to other (account_of name v.blocks) h refl) h
+bank-heap nodes v m (Some (Credit name amount)) h = either-holds (λ (e : Effect). IsHeap e.value) (m.from == 255) _ _ h (credit-heap v name amount (account_of name v.blocks) (first_gap v (length name + 9)) h refl refl)
+
 ring-heap : (node nodes : ℕ) (v : Value) (n : Option ℕ) → IsHeap v → IsHeap (ring node nodes v n).value
 ring-heap node nodes v None h = h
 ring-heap node nodes v (Some n) h = root-heap v ((v.root + 1) % 2 ^ 64) h (omega arith)
@@ -232,3 +297,4 @@ heap_after Tally node nodes v m draws e h words is = without-heap draws _ e (tal
 heap_after Share node nodes v m draws e h words is = without-heap draws _ e (share-heap node nodes v (num m.bytes) h) is
 heap_after Mix node nodes v m draws e h words is = mix-heap nodes v (num m.bytes) draws e h words is
 heap_after Kv node nodes v m draws e h words is = without-heap draws _ e (kv-heap v (command_of m.bytes) h (command-pair (at_space m.bytes))) is
+heap_after Bank node nodes v m draws e h words is = without-heap draws _ e (bank-heap nodes v m (order_of m.bytes) h) is

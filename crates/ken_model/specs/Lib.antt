@@ -3,6 +3,7 @@ pub mod Heap
 pub mod KeyValue
 pub mod Commands
 pub mod Bank
+pub mod Orders
 pub mod Handler
 pub mod Kinds
 pub mod Game

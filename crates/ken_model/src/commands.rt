@@ -15,9 +15,9 @@ pub enum Command<'a> {
 
 /// What stands before the first space, and what after it.
 #[derive(Clone, Copy)]
-struct Parts<'a> {
-    before: &'a [u8],
-    after: &'a [u8],
+pub(crate) struct Parts<'a> {
+    pub before: &'a [u8],
+    pub after: &'a [u8],
 }
 
 impl<'a> Command<'a> {
@@ -62,7 +62,7 @@ fn whole_key(bytes: &[u8]) -> Option<&[u8]>
 }
 
 /// The bytes before the first space and after it, where there is one.
-fn at_space(bytes: &[u8]) -> Option<Parts<'_>>
+pub(crate) fn at_space(bytes: &[u8]) -> Option<Parts<'_>>
     ensures { option_map parts_view result ≡ at_space bytes.now }
 {
     let space = first_space(bytes)?;

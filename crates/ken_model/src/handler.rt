@@ -8,7 +8,7 @@ ghost use Rattle.ken_model.specs.Tasks.{task_of, effect_of};
 ghost use Rattle.ken_model.specs.Answers.{effect_by};
 ghost use Rattle.ken_num.specs.Numbers.{num};
 
-use crate::{Kind, Message, OUTSIDE, Octets, Send, Value, key_value};
+use crate::{Kind, Message, OUTSIDE, Octets, Send, Value, bank, key_value};
 use ken_num::{num, put_decimal};
 use std::alloc::{AllocError, Global};
 
@@ -29,6 +29,8 @@ pub(crate) enum Task {
     Mix { count: u64, clock: u64, word: u64 },
     /// The payload is a command, or none.
     KeyValue,
+    /// The payload is an order, or none.
+    Bank,
 }
 
 /// What becomes of the blocks of a heap.
@@ -43,6 +45,11 @@ pub(crate) enum BlockChange {
     },
     Delete {
         place: u64,
+    },
+    /// The block at `place` gets other bytes.
+    Rewrite {
+        place: u64,
+        bytes: Octets,
     },
 }
 
@@ -65,6 +72,7 @@ impl Task {
     {
         match (kind, num(payload), draws) {
             (Kind::Kv, _, []) => Some(Task::KeyValue),
+            (Kind::Bank, _, []) => Some(Task::Bank),
             (_, None, []) => Some(Task::Refuse),
             (Kind::Ring, Some(count), []) => Some(Task::Ring { count }),
             (Kind::Tally, Some(amount), []) => Some(Task::Tally { amount }),
@@ -95,6 +103,7 @@ impl Task {
         match self {
             Task::Refuse => key_value::told(alloc, value, BlockChange::Keep, BAD),
             Task::KeyValue => key_value::answer(alloc, value, message.bytes.as_slice()),
+            Task::Bank => bank::answer(alloc, nodes, value, message),
             Task::Ring { count } => Ok(Answer {
                 root: value.root.wrapping_add(1),
                 blocks: BlockChange::Keep,

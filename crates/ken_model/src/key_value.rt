@@ -10,13 +10,13 @@ use crate::{Command, Octets, Value};
 use std::alloc::{AllocError, Global};
 
 /// The answer to a put or a delete that was made.
-const OK: &[u8] = b"ok";
+pub(crate) const OK: &[u8] = b"ok";
 
 /// The answer to a put that no gap has room for.
-const FULL: &[u8] = b"full";
+pub(crate) const FULL: &[u8] = b"full";
 
 /// The answer to a key that has no pair.
-const NONE: &[u8] = b"none";
+pub(crate) const NONE: &[u8] = b"none";
 
 /// What a node with that heap is to do about a payload.
 pub(crate) fn answer(alloc: Global, value: &Value, payload: &[u8]) -> Result<Answer, AllocError>

@@ -3,6 +3,7 @@
 #![tactic(auto)]
 
 mod actors;
+mod bank;
 mod cells;
 mod clones;
 mod commands;
@@ -18,6 +19,7 @@ mod lists;
 mod messages;
 mod network;
 mod node;
+mod orders;
 mod reactions;
 mod reading;
 mod reports;
@@ -36,6 +38,7 @@ pub use laws::{agreement_is_legal, first_gap_is_least, report_spells_its_run};
 pub use layout_laws::{breaks_at_one_place, first_is_empty, reads_what_stands, stands_for_one};
 pub use lists::{Items, Octets};
 pub use messages::{Done, Message, OUTSIDE, Out, Send, Step};
+pub use orders::{MAX_NAME, Order};
 pub use reactions::Reaction;
 pub use reports::{Emission, Ending, Lines, RestartLine, TurnLine};
 pub use states::State;

@@ -1,5 +1,5 @@
 // Lists in public types: a contract sees the list, and no capacity.
-ghost use Rattle.std.specs.Prelude.{◌≡◌, ◌==◌, ◌<◌, ◌≤◌, ℕ, List, length, OnOk, OnErr};
+ghost use Rattle.std.specs.Prelude.{◌≡◌, ◌==◌, ◌<◌, ◌≤◌, ℕ, List, length, set, OnOk, OnErr};
 ghost use Rattle.std.specs.List.{insert, remove};
 
 use std::alloc::AllocError;
@@ -116,5 +116,13 @@ impl<T: Drop> Items<T> {
         ensures { self.new ≡ remove self.old index }
     {
         self.items.remove(index);
+    }
+
+    /// Puts an item in the place of the one at `index`.
+    pub(crate) fn set(&mut self, index: usize, item: T)
+        requires { index < length self.old }
+        ensures { self.new ≡ set self.old index item }
+    {
+        self.items[index] = item;
     }
 }

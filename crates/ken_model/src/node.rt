@@ -155,6 +155,7 @@ pub(crate) fn change(value: &mut Value, blocks: BlockChange) -> Result<(), Alloc
             }
         }
         BlockChange::Delete { place } => value.remove(place),
+        BlockChange::Rewrite { place, bytes } => value.rewrite(place, bytes),
     }
     Ok(())
 }

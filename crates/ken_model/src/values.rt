@@ -1,7 +1,7 @@
 ghost use Rattle.std.specs.Prelude.{◌≡◌, ◌<◌, ◌^◌, nat_lt, ◌==◌, option_map, option_copied, OnOk, OnErr};
 ghost use Rattle.std.specs.List.{position, find};
 ghost use Rattle.ken_model.specs.declared.values.Block.{Block};
-ghost use Rattle.ken_model.specs.Heap.{IsHeap, rounded, first_gap, with_block, without_block};
+ghost use Rattle.ken_model.specs.Heap.{IsHeap, rounded, first_gap, with_block, with_bytes, without_block};
 ghost use Rattle.ken_model.specs.KeyValue.{pair_of, is_key, at_space};
 
 use crate::{Items, Octets, is_pair_of};
@@ -64,6 +64,16 @@ impl Value {
     {
         if let Some(index) = self.index_of(place) {
             self.blocks.remove(index);
+        }
+    }
+
+    /// Puts other bytes into the block at a place.
+    #[tactic(auto, using(crate::proofs::Edits::rewrite_first, crate::proofs::Edits::rewrite_none))]
+    pub(crate) fn rewrite(&mut self, place: u64, bytes: Octets)
+        ensures { self.new ≡ record self.old { blocks = with_bytes place bytes self.old.blocks } }
+    {
+        if let Some(index) = self.index_of(place) {
+            self.blocks.set(index, Block { place, bytes });
         }
     }
 
