@@ -2,7 +2,7 @@
 ghost use Rattle.std.specs.Prelude.{◌≡◌};
 ghost use Rattle.ken_model.specs.Kinds.{handler_of};
 
-use crate::{kv, mix, ring, share, tally};
+use crate::{bank, kv, mix, ring, share, tally};
 use ken_app::{App, Oracle, Turn};
 use ken_model::Kind;
 use std::alloc::AllocError;
@@ -21,6 +21,7 @@ impl App for KindApp {
             Kind::Share => share::on_message(turn),
             Kind::Mix => mix::on_message(turn),
             Kind::Kv => kv::on_message(turn),
+            Kind::Bank => bank::on_message(turn),
         }
     }
 }

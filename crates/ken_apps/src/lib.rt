@@ -1,6 +1,8 @@
 //! The handlers of Ken's kinds.
 #![tactic(auto)]
 
+mod accounts;
+mod bank;
 mod kind_app;
 mod kv;
 mod mix;

@@ -73,7 +73,7 @@ pub(crate) fn put(objects: &mut Objects, key: &[u8], pair: &[u8]) -> Result<bool
 }
 
 /// Keeps a pair in the first gap that it fits into: its place. After an error the heap is to be taken back.
-fn keep(objects: &mut Objects, pair: &[u8]) -> Result<Option<u64>, AllocError>
+pub(crate) fn keep(objects: &mut Objects, pair: &[u8]) -> Result<Option<u64>, AllocError>
     requires heap { IsHeap objects.old.value }
     requires begun { IsSome objects.old.begun }
     requires some { 0 < length pair.now }

@@ -33,6 +33,29 @@ fn random_command(alloc: Global, dice: &mut Lcg) -> Result<String, AllocError> {
     }
 }
 
+// An order of kind bank, to open an account or to move from one to a node that may not be there, or none.
+fn random_order(alloc: Global, dice: &mut Lcg) -> Result<String, AllocError> {
+    let name = random_name(dice);
+    let amount = dice.next() % 30;
+    match dice.next() % 8 {
+        0 => format!(in alloc; "credit {name} {amount}"),
+        1 | 2 | 3 => format!(in alloc; "open {name} {amount}"),
+        _ => {
+            let (to, other) = (dice.next() % 6, random_name(dice));
+            format!(in alloc; "move {name} {amount} {to} {other}")
+        }
+    }
+}
+
+fn random_name(dice: &mut Lcg) -> &'static str {
+    match dice.next() % 4 {
+        0 => "a",
+        1 => "b",
+        2 => "cc",
+        _ => "a_name_as_long_as_a_name_may_be_",
+    }
+}
+
 // A count, or a text that is none.
 fn random_count(alloc: Global, dice: &mut Lcg) -> Result<String, AllocError> {
     match dice.next() % 7 {
@@ -56,6 +79,7 @@ fn random_inputs(
         let node = dice.next() % nodes;
         let text = match kind {
             "kv" => random_command(alloc, dice)?,
+            "bank" => random_order(alloc, dice)?,
             _ => random_count(alloc, dice)?,
         };
         items.push_str(&format!(in alloc; "{comma}[{node},\"{text}\"]")?)?;
@@ -116,11 +140,12 @@ pub(crate) fn random_refusals(
 
 fn random_script(alloc: Global, dice: &mut Lcg) -> Result<String, AllocError> {
     let nodes = dice.next() % 5 + 1;
-    let kind = match dice.next() % 6 {
+    let kind = match dice.next() % 7 {
         0 => "ring",
         1 => "tally",
         2 => "share",
         3 => "kv",
+        4 => "bank",
         _ => "mix",
     };
     let (seed, turns) = (dice.next(), dice.next() % 9 + 1);

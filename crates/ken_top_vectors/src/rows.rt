@@ -187,6 +187,23 @@ fn texts_are_kept_by_keys(rt: HostRuntime) -> Result<(), Fail> {
 }
 
 #[test]
+fn amounts_are_moved_between_accounts(rt: HostRuntime) -> Result<(), Fail> {
+    let script = "{\"nodes\":2,\"kind\":\"bank\",\"inputs\":[[0,\"open x 10\"],[0,\"move x 4 1 y\"]]}";
+    let report = "turn 1 0 out 1 -\n\
+        turn 2 0 out 2 -\n\
+        turn 3 1 0 1 -\n\
+        emit 0 1 ok\n\
+        emit 0 2 ok\n\
+        emit 1 1 got\n\
+        heap 0 0 32:10\n\
+        heap 1 0 32:10\n\
+        end settled 3\n";
+    let ran = run_of(&rt, script)?;
+    assert_eq!(rt; ran.ending()?, (Status::Settled, report));
+    Ok(())
+}
+
+#[test]
 fn a_run_that_is_cut_is_reported(rt: HostRuntime) -> Result<(), Fail> {
     let ran = run_of(&rt, &ring(rt.alloc(), 1, "[0,\"1000\"]")?)?;
     assert_eq!(rt; ran.status, Status::Cut);

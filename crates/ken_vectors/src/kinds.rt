@@ -199,6 +199,111 @@ const KV: [Case<'static>; 5] = [
     },
 ];
 
+const OPEN: Case<'static> = Case {
+    payload: b"open x 10",
+    block_then: b"x \x00\x00\x00\x00\x00\x00\x00\x0a",
+    outs: &[b"ok"],
+    ..BAD
+};
+
+const HAS_TEN: Case<'static> = Case {
+    block: b"x \x00\x00\x00\x00\x00\x00\x00\x0a",
+    block_then: b"x \x00\x00\x00\x00\x00\x00\x00\x0a",
+    ..BAD
+};
+
+const BANK: [Case<'static>; 13] = [
+    OPEN,
+    Case {
+        payload: b"open x 999999999",
+        block_then: b"x \x00\x00\x00\x00\x3b\x9a\xc9\xff",
+        ..OPEN
+    },
+    Case {
+        payload: b"open x 0",
+        outs: &[b"there"],
+        ..HAS_TEN
+    },
+    Case {
+        payload: b"move x 4 1 y",
+        block_then: b"x \x00\x00\x00\x00\x00\x00\x00\x06",
+        sent: &[(1, b"credit y 4")],
+        outs: &[b"ok"],
+        ..HAS_TEN
+    },
+    Case {
+        payload: b"move x 10 2 x",
+        block_then: b"x \x00\x00\x00\x00\x00\x00\x00\x00",
+        sent: &[(2, b"credit x 10")],
+        outs: &[b"ok"],
+        ..HAS_TEN
+    },
+    Case {
+        payload: b"move x 11 1 y",
+        outs: &[b"short"],
+        ..HAS_TEN
+    },
+    Case {
+        payload: b"move y 1 1 x",
+        outs: &[b"none"],
+        ..HAS_TEN
+    },
+    Case {
+        payload: b"move y 1 3 x",
+        ..HAS_TEN
+    },
+    Case {
+        payload: b"credit x 4",
+        ..HAS_TEN
+    },
+    Case {
+        from: 0,
+        payload: b"credit x 5",
+        block_then: b"x \x00\x00\x00\x00\x00\x00\x00\x0f",
+        outs: &[b"got"],
+        ..HAS_TEN
+    },
+    Case {
+        from: 2,
+        payload: b"credit x 1",
+        block: b"x \xff\xff\xff\xff\xff\xff\xff\xff",
+        block_then: b"x \x00\x00\x00\x00\x00\x00\x00\x00",
+        outs: &[b"got"],
+        ..BAD
+    },
+    Case {
+        from: 0,
+        payload: b"credit x 10",
+        outs: &[b"got"],
+        ..OPEN
+    },
+    Case {
+        payload: b"move x 0 0 x",
+        outs: &[b"none"],
+        ..BAD
+    },
+];
+
+// What is no order of a bank.
+const NO_ORDERS: [&[u8]; 16] = [
+    b"",
+    b"open",
+    b"open x",
+    b"open x ",
+    b"open  1",
+    b"open x 01",
+    b"open x 1234567890",
+    b"open x 1 ",
+    b"open x  1",
+    b"Open x 1",
+    b"open 123456789012345678901234567890123 1",
+    b"move x 1 y",
+    b"move x 1 0 ",
+    b"move x 1 0 y z",
+    b"move x 1 0 123456789012345678901234567890123",
+    b"7",
+];
+
 // What is no command of kv.
 const NO_COMMANDS: [&[u8]; 11] = [
     b"",
@@ -214,7 +319,14 @@ const NO_COMMANDS: [&[u8]; 11] = [
     b"7",
 ];
 
-const KINDS: [Kind; 5] = [Kind::Ring, Kind::Tally, Kind::Share, Kind::Mix, Kind::Kv];
+const KINDS: [Kind; 6] = [
+    Kind::Ring,
+    Kind::Tally,
+    Kind::Share,
+    Kind::Mix,
+    Kind::Kv,
+    Kind::Bank,
+];
 
 // A payload that a kind does not know.
 fn try_bad(rt: &(impl Abort + AllocGlobal), kind: Kind, payload: &[u8]) -> Result<(), AllocError> {
@@ -284,6 +396,46 @@ fn kv_knows_its_commands_alone(rt: HostRuntime) -> Result<(), AllocError> {
         try_bad(&rt, Kind::Kv, payload)?;
     }
     Ok(())
+}
+
+#[test]
+fn bank_keeps_balances_in_blocks(rt: HostRuntime) -> Result<(), AllocError> {
+    try_cases(&rt, &KindApp(Kind::Bank), &BANK)
+}
+
+#[test]
+fn bank_knows_its_orders_alone(rt: HostRuntime) -> Result<(), AllocError> {
+    for payload in &NO_ORDERS {
+        try_bad(&rt, Kind::Bank, payload)?;
+    }
+    Ok(())
+}
+
+// A page has no room for an account beside a pair of 208 bytes.
+fn try_full<'a>(
+    rt: &(impl Abort + AllocGlobal),
+    from: u8,
+    payload: &'a [u8],
+    root_then: u64,
+    outs: &'a [&'a [u8]],
+) -> Result<(), AllocError> {
+    let pair = text_of(rt.alloc(), b"k ", 208)?;
+    let case = Case {
+        from,
+        payload,
+        block: &pair,
+        root_then,
+        block_then: &pair,
+        outs,
+        ..BAD
+    };
+    try_case(rt, &KindApp(Kind::Bank), &case)
+}
+
+#[test]
+fn a_credit_without_room_goes_to_the_root(rt: HostRuntime) -> Result<(), AllocError> {
+    try_full(&rt, OUTSIDE, b"open x 1", 5, &[b"full"])?;
+    try_full(&rt, 0, b"credit x 7", 12, &[b"got"])
 }
 
 #[test]

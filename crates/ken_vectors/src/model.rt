@@ -1,5 +1,5 @@
 use ken_model::{
-    Command, Items, Kind, Octets, agreement_is_legal, first_gap_is_least, is_pair_of,
+    Command, Items, Kind, Octets, Order, agreement_is_legal, first_gap_is_least, is_pair_of,
     report_spells_its_run, rounded,
 };
 use std::alloc::AllocError;
@@ -8,6 +8,7 @@ use std::alloc::AllocError;
 fn kinds_are_named(rt: HostRuntime) {
     assert_eq!(rt; Kind::of(b"ring"), Some(Kind::Ring));
     assert_eq!(rt; Kind::of(b"kv"), Some(Kind::Kv));
+    assert_eq!(rt; Kind::of(b"bank"), Some(Kind::Bank));
     assert_eq!(rt; Kind::of(b"Ring"), None);
 }
 
@@ -20,6 +21,23 @@ fn commands_are_read(rt: HostRuntime) {
     assert_eq!(rt; Command::of(b"put k a b"), Some(put));
     assert_eq!(rt; Command::of(b"del k"), Some(Command::Delete { key: b"k" }));
     assert_eq!(rt; Command::of(b"get k b"), None);
+}
+
+#[test]
+fn orders_are_read(rt: HostRuntime) {
+    let sent = Order::Move {
+        name: b"x",
+        amount: 4,
+        to: 1,
+        other: b"y",
+    };
+    assert_eq!(rt; Order::of(b"move x 4 1 y"), Some(sent));
+    let credit = Order::Credit {
+        name: b"x",
+        amount: 0,
+    };
+    assert_eq!(rt; Order::of(b"credit x 0"), Some(credit));
+    assert_eq!(rt; Order::of(b"open x 01"), None);
 }
 
 #[test]

@@ -129,6 +129,7 @@ const TEXTS: [Row; 29] = [
     ("{\"nodes\":3,\"kind\":1,\"inputs\":[]}", 4, 0),
     ("{\"nodes\":3,\"kind\":\"Mix\",\"inputs\":[]}", 4, 0),
     ("{\"nodes\":3,\"kind\":\"kv\",\"inputs\":[]}", 0, 0),
+    ("{\"nodes\":3,\"kind\":\"bank\",\"inputs\":[]}", 0, 0),
     ("{\"nodes\":3,\"kind\":\"KV\",\"inputs\":[]}", 4, 0),
     ("{\"nodes\":3,\"kind\":\"tally\",\"inputs\":[]}", 0, 0),
     ("{\"nodes\":3,\"kind\":\"share\",\"inputs\":[]}", 0, 0),
