@@ -1,12 +1,12 @@
 -- What the handlers of the kinds keep, send and output holds no line feed, where what they take holds none.
-use Rattle.std.proofs.Common.{◌≡◌, ℕ, zero, suc, ◌+◌, ◌-◌, ◌<◌, ◌^◌, ◌%◌, ◌/◌, List, [], ◌∷◌, length, take, drop, Bool, ◌==◌, true, false, if◌then◌else◌, nat_lt, bytes_eq, codes, Option, Some, None, IfSome, option_map, decimal, refl, subst, arith}
+use Rattle.std.proofs.Common.{◌≡◌, ℕ, zero, suc, ◌+◌, ◌-◌, ◌<◌, ◌^◌, ◌%◌, ◌/◌, List, [], ◌∷◌, ◌++◌, length, take, drop, Bool, ◌==◌, true, false, if◌then◌else◌, nat_lt, bytes_eq, codes, Option, Some, None, IfSome, option_map, decimal, refl, subst, arith}
 use Rattle.std.specs.List.{AllByRecursion, position}
 use Rattle.std.proofs.lemmas.List.Elements.{recursion_from_All}
 use Rattle.ken_num.specs.Numbers.{num}
 use Rattle.ken_num.proofs.Decimals.{All-decimal}
 use Rattle.ken_num.proofs.Small.{num-lt}
 use Rattle.ken_model.specs.declared.kinds.Kind.{Kind}
-use Rattle.ken_model.specs.declared.kinds.Kind.TheVariants.{Ring, Tally, Share, Mix, Kv}
+use Rattle.ken_model.specs.declared.kinds.Kind.TheVariants.{Ring, Tally, Share, Mix, Kv, Bank}
 use Rattle.ken_model.specs.declared.messages.Message.{Message}
 use Rattle.ken_model.specs.declared.messages.Send.{Send}
 use Rattle.ken_model.specs.declared.values.Block.{Block}
@@ -14,8 +14,11 @@ use Rattle.ken_model.specs.declared.values.Value.{Value}
 use Rattle.ken_model.specs.Effects.{Effect, answered, refused}
 use Rattle.ken_model.specs.Heap.{first_gap, with_block, without_block}
 use Rattle.ken_model.specs.KeyValue.{Command, Put, Get, Delete, at_space, put_of, key_of, command_in, command_of, is_key, pair_of, without_pair, put_at, get_from, delete_from, kv}
+use Rattle.ken_model.specs.Bank.{Order, Open, Move, Credit, account_of, balance_of, credit_text, opened, moved, moved_from, with_credit, bank, order_of}
 use Rattle.ken_model.specs.Kinds.{after, handler_of, ring, tally, share, mix, mix_counts, without_draws, to_others}
+use Rattle.ken_model.specs.Network.{empty_heap}
 use Rattle.ken_model.specs.Report.{IsOneLine}
+use Rattle.ken_model.proofs.OrdersRead.{IsNamed, OrderHas, order-has}
 use Rattle.ken_model.proofs.Others.{to_others-each}
 use Rattle.ken_app.specs.Lines.{ComesByLines, IsOfLines, KeepsLines, first, next}
 
@@ -123,6 +126,70 @@ text_kv value (Some (Put key pair)) texts fits = text_put value pair (pair_of ke
 text_kv value (Some (Get key)) texts fits = text_get value key (pair_of key value.blocks) texts (pair_text key value.blocks texts)
 text_kv value (Some (Delete key)) texts fits = text_delete value (pair_of key value.blocks) texts
 
+-- ---- kind bank, whose balances may hold line feeds: it never outputs or sends one
+
+-- what an effect sends and outputs has no line feeds, whatever the heap holds
+record TellsText (e : Effect) : Type 0 where
+  sends : SendTexts e.sends
+  outs : AllByRecursion IsOneLine e.outs
+
+tells_one : (value : Value) (text : List ℕ) → IsOneLine text → TellsText (answered value text)
+tells_one value text line = record { sends = tt; outs = (line, tt) }
+
+line_take : (n : ℕ) (bytes : List ℕ) → IsOneLine bytes → IsOneLine (take n bytes)
+line_take zero bytes line = tt
+line_take (suc n) [] line = tt
+line_take (suc n) (b ∷ bs) line = (line.0, line_take n bs line.1)
+
+line_append : (xs ys : List ℕ) → IsOneLine xs → IsOneLine ys → IsOneLine (xs ++ ys)
+line_append [] ys front back = back
+line_append (x ∷ xs) ys front back = (front.0, line_append xs ys front.1 back)
+
+line_ok : IsOneLine (codes "ok")
+line_ok = ((λ e. cc), ((λ e. cc), tt))
+
+line_bad : IsOneLine (codes "bad")
+line_bad = ((λ e. cc), ((λ e. cc), ((λ e. cc), tt)))
+
+line_got : IsOneLine (codes "got")
+line_got = ((λ e. cc), ((λ e. cc), ((λ e. cc), tt)))
+
+line_none : IsOneLine (codes "none")
+line_none = ((λ e. cc), ((λ e. cc), ((λ e. cc), ((λ e. cc), tt))))
+
+line_full : IsOneLine (codes "full")
+line_full = ((λ e. cc), ((λ e. cc), ((λ e. cc), ((λ e. cc), tt))))
+
+line_there : IsOneLine (codes "there")
+line_there = ((λ e. cc), ((λ e. cc), ((λ e. cc), ((λ e. cc), ((λ e. cc), tt)))))
+
+line_short : IsOneLine (codes "short")
+line_short = ((λ e. cc), ((λ e. cc), ((λ e. cc), ((λ e. cc), ((λ e. cc), tt)))))
+
+line_credit : (name : List ℕ) (amount : ℕ) → IsOneLine name → amount < 10 ^ 9 → IsOneLine (credit_text name amount)
+line_credit name amount line small =
+    let rest : IsOneLine (name ++ 32 ∷ decimal amount) = line_append name (32 ∷ decimal amount) line ((λ e. cc), line_decimal amount (omega (arith, small))) in
+    ((λ e. cc), ((λ e. cc), ((λ e. cc), ((λ e. cc), ((λ e. cc), ((λ e. cc), ((λ e. cc), rest)))))))
+
+tells_open : (value : Value) (name : List ℕ) (amount : ℕ) (a : Option Block) (gap : Option ℕ) → TellsText (opened value name amount a gap)
+tells_open value name amount (Some b) gap = tells_one value (codes "there") line_there
+tells_open value name amount None None = tells_one value (codes "full") line_full
+tells_open value name amount None (Some place) = tells_one _ (codes "ok") line_ok
+
+tells_move : (value : Value) (name : List ℕ) (amount to : ℕ) (other : List ℕ) (a : Option Block) → IsOneLine other → amount < 10 ^ 9 → TellsText (moved value name amount to other a)
+tells_move value name amount to other None line small = tells_one value (codes "none") line_none
+tells_move value name amount to other (Some b) line small = either TellsText (nat_lt (balance_of b.bytes) amount) _ _ (tells_one value (codes "short") line_short) (record { sends = (line_credit other amount line small, tt); outs = (line_ok, tt) })
+
+tells_bank : (nodes : ℕ) (value : Value) (m : Message) (o : Option Order) → IfSome o (OrderHas IsOneLine) → TellsText (bank nodes value m o)
+tells_bank nodes value m None has = tells_one value (codes "bad") line_bad
+tells_bank nodes value m (Some (Open name amount)) has = tells_open value name amount (account_of name value.blocks) (first_gap value (length name + 9))
+tells_bank nodes value m (Some (Move name amount to other)) has = either TellsText (nat_lt to nodes) _ _ (tells_move value name amount to other (account_of name value.blocks) has.1.holds has.2) (tells_one value (codes "bad") line_bad)
+tells_bank nodes value m (Some (Credit name amount)) has = either TellsText (m.from == 255) _ _ (tells_one value (codes "bad") line_bad) (tells_one _ (codes "got") line_got)
+
+-- a payload's order is of lines
+order_lines : (payload : List ℕ) → IsOneLine payload → IfSome (order_of payload) (OrderHas IsOneLine)
+order_lines payload line = order-has IsOneLine line_take line_drop payload line
+
 -- ---- the kinds that count
 
 one_send : (b : Bool) (to : ℕ) (bytes : List ℕ) → IsOneLine bytes → SendTexts (if b then record { to = to; bytes = bytes } ∷ [] else [])
@@ -164,23 +231,50 @@ text_mix nodes value (Some n) (clock ∷ word ∷ []) e texts small is =
     let same : mix_counts nodes value n clock word ≡ e = cc in
     subst IsText same made
 
+-- the blocks of a kind hold texts, but those of bank
+abbrev KeepsTexts : Kind → Value → Type 0
+KeepsTexts Bank value = Unit {0}
+KeepsTexts _ value = HoldsTexts value
+
+-- an effect of a kind without line feeds
+record IsKindText (kind : Kind) (e : Effect) : Type 0 where
+  value : KeepsTexts kind e.value
+  tells : TellsText e
+
+kept_text : (kind : Kind) (e : Effect) → (HoldsTexts e.value → KeepsTexts kind e.value) → IsText e → IsKindText kind e
+kept_text kind e keeps text = record { value = keeps text.value; tells = record { sends = text.sends; outs = text.outs } }
+
+bank_without_draws : (draws : List ℕ) (made e : Effect) → TellsText made → without_draws draws made ≡ Some e → IsKindText Bank e
+bank_without_draws [] made e tells is = let same : made ≡ e = cc in record { value = tt; tells = subst TellsText same tells }
+bank_without_draws (d ∷ ds) made e tells is = absurd cc
+
 -- whatever a handler makes
-text_after : (kind : Kind) (node nodes : ℕ) (value : Value) (m : Message) (draws : List ℕ) (e : Effect) → HoldsTexts value → IsOneLine m.bytes → after kind node nodes value m draws ≡ Some e → IsText e
+text_after : (kind : Kind) (node nodes : ℕ) (value : Value) (m : Message) (draws : List ℕ) (e : Effect) → KeepsTexts kind value → IsOneLine m.bytes → after kind node nodes value m draws ≡ Some e → IsKindText kind e
 unfolding after
-text_after Ring node nodes value m draws e texts line is = text_without_draws draws (ring node nodes value (num m.bytes)) e (text_ring node nodes value (num m.bytes) texts (num-lt m.bytes)) is
-text_after Tally node nodes value m draws e texts line is = text_without_draws draws (tally node nodes value m (num m.bytes)) e (text_tally node nodes value m (num m.bytes) texts line) is
-text_after Share node nodes value m draws e texts line is = text_without_draws draws (share node nodes value (num m.bytes)) e (text_share node nodes value (num m.bytes) texts (num-lt m.bytes)) is
-text_after Mix node nodes value m draws e texts line is = text_mix nodes value (num m.bytes) draws e texts (num-lt m.bytes) is
-text_after Kv node nodes value m draws e texts line is = text_without_draws draws (kv value (command_of m.bytes)) e (text_kv value (command_of m.bytes) texts (command_fits m.bytes line)) is
+text_after Ring node nodes value m draws e texts line is = kept_text Ring e (λ t. t) (text_without_draws draws (ring node nodes value (num m.bytes)) e (text_ring node nodes value (num m.bytes) texts (num-lt m.bytes)) is)
+text_after Tally node nodes value m draws e texts line is = kept_text Tally e (λ t. t) (text_without_draws draws (tally node nodes value m (num m.bytes)) e (text_tally node nodes value m (num m.bytes) texts line) is)
+text_after Share node nodes value m draws e texts line is = kept_text Share e (λ t. t) (text_without_draws draws (share node nodes value (num m.bytes)) e (text_share node nodes value (num m.bytes) texts (num-lt m.bytes)) is)
+text_after Mix node nodes value m draws e texts line is = kept_text Mix e (λ t. t) (text_mix nodes value (num m.bytes) draws e texts (num-lt m.bytes) is)
+text_after Kv node nodes value m draws e texts line is = kept_text Kv e (λ t. t) (text_without_draws draws (kv value (command_of m.bytes)) e (text_kv value (command_of m.bytes) texts (command_fits m.bytes line)) is)
+text_after Bank node nodes value m draws e texts line is = bank_without_draws draws (bank nodes value m (order_of m.bytes)) e (tells_bank nodes value m (order_of m.bytes) (order_lines m.bytes line)) is
+
+-- a first heap holds no text
+first_texts : (kind : Kind) (size : ℕ) → KeepsTexts kind (empty_heap size)
+first_texts Ring size = tt
+first_texts Tally size = tt
+first_texts Share size = tt
+first_texts Mix size = tt
+first_texts Kv size = tt
+first_texts Bank size = tt
 
 -- so a kind keeps lines
-holds_texts : (kind : Kind) (node nodes size : ℕ) (value : Value) → ComesByLines (handler_of kind) node nodes size value → HoldsTexts value
-holds_texts kind node nodes size _ first = tt
+holds_texts : (kind : Kind) (node nodes size : ℕ) (value : Value) → ComesByLines (handler_of kind) node nodes size value → KeepsTexts kind value
+holds_texts kind node nodes size _ first = first_texts kind size
 holds_texts kind node nodes size _ (next {value} {m} {draws} {effect} comes call line is) = (text_after kind node nodes value m draws effect (holds_texts kind node nodes size value comes) line is).value
 
-of_lines : (o : Option Effect) → ((e : Effect) → o ≡ Some e → IsText e) → IfSome o IsOfLines
-of_lines None text = tt
-of_lines (Some e) text = let is = text e refl in record { sends = is.sends; outs = is.outs }
+of_lines : (kind : Kind) (o : Option Effect) → ((e : Effect) → o ≡ Some e → IsKindText kind e) → IfSome o IsOfLines
+of_lines kind None text = tt
+of_lines kind (Some e) text = let is = (text e refl).tells in record { sends = is.sends; outs = is.outs }
 
 pub kinds_keep_lines : (kind : Kind) (nodes size : ℕ) → KeepsLines nodes size (handler_of kind)
-kinds_keep_lines kind nodes size node value m draws comes call line = of_lines (after kind node nodes value m draws) (λ e is. text_after kind node nodes value m draws e (holds_texts kind node nodes size value comes) line is)
+kinds_keep_lines kind nodes size node value m draws comes call line = of_lines kind (after kind node nodes value m draws) (λ e is. text_after kind node nodes value m draws e (holds_texts kind node nodes size value comes) line is)

@@ -28,3 +28,4 @@ pub mod Unique
 pub mod Valid
 pub mod First
 pub mod ReadBack
+pub mod OrdersRead

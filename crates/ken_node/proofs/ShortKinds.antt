@@ -1,18 +1,22 @@
 -- What a kind keeps, sends and outputs is short.
-use Rattle.std.proofs.Common.{◌≡◌, ℕ, ◌+◌, ◌-◌, ◌<◌, ◌≤◌, ◌^◌, ◌%◌, ◌/◌, List, [], ◌∷◌, length, take, drop, Bool, ◌==◌, true, false, if◌then◌else◌, nat_lt, bytes_eq, codes, Option, Some, None, IfSome, option_map, decimal, refl, subst, arith}
+use Rattle.std.proofs.Common.{◌≡◌, ℕ, ◌+◌, ◌-◌, ◌<◌, ◌≤◌, ◌^◌, ◌%◌, ◌/◌, List, [], ◌∷◌, ◌++◌, length, take, drop, Bool, ◌==◌, true, false, if◌then◌else◌, nat_lt, bytes_eq, codes, Option, Some, None, IfSome, option_map, decimal, refl, subst, arith}
 use Rattle.std.specs.List.{AllByRecursion, position}
+use Rattle.std.proofs.lemmas.Bool.Decides.{nat_tests}
 use Rattle.std.proofs.lemmas.Fmt.{length-decimal-le}
-use Rattle.std.proofs.lemmas.List.{length-drop}
+use Rattle.std.proofs.lemmas.List.{length-drop, length-append}
 use Rattle.ken_model.specs.declared.kinds.Kind.{Kind}
-use Rattle.ken_model.specs.declared.kinds.Kind.TheVariants.{Ring, Tally, Share, Mix, Kv}
+use Rattle.ken_model.specs.declared.kinds.Kind.TheVariants.{Ring, Tally, Share, Mix, Kv, Bank}
 use Rattle.ken_model.specs.declared.values.Block.{Block}
 use Rattle.ken_model.specs.declared.values.Value.{Value}
 use Rattle.ken_model.specs.declared.messages.Message.{Message}
 use Rattle.ken_model.specs.declared.messages.Send.{Send}
 use Rattle.ken_model.specs.Effects.{Effect, answered, refused}
-use Rattle.ken_model.specs.Heap.{first_gap, with_block, without_block}
+use Rattle.ken_model.specs.Heap.{first_gap, with_block, with_bytes, without_block}
+use Rattle.ken_model.specs.Bank.{Order, Open, Move, Credit, account, account_of, balance_of, credit_text, opened, moved, moved_from, with_account, with_balance, with_credit, bank, order_of}
 use Rattle.ken_model.specs.Kinds.{after, handler_of, mix, mix_counts, ring, share, tally, to_others, without_draws}
 use Rattle.ken_model.specs.KeyValue.{Command, Put, Get, Delete, at_space, put_of, key_of, command_in, command_of, is_key, pair_of, without_pair, put_at, get_from, delete_from, kv}
+use Rattle.ken_model.proofs.Heaps.{account-length}
+use Rattle.ken_model.proofs.OrdersRead.{IsNamed, OrderHas, order-has}
 use Rattle.ken_model.proofs.Others.{to_others-each, to_others-few}
 use Rattle.ken_num.specs.Numbers.{num}
 use Rattle.ken_num.proofs.Small.{num-lt}
@@ -102,6 +106,57 @@ short_kv nodes value (Some (Put key pair)) all fits = short_put nodes value pair
 short_kv nodes value (Some (Get key)) all fits = short_get nodes value key (pair_of key value.blocks) all (pair_short key value.blocks all)
 short_kv nodes value (Some (Delete key)) all fits = short_delete nodes value (pair_of key value.blocks) all
 
+-- ---- kind bank
+
+short_bytes : (place : ℕ) (bytes : List ℕ) (bs : List Block) → IsShortText bytes → AreShort bs → AreShort (with_bytes place bytes bs)
+short_bytes place bytes [] short all = tt
+short_bytes place bytes (b ∷ bs) short all = either AreShort (b.place == place) (record b { bytes = bytes } ∷ bs) (b ∷ with_bytes place bytes bs) (short, all.1) (all.0, short_bytes place bytes bs short all.1)
+
+-- a name that is read is short
+abbrev IsShortName : List ℕ → Type 0
+IsShortName name = IsNamed (λ _. Unit {0}) name
+
+short_account : (name : List ℕ) (balance : ℕ) → IsShortName name → IsShortText (account name balance)
+short_account name balance named = omega (arith, account-length name balance, named.few)
+
+short_credit : (name : List ℕ) (amount : ℕ) → IsShortName name → amount < 10 ^ 9 → IsShortText (credit_text name amount)
+short_credit name amount named small =
+    let digits = length-decimal-le 9 amount (omega arith) small (omega (arith, small)) in
+    let count : length (name ++ 32 ∷ decimal amount) ≡ length name + length (32 ∷ decimal amount) = length-append name (32 ∷ decimal amount) in
+    omega (arith, digits, count, named.few)
+
+short_open : (nodes : ℕ) (value : Value) (name : List ℕ) (amount : ℕ) (a : Option Block) (gap : Option ℕ) → AreShort value.blocks → IsShortName name → IsShort nodes (opened value name amount a gap)
+short_open nodes value name amount (Some b) gap all named = one_answer nodes value (codes "there") all (omega arith)
+short_open nodes value name amount None None all named = one_answer nodes value (codes "full") all (omega arith)
+short_open nodes value name amount None (Some place) all named = one_answer nodes _ (codes "ok") (short_with (record { place = place; bytes = account name amount }) value.blocks (short_account name amount named) all) (omega arith)
+
+short_moved : (nodes : ℕ) (value : Value) (name : List ℕ) (amount to : ℕ) (other : List ℕ) (b : Block) → to < nodes → AreShort value.blocks → IsShortName name → IsShortName other → amount < 10 ^ 9 → IsShort nodes (moved_from value name amount to other b)
+short_moved nodes value name amount to other b known all named others small = either (IsShort nodes) (nat_lt (balance_of b.bytes) amount) _ _ (one_answer nodes value (codes "short") all (omega arith))
+    (record { allowed = record { few_sends = omega arith; few_outs = omega arith; sends = ((known, short_credit other amount others small), tt); outs = (omega arith, tt) }; blocks = short_bytes b.place (account name (balance_of b.bytes - amount)) value.blocks (short_account name (balance_of b.bytes - amount) named) all })
+
+short_move : (nodes : ℕ) (value : Value) (name : List ℕ) (amount to : ℕ) (other : List ℕ) (a : Option Block) → to < nodes → AreShort value.blocks → IsShortName name → IsShortName other → amount < 10 ^ 9 → IsShort nodes (moved value name amount to other a)
+short_move nodes value name amount to other None known all named others small = one_answer nodes value (codes "none") all (omega arith)
+short_move nodes value name amount to other (Some b) known all named others small = short_moved nodes value name amount to other b known all named others small
+
+credit_blocks : (value : Value) (name : List ℕ) (amount : ℕ) (a : Option Block) (gap : Option ℕ) → AreShort value.blocks → IsShortName name → AreShort (with_credit value name amount a gap).blocks
+credit_blocks value name amount (Some b) gap all named = short_bytes b.place (account name ((balance_of b.bytes + amount) % 2 ^ 64)) value.blocks (short_account name ((balance_of b.bytes + amount) % 2 ^ 64) named) all
+credit_blocks value name amount None (Some place) all named = short_with (record { place = place; bytes = account name amount }) value.blocks (short_account name amount named) all
+credit_blocks value name amount None None all named = all
+
+-- a test tells that the node is of the run
+if_known : (nodes to : ℕ) (x y : Effect) → (to < nodes → IsShort nodes x) → IsShort nodes y → IsShort nodes (if nat_lt to nodes then x else y)
+if_known nodes to x y known other = go (nat_lt to nodes) (λ e. grind (arith, nat_tests, e))
+  where
+    go : (t : Bool) → (t ≡ true → to < nodes) → IsShort nodes (if t then x else y)
+    go true is = known (is refl)
+    go false is = other
+
+short_bank : (nodes : ℕ) (value : Value) (m : Message) (o : Option Order) → AreShort value.blocks → IfSome o (OrderHas (λ _. Unit {0})) → IsShort nodes (bank nodes value m o)
+short_bank nodes value m None all has = one_answer nodes value (codes "bad") all (omega arith)
+short_bank nodes value m (Some (Open name amount)) all has = short_open nodes value name amount (account_of name value.blocks) (first_gap value (length name + 9)) all has.0
+short_bank nodes value m (Some (Move name amount to other)) all has = if_known nodes to _ _ (λ known. short_move nodes value name amount to other (account_of name value.blocks) known all has.0 has.1 has.2) (one_answer nodes value (codes "bad") all (omega arith))
+short_bank nodes value m (Some (Credit name amount)) all has = either (IsShort nodes) (m.from == 255) _ _ (one_answer nodes value (codes "bad") all (omega arith)) (one_answer nodes _ (codes "got") (credit_blocks value name amount (account_of name value.blocks) (first_gap value (length name + 9)) all has.0) (omega arith))
+
 -- ---- the kinds that count
 
 short_decimal : (n : ℕ) → n < 2 ^ 64 → IsShortText (decimal n)
@@ -164,6 +219,7 @@ short_after Tally node nodes value m draws e some few all short is = undrawn nod
 short_after Share node nodes value m draws e some few all short is = undrawn node nodes value some all draws (share node nodes value (num m.bytes)) e (short_share node nodes value some all (num m.bytes) (num-lt m.bytes)) is
 short_after Mix node nodes value m draws e some few all short is = short_mix node nodes value some all (num m.bytes) draws e (num-lt m.bytes) is
 short_after Kv node nodes value m draws e some few all short is = undrawn node nodes value some all draws (kv value (command_of m.bytes)) e (short_kv nodes value (command_of m.bytes) all (fits_in m.bytes (position (λ b. b == 32) m.bytes) short)) is
+short_after Bank node nodes value m draws e some few all short is = undrawn node nodes value some all draws (bank nodes value m (order_of m.bytes)) e (short_bank nodes value m (order_of m.bytes) all (order-has (λ _. Unit {0}) (λ n bytes p. tt) (λ n bytes p. tt) m.bytes tt)) is
 
 -- the blocks of a heap that a kind comes to are short
 comes_short : (kind : Kind) (node nodes size : ℕ) (value : Value) → ComesTo (handler_of kind) node nodes size value → AreShort value.blocks
