@@ -5,6 +5,7 @@ mod accounts;
 mod bank;
 mod kind_app;
 mod kv;
+mod laws;
 mod mix;
 mod pairs;
 mod ring;
@@ -12,3 +13,4 @@ mod share;
 mod tally;
 
 pub use kind_app::KindApp;
+pub use laws::money_is_kept;
