@@ -8,4 +8,5 @@ pub mod MoneyTurns
 pub mod MoneyMoves
 pub mod MoneySound
 pub mod MoneyKept
+pub mod MoneyForms
 mod MoneyRows

@@ -64,7 +64,7 @@ kept_from g w stamp node (s ∷ ss) is_bank limits sound legal =
 
 opening_small : (o : Option Order) → IfSome o IsRead → opening_of o ≤ 10 ^ 9
 opening_small None read = omega arith
-opening_small (Some (Open name n)) read = omega (arith, read)
+opening_small (Some (Open name n)) read = omega (arith, read.0)
 opening_small (Some (Move name n to other)) read = omega arith
 opening_small (Some (Credit name n)) read = omega arith
 

@@ -133,34 +133,45 @@ either_some : {A : Type 0} (P : A → Type 0) (b : Bool) (x y : Option A) → If
 either_some P true x y first other = first
 either_some P false x y first other = other
 
--- an order's amount is small, and the name that it sends on is one
+-- a name that an order gives
+abbrev pub IsName : List ℕ → Type 0
+IsName name = name_of name ≡ Some name
+
+-- an order's amount is small, and its names are names
 abbrev pub IsRead : Order → Type 0
-IsRead (Open name amount) = amount < 10 ^ 9
-IsRead (Move name amount to other) = (amount < 10 ^ 9) × (name_of other ≡ Some other)
-IsRead (Credit name amount) = amount < 10 ^ 9
+IsRead (Open name amount) = (amount < 10 ^ 9) × IsName name
+IsRead (Move name amount to other) = (amount < 10 ^ 9) × IsName name × IsName other
+IsRead (Credit name amount) = (amount < 10 ^ 9) × IsName name
 
 num_small : (bytes : List ℕ) → IfSome (num bytes) (λ n. n < 10 ^ 9)
 num_small bytes = if_some (λ n. n < 10 ^ 9) (num bytes) (num-lt bytes)
 
-named_small : (bytes : List ℕ) → IfSome (named_amount bytes) (λ (p : List ℕ × ℕ). p.1 < 10 ^ 9)
-named_small bytes = then_some (λ p. Unit {0}) _ _ (at_name bytes) (any_some (at_name bytes)) (λ name any. map_some (λ n. n < 10 ^ 9) _ _ (num name.1) (num_small name.1) (λ n small. small))
+name_read : (bytes : List ℕ) → IfSome (name_of bytes) IsName
+name_read bytes = if_some IsName (name_of bytes) (name_again bytes)
+
+at_name_read : (bytes : List ℕ) → IfSome (at_name bytes) (λ (p : List ℕ × List ℕ). IsName p.0)
+at_name_read bytes = then_some (λ p. Unit {0}) _ _ (at_space bytes) (any_some (at_space bytes)) (λ parts any. map_some IsName _ _ (name_of parts.0) (name_read parts.0) (λ name named. named))
 
 at_num_small : (bytes : List ℕ) → IfSome (at_num bytes) (λ (p : ℕ × List ℕ). p.0 < 10 ^ 9)
 at_num_small bytes = then_some (λ p. Unit {0}) _ _ (at_space bytes) (any_some (at_space bytes)) (λ parts any. map_some (λ n. n < 10 ^ 9) _ _ (num parts.0) (num_small parts.0) (λ n small. small))
 
+named_read : (bytes : List ℕ) → IfSome (named_amount bytes) (λ (p : List ℕ × ℕ). (p.1 < 10 ^ 9) × IsName p.0)
+named_read bytes = then_some (λ (p : List ℕ × List ℕ). IsName p.0) _ _ (at_name bytes) (at_name_read bytes) (λ name named. map_some (λ n. n < 10 ^ 9) _ _ (num name.1) (num_small name.1) (λ n small. (small, named)))
+
 move_read : (bytes : List ℕ) → IfSome (move_of bytes) IsRead
 move_read bytes =
-    then_some (λ p. Unit {0}) IsRead _ (at_name bytes) (any_some (at_name bytes)) (λ name any.
+    then_some (λ (p : List ℕ × List ℕ). IsName p.0) IsRead _ (at_name bytes) (at_name_read bytes) (λ name named.
     then_some (λ (p : ℕ × List ℕ). p.0 < 10 ^ 9) IsRead _ (at_num name.1) (at_num_small name.1) (λ amount small.
     then_some (λ p. Unit {0}) IsRead _ (at_num amount.1) (any_some (at_num amount.1)) (λ to any.
-    map_some (λ other. name_of other ≡ Some other) IsRead _ (name_of to.1) (if_some _ (name_of to.1) (name_again to.1)) (λ other named. (small, named)))))
+    map_some IsName IsRead _ (name_of to.1) (name_read to.1) (λ other other_named. (small, named, other_named)))))
 
 order_in_read : (o : Option (List ℕ × List ℕ)) → IfSome (order_in o) IsRead
 order_in_read None = tt
 order_in_read (Some parts) =
-    either_some IsRead (bytes_eq parts.0 (codes "open")) _ _ (map_some (λ (p : List ℕ × ℕ). p.1 < 10 ^ 9) IsRead _ (named_amount parts.1) (named_small parts.1) (λ p small. small))
+    let P : List ℕ × ℕ → Type 0 = λ p. (p.1 < 10 ^ 9) × IsName p.0 in
+    either_some IsRead (bytes_eq parts.0 (codes "open")) _ _ (map_some P IsRead _ (named_amount parts.1) (named_read parts.1) (λ p read. read))
     (either_some IsRead (bytes_eq parts.0 (codes "move")) _ _ (move_read parts.1)
-    (either_some IsRead (bytes_eq parts.0 (codes "credit")) _ _ (map_some (λ (p : List ℕ × ℕ). p.1 < 10 ^ 9) IsRead _ (named_amount parts.1) (named_small parts.1) (λ p small. small)) tt))
+    (either_some IsRead (bytes_eq parts.0 (codes "credit")) _ _ (map_some P IsRead _ (named_amount parts.1) (named_read parts.1) (λ p read. read)) tt))
 
 pub order_read : (payload : List ℕ) → IfSome (order_of payload) IsRead
 order_read payload = order_in_read (at_space payload)

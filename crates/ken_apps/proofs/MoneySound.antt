@@ -125,7 +125,7 @@ sound_first g limits = record {
 
 -- ---- after a step
 
-all_append : (P : Message → Type 0) (xs ys : List Message) → AllByRecursion P xs → AllByRecursion P ys → AllByRecursion P (xs ++ ys)
+pub all_append : (P : Message → Type 0) (xs ys : List Message) → AllByRecursion P xs → AllByRecursion P ys → AllByRecursion P (xs ++ ys)
 all_append P [] ys first later = later
 all_append P (x ∷ xs) ys first later = (first.0, all_append P xs ys first.1 later)
 

@@ -11,7 +11,7 @@ use Rattle.ken_model.specs.Heap.{AreBlocks, first_gap, block_at}
 use Rattle.ken_model.specs.Bank.{Order, Open, Move, Credit, name_of, order_of, account, balance_of, account_of, with_account, with_balance, opened, credit_text, moved_from, moved, with_credit, bank}
 use Rattle.ken_apps.specs.Money.{held_in, credit_of, opening_of, is_ok}
 use Rattle.ken_apps.proofs.MoneyBlocks.{balance_account, balances, balances_with, balances_changed, account_stands}
-use Rattle.ken_apps.proofs.MoneyRead.{IsRead, credit_again}
+use Rattle.ken_apps.proofs.MoneyRead.{IsName, IsRead, credit_again}
 
 -- what an order brings to a node: a credit that isn't from outside
 abbrev pub brought : Bool → Option Order → ℕ
@@ -61,8 +61,8 @@ module _ (nodes : ℕ) (v : Value) where
       record { lost = n / 2 ^ 64; money = omega (arith, held_with_account place name n v, none) }
 
   -- what a move sends
-  posted_credit : (to n : ℕ) (other : List ℕ) → nat_lt to nodes ≡ true → IsRead (Move [] n to other) → posted nodes (record { to = to; bytes = credit_text other n } ∷ []) ≡ n
-  posted_credit to n other known read = rw known (zero-add (credit_of (order_of (credit_text other n))) ∙ ap credit_of (credit_again other n read.1 read.0))
+  posted_credit : (to n : ℕ) (other : List ℕ) → nat_lt to nodes ≡ true → n < 10 ^ 9 → IsName other → posted nodes (record { to = to; bytes = credit_text other n } ∷ []) ≡ n
+  posted_credit to n other known small named = rw known (zero-add (credit_of (order_of (credit_text other n))) ∙ ap credit_of (credit_again other n named small))
 
   moved_from_fair : (outside : Bool) (name : List ℕ) (n to : ℕ) (other : List ℕ) (b : Block) → nat_lt to nodes ≡ true → IsRead (Move name n to other) → block_at b.place v.blocks ≡ Some b.bytes → IsFair nodes outside (Some (Move name n to other)) v (moved_from v name n to other b)
   moved_from_fair outside name n to other b known read stands = go (nat_lt (balance_of b.bytes) n) refl
@@ -79,7 +79,7 @@ module _ (nodes : ℕ) (v : Value) where
       go false is =
           let enough : n ≤ balance_of b.bytes = ltb-false (balance_of b.bytes) n is in
           let left = held_with_balance b.place name (balance_of b.bytes - n) b.bytes v stands in
-          let sent = posted_credit to n other known read in
+          let sent = posted_credit to n other known read.0 read.2 in
           record { lost = (balance_of b.bytes - n) / 2 ^ 64; money = omega (arith, left, sent, none, enough) }
 
   moved_fair : (outside : Bool) (name : List ℕ) (n to : ℕ) (other : List ℕ) (found : Option Block) → nat_lt to nodes ≡ true → IsRead (Move name n to other) → ((b : Block) → found ≡ Some b → block_at b.place v.blocks ≡ Some b.bytes) → IsFair nodes outside (Some (Move name n to other)) v (moved v name n to other found)

@@ -1,16 +1,17 @@
 -- The money of a bank's game: what its nodes hold, what is on its way between them, and what was opened.
-use Rattle.std.specs.Prelude.{◌≡◌, ℕ, ◌+◌, List, [], ◌∷◌, drop, Bool, false, if◌then◌else◌, bytes_eq, Option, Some, None, codes, sum_by}
+use Rattle.std.specs.Prelude.{◌≡◌, ℕ, ◌+◌, ◌<◌, ◌^◌, List, [], ◌∷◌, drop, Bool, false, if◌then◌else◌, bytes_eq, Option, Some, None, codes, sum_by}
+use Rattle.std.specs.List.{AllByRecursion}
 use Rattle.ken_model.specs.declared.kinds.Kind.TheVariants.{Bank}
 use Rattle.ken_model.specs.declared.messages.Message.{Message}
 use Rattle.ken_model.specs.declared.messages.Step.{Step}
 use Rattle.ken_model.specs.declared.values.Block.{Block}
 use Rattle.ken_model.specs.declared.values.Value.{Value}
-use Rattle.ken_model.specs.Bank.{Order, Open, Move, Credit, order_of, balance_of}
+use Rattle.ken_model.specs.Bank.{Order, Open, Move, Credit, name_of, order_of, account, balance_of, credit_text}
 use Rattle.ken_model.specs.Ending.{nodes_of}
 use Rattle.ken_model.specs.Game.{Game}
 use Rattle.ken_model.specs.Kinds.{handler_of}
 use Rattle.ken_model.specs.Limits.{IsWithinLimits}
-use Rattle.ken_model.specs.Network.{Network, Turn, start, turn_of, stepped}
+use Rattle.ken_model.specs.Network.{Network, Turn, outside, start, turn_of, stepped}
 use Rattle.ken_model.specs.Schedule.{IsLegal, play}
 
 -- what a heap holds: its root, and the balances of its accounts
@@ -61,3 +62,25 @@ IsBank g = g.handler ≡ handler_of Bank
 abbrev pub MoneyIsKept : Type 0
 MoneyIsKept = (g : Game) (schedule : List Step) → IsBank g → IsWithinLimits g → IsLegal g schedule
     → held g (play g schedule) + on_the_way g (play g schedule) ≡ opened_from g (start g) schedule
+
+-- a block is an account: a name, a space, and a balance in 8 bytes
+pub record HasAccount (b : Block) : Type 0 where
+  pub name : List ℕ
+  pub balance : ℕ
+  pub named : name_of name ≡ Some name
+  pub bytes : b.bytes ≡ account name balance
+
+-- after any schedule of a bank each block of a node is an account, so what heaps hold is in roots and accounts
+abbrev pub BlocksAreAccounts : Type 0
+BlocksAreAccounts = (g : Game) (schedule : List Step) → IsBank g → (v : ℕ) → AllByRecursion HasAccount ((play g schedule).place v).value.blocks
+
+-- a message is a credit, as it is read
+pub record IsCredit (m : Message) : Type 0 where
+  pub name : List ℕ
+  pub amount : ℕ
+  pub bytes : m.bytes ≡ credit_text name amount
+  pub read : order_of m.bytes ≡ Some (Credit name amount)
+
+-- and each message of a node is a credit
+abbrev pub MessagesAreCredits : Type 0
+MessagesAreCredits = (g : Game) (schedule : List Step) → IsBank g → (u v : ℕ) → (u ≡ outside → ⊥) → AllByRecursion IsCredit ((play g schedule).link u v).sent

@@ -13,4 +13,4 @@ mod share;
 mod tally;
 
 pub use kind_app::KindApp;
-pub use laws::money_is_kept;
+pub use laws::{blocks_are_accounts, messages_are_credits, money_is_kept};
