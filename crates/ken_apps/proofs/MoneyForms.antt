@@ -1,19 +1,17 @@
 -- Each block of a bank is an account, and each message of a node is a credit.
-use Rattle.std.proofs.Common.{◌≡◌, ℕ, ◌+◌, ◌-◌, ◌%◌, ◌^◌, ◌<◌, List, [], ◌∷◌, ◌++◌, length, Bool, true, false, ◌==◌, nat_lt, if◌then◌else◌, codes, Option, Some, None, IfSome, refl, sym, ap, ◌∙◌, subst, arith, ne_eqb}
-use Rattle.std.specs.Prelude.{option_map, option_and_then}
+use Rattle.std.proofs.Common.{◌≡◌, ℕ, ◌+◌, ◌-◌, ◌%◌, ◌^◌, List, [], ◌∷◌, ◌++◌, length, Bool, true, false, ◌==◌, nat_lt, if◌then◌else◌, codes, Option, Some, None, IfSome, refl, subst, ne_eqb}
 use Rattle.std.specs.List.{AllByRecursion}
-use Rattle.ken_model.specs.declared.kinds.Kind.TheVariants.{Bank}
 use Rattle.ken_model.specs.declared.messages.Message.{Message}
 use Rattle.ken_model.specs.declared.messages.Send.{Send}
 use Rattle.ken_model.specs.declared.messages.Step.{Step}
 use Rattle.ken_model.specs.declared.messages.TheConstants.{OUTSIDE}
 use Rattle.ken_model.specs.declared.values.Block.{Block}
 use Rattle.ken_model.specs.declared.values.Value.{Value}
-use Rattle.ken_model.specs.Bank.{Order, Open, Move, Credit, name_of, order_of, account, balance_of, account_of, with_account, with_balance, opened, credit_text, moved_from, moved, with_credit, bank}
+use Rattle.ken_model.specs.Bank.{Order, Open, Move, Credit, order_of, account, balance_of, account_of, with_account, with_balance, opened, credit_text, moved, with_credit, bank}
 use Rattle.ken_model.specs.Effects.{Effect, answered}
 use Rattle.ken_model.specs.Game.{Game}
 use Rattle.ken_model.specs.Heap.{first_gap, with_block, with_bytes}
-use Rattle.ken_model.specs.Network.{Network, Place, Turn, outside, start, inputs_for, numbered, turn_of, place_after, applied, applied_or_same, stepped}
+use Rattle.ken_model.specs.Network.{Network, Place, Turn, outside, start, inputs_for, numbered, turn_of, place_after, applied_or_same, stepped}
 use Rattle.ken_model.specs.Schedule.{played}
 use Rattle.ken_apps.specs.Money.{HasAccount, IsCredit, IsBank, BlocksAreAccounts, MessagesAreCredits}
 use Rattle.ken_apps.proofs.MoneyRead.{IsName, IsRead, order_read, credit_again}

@@ -1,25 +1,22 @@
 -- Over any legal schedule of a bank no money is made or lost.
-use Rattle.std.proofs.Common.{◌≡◌, ℕ, zero, suc, ◌+◌, ◌*◌, ◌^◌, ◌<◌, ◌≤◌, List, [], ◌∷◌, drop, Bool, true, false, ◌==◌, not, nat_lt, if◌then◌else◌, Option, Some, None, IfSome, refl, sym, ap, ◌∙◌, subst, arith, ne_eqb}
+use Rattle.std.proofs.Common.{◌≡◌, ℕ, ◌+◌, ◌*◌, ◌^◌, ◌<◌, ◌≤◌, List, [], ◌∷◌, drop, Bool, true, false, ◌==◌, not, nat_lt, if◌then◌else◌, Option, Some, None, IfSome, refl, sym, ap, subst, arith, ne_eqb}
 use Rattle.std.specs.Prelude.{sum_by}
 use Rattle.std.specs.List.{range_with_len}
 use Rattle.std.proofs.Math.Nat.{mul-le-mul}
-use Rattle.std.proofs.lemmas.Bool.{eqb-true}
 use Rattle.ken_model.specs.declared.facts.TheConstants.{MAX_NODES, MAX_TURNS}
-use Rattle.ken_model.specs.declared.messages.Message.{Message}
 use Rattle.ken_model.specs.declared.messages.Step.{Step}
 use Rattle.ken_model.specs.declared.messages.TheConstants.{OUTSIDE}
 use Rattle.ken_model.specs.Game.{Game}
-use Rattle.ken_model.specs.Heap.{IsHeap}
 use Rattle.ken_model.specs.Limits.{IsWithinLimits}
 use Rattle.ken_model.specs.Network.{Network, Place, Turn, outside, start, inputs_for, turn_of, place_after, applied, applied_or_same, stepped}
 use Rattle.ken_model.specs.Schedule.{IsLegalFrom, played}
 use Rattle.ken_model.specs.Bank.{Order, Open, Move, Credit, order_of}
-use Rattle.ken_apps.specs.Money.{held_in, held, credit_of, credit_in, on_the_way, opening_of, is_ok, opened_by, opened_from, IsBank, MoneyIsKept}
-use Rattle.ken_apps.proofs.MoneyMoves.{amount_of, held_after, way_after}
+use Rattle.ken_apps.specs.Money.{held, credit_of, credit_in, on_the_way, opening_of, is_ok, opened_by, opened_from, IsBank, MoneyIsKept}
+use Rattle.ken_apps.proofs.MoneyMoves.{held_after, way_after}
 use Rattle.ken_apps.proofs.MoneyRead.{IsRead, order_read}
 use Rattle.ken_apps.proofs.MoneySound.{IsTurn, is_turn, bank_made, IsFrom, IsSound, sound_first, sound_after, all_get}
 use Rattle.ken_apps.proofs.MoneySums.{sum_zero, sum_none, sum_below, sum_balance, at_one, sum_one}
-use Rattle.ken_apps.proofs.MoneyTurns.{IsFair, bank_fair, brought, posted}
+use Rattle.ken_apps.proofs.MoneyTurns.{IsFair, bank_fair, brought}
 
 -- ---- a step
 

@@ -1,5 +1,5 @@
 -- A step of a bank's network neither makes nor loses money.
-use Rattle.std.proofs.Common.{◌≡◌, ℕ, ◌+◌, ◌*◌, ◌^◌, ◌<◌, ◌≤◌, List, [], ◌∷◌, ◌++◌, length, get_or, drop, Bool, true, false, ◌==◌, ◌&&◌, not, nat_lt, if◌then◌else◌, Option, Some, None, slice_get, refl, sym, ap, ◌∙◌, subst, inl, inr, ⊎_elim, arith, eq-eqb, ne_eqb, lt-ltb}
+use Rattle.std.proofs.Common.{◌≡◌, ℕ, ◌+◌, ◌<◌, ◌≤◌, List, [], ◌∷◌, ◌++◌, length, get_or, drop, Bool, true, false, ◌==◌, ◌&&◌, nat_lt, if◌then◌else◌, Some, slice_get, refl, sym, ap, ◌∙◌, subst, ⊎_elim, arith, eq-eqb, ne_eqb}
 use Rattle.std.specs.Prelude.{sum_by}
 use Rattle.std.specs.List.{range_with_len}
 use Rattle.std.proofs.lemmas.Bool.{cases_eq, eqb-true}
@@ -9,9 +9,8 @@ use Rattle.std.proofs.lemmas.Option.{slice_get_within, get_or_from_slice_get}
 use Rattle.ken_model.specs.declared.messages.Message.{Message}
 use Rattle.ken_model.specs.declared.messages.Send.{Send}
 use Rattle.ken_model.specs.declared.messages.Step.{Step}
-use Rattle.ken_model.specs.declared.messages.TheConstants.{OUTSIDE}
 use Rattle.ken_model.specs.Game.{Game}
-use Rattle.ken_model.specs.Network.{Network, Place, Link, Turn, numbered, place_after, link_after, applied}
+use Rattle.ken_model.specs.Network.{Network, Place, Turn, numbered, place_after, applied}
 use Rattle.ken_model.specs.Bank.{order_of}
 use Rattle.ken_apps.specs.Money.{held_in, held, credit_of, credit_in, on_the_way}
 use Rattle.ken_apps.proofs.MoneySums.{and_both, sum_balance, sum_both, sum_zero, at_one, sum_one, sum_at, at_pair, sum_pair, at_row, sum_row}

@@ -1,5 +1,5 @@
 -- A worked game of a bank, computed from the definitions: what is held, on its way and opened after each turn.
-use Rattle.std.proofs.Common.{◌≡◌, ℕ, List, [], ◌∷◌, codes, inl, refl, arith}
+use Rattle.std.proofs.Common.{◌≡◌, [], ◌∷◌, codes, inl, refl, arith}
 use Rattle.std.specs.Fmt.{digits}
 use Rattle.ken_model.specs.declared.kinds.Kind.TheVariants.{Bank}
 use Rattle.ken_model.specs.declared.messages.Step.{Step}

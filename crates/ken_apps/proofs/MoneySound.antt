@@ -6,7 +6,6 @@ use Rattle.std.proofs.lemmas.Bool.{eqb-true, ltb-true}
 use Rattle.std.proofs.lemmas.Bool.Decides.{nat_tests}
 use Rattle.std.proofs.lemmas.Option.{slice_get_within}
 use Rattle.ken_model.specs.declared.facts.Input.{Input}
-use Rattle.ken_model.specs.declared.facts.TheConstants.{MAX_NODES}
 use Rattle.ken_model.specs.declared.kinds.Kind.TheVariants.{Bank}
 use Rattle.ken_model.specs.declared.messages.Message.{Message}
 use Rattle.ken_model.specs.declared.messages.Send.{Send}
@@ -17,7 +16,7 @@ use Rattle.ken_model.specs.Effects.{Effect}
 use Rattle.ken_model.specs.Game.{Game}
 use Rattle.ken_model.specs.Heap.{IsHeap}
 use Rattle.ken_model.specs.Limits.{IsWithinLimits}
-use Rattle.ken_model.specs.Network.{Network, Place, Link, Turn, outside, start, front, are_words, handled, numbered, inputs_from, inputs_for, turn_at, turn_of, place_after, applied}
+use Rattle.ken_model.specs.Network.{Network, Place, Turn, outside, start, front, are_words, numbered, inputs_from, inputs_for, turn_at, turn_of, place_after, applied}
 use Rattle.ken_model.specs.Kinds.{after, without_draws}
 use Rattle.ken_model.specs.Bank.{order_of, bank}
 use Rattle.ken_model.proofs.Heaps.{heap_after}

@@ -1,5 +1,5 @@
 -- A turn of a bank neither makes nor loses money.
-use Rattle.std.proofs.Common.{◌≡◌, ℕ, ◌+◌, ◌-◌, ◌*◌, ◌/◌, ◌%◌, ◌^◌, ◌<◌, ◌≤◌, List, [], ◌∷◌, length, Bool, true, false, ◌==◌, nat_lt, if◌then◌else◌, bytes_eq, codes, Option, Some, None, IfSome, refl, sym, ap, ◌∙◌, subst, arith, ltb-false, zero-add}
+use Rattle.std.proofs.Common.{◌≡◌, ℕ, ◌+◌, ◌-◌, ◌*◌, ◌/◌, ◌%◌, ◌^◌, ◌<◌, ◌≤◌, List, [], ◌∷◌, length, Bool, true, false, ◌==◌, nat_lt, if◌then◌else◌, bytes_eq, codes, Option, Some, None, IfSome, refl, ap, ◌∙◌, arith, ltb-false, zero-add}
 use Rattle.std.specs.Prelude.{sum_by}
 use Rattle.ken_model.specs.declared.messages.Message.{Message}
 use Rattle.ken_model.specs.declared.messages.Send.{Send}
@@ -8,9 +8,9 @@ use Rattle.ken_model.specs.declared.values.Block.{Block}
 use Rattle.ken_model.specs.declared.values.Value.{Value}
 use Rattle.ken_model.specs.Effects.{Effect, answered}
 use Rattle.ken_model.specs.Heap.{AreBlocks, first_gap, block_at}
-use Rattle.ken_model.specs.Bank.{Order, Open, Move, Credit, name_of, order_of, account, balance_of, account_of, with_account, with_balance, opened, credit_text, moved_from, moved, with_credit, bank}
+use Rattle.ken_model.specs.Bank.{Order, Open, Move, Credit, order_of, account, balance_of, account_of, with_account, with_balance, opened, credit_text, moved_from, moved, with_credit, bank}
 use Rattle.ken_apps.specs.Money.{held_in, credit_of, opening_of, is_ok}
-use Rattle.ken_apps.proofs.MoneyBlocks.{balance_account, balances, balances_with, balances_changed, account_stands}
+use Rattle.ken_apps.proofs.MoneyBlocks.{balance_account, balances_with, balances_changed, account_stands}
 use Rattle.ken_apps.proofs.MoneyRead.{IsName, IsRead, credit_again}
 
 -- what an order brings to a node: a credit that isn't from outside

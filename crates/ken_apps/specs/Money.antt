@@ -1,12 +1,12 @@
 -- The money of a bank's game: what its nodes hold, what is on its way between them, and what was opened.
-use Rattle.std.specs.Prelude.{◌≡◌, ℕ, ◌+◌, ◌<◌, ◌^◌, List, [], ◌∷◌, drop, Bool, false, if◌then◌else◌, bytes_eq, Option, Some, None, codes, sum_by}
+use Rattle.std.specs.Prelude.{◌≡◌, ℕ, ◌+◌, List, [], ◌∷◌, drop, Bool, false, if◌then◌else◌, bytes_eq, Option, Some, None, codes, sum_by}
 use Rattle.std.specs.List.{AllByRecursion}
 use Rattle.ken_model.specs.declared.kinds.Kind.TheVariants.{Bank}
 use Rattle.ken_model.specs.declared.messages.Message.{Message}
 use Rattle.ken_model.specs.declared.messages.Step.{Step}
 use Rattle.ken_model.specs.declared.values.Block.{Block}
 use Rattle.ken_model.specs.declared.values.Value.{Value}
-use Rattle.ken_model.specs.Bank.{Order, Open, Move, Credit, name_of, order_of, account, balance_of, credit_text}
+use Rattle.ken_model.specs.Bank.{Order, Open, Credit, name_of, order_of, account, balance_of, credit_text}
 use Rattle.ken_model.specs.Ending.{nodes_of}
 use Rattle.ken_model.specs.Game.{Game}
 use Rattle.ken_model.specs.Kinds.{handler_of}
