@@ -1,2 +1,6 @@
 pub mod Keeps
 pub mod Steps
+pub mod Sums
+pub mod Links
+pub mod Paths
+pub mod Shared

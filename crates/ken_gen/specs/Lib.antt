@@ -2,3 +2,5 @@ pub mod Draws
 pub mod Generated
 pub mod Inputs
 pub mod Mishaps
+pub mod Shares
+pub mod ShareLaws

@@ -4,8 +4,10 @@
 mod draws;
 mod generated;
 mod inputs;
+mod laws;
 mod mishaps;
 #[cfg(test)]
 mod tests;
 
 pub use generated::script_of;
+pub use laws::shares_come_out;
