@@ -16,7 +16,7 @@ use Rattle.ken_gen.specs.Inputs.{input_at, past_input, inputs_from, past_inputs}
 use Rattle.ken_gen.specs.Mishaps.{without_repeats, cut_at, past_cut, cuts_from, past_cuts, is_same_call, act_of, act_at, link_act_at, past_link_act, acts_from, past_acts, is_same_put}
 use Rattle.ken_gen.specs.Generated.{script_of}
 
-drawn_below : (bound x : ℕ) → 0 < bound → drawn bound x < bound
+pub drawn_below : (bound x : ℕ) → 0 < bound → drawn bound x < bound
 unfolding drawn
 drawn_below bound x some = omega arith
 
@@ -44,12 +44,12 @@ text_plain x =
     let small : drawn 1000 x < 1000 = drawn_below 1000 x (lit< tt) in
     recursion_from_All IsPlain (decimal n) (All-decimal IsPlain (λ b digit. (omega arith, omega arith)) n (omega arith))
 
-inputs_length : (nodes count x : ℕ) → length (inputs_from nodes count x) ≡ count
+pub inputs_length : (nodes count x : ℕ) → length (inputs_from nodes count x) ≡ count
 unfolding inputs_from
 inputs_length nodes zero x = refl
 inputs_length nodes (suc count) x = ap (λ n. suc n) (inputs_length nodes count (past_input x))
 
-inputs_within : (nodes count x : ℕ) → 0 < nodes → AllByRecursion (λ (i : Input). (i.node < nodes) × (length i.text ≤ MAX_TEXT)) (inputs_from nodes count x)
+pub inputs_within : (nodes count x : ℕ) → 0 < nodes → AllByRecursion (λ (i : Input). (i.node < nodes) × (length i.text ≤ MAX_TEXT)) (inputs_from nodes count x)
 unfolding inputs_from input_at
 inputs_within nodes zero x some = tt
 inputs_within nodes (suc count) x some = ((drawn_below nodes x some, text_short (past x)), inputs_within nodes count (past_input x) some)

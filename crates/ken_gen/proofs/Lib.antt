@@ -4,3 +4,4 @@ pub mod Sums
 pub mod Links
 pub mod Paths
 pub mod Shared
+pub mod Soaked

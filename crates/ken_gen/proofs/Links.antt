@@ -1,7 +1,7 @@
 -- What waits on links, weighed: how a step changes it.
-use Rattle.std.proofs.Common.{◌≡◌, ℕ, zero, suc, ◌+◌, ◌-◌, ◌<◌, ◌≤◌, ◌⊎◌, inl, inr, List, [], ◌∷◌, ◌++◌, length, drop, sum_by, Bool, true, false, ◌==◌, ◌&&◌, if◌then◌else◌, Option, Some, None, slice_get, refl, sym, ap, subst, ◌∙◌, ⊎_elim, arith, eq-eqb, ne_eqb, eqb-true, length-append}
+use Rattle.std.proofs.Common.{◌≡◌, ℕ, zero, suc, ◌+◌, ◌<◌, ◌≤◌, List, [], ◌∷◌, ◌++◌, length, drop, sum_by, Bool, true, false, ◌==◌, ◌&&◌, if◌then◌else◌, Some, slice_get, refl, sym, ap, ◌∙◌, ⊎_elim, arith, eq-eqb, ne_eqb, eqb-true, length-append}
 use Rattle.std.specs.List.{AllByRecursion, range_with_len}
-use Rattle.std.proofs.lemmas.Bool.{cases_eq, cond_both}
+use Rattle.std.proofs.lemmas.Bool.{cases_eq}
 use Rattle.std.proofs.lemmas.List.{drop-append-le, nil_from_length, length-drop}
 use Rattle.std.proofs.lemmas.List.Sums.{sum_by-cons, sum_by-append}
 use Rattle.std.proofs.lemmas.Option.{slice_get_within}
@@ -11,7 +11,7 @@ use Rattle.ken_model.specs.declared.messages.Send.{Send}
 use Rattle.ken_model.specs.declared.messages.Step.{Step}
 use Rattle.ken_model.specs.Ending.{waiting_on}
 use Rattle.ken_model.specs.Network.{Link, Network, Turn, outside, input_at, inputs_from, link_after, numbered}
-use Rattle.ken_gen.proofs.Sums.{IsLink, one, only, sum-only, sum-same, sum-turned, sum-zero, total, total-one, total-plus, total-same}
+use Rattle.ken_gen.proofs.Sums.{IsLink, one, only, sum-only, sum-same, sum-turned, total, total-one, total-plus, total-same}
 
 -- ---- one link
 

@@ -1,12 +1,10 @@
 -- A path, as a handler of kind share makes it: a visit, and what is sent on.
-use Rattle.std.proofs.Common.{◌≡◌, ℕ, zero, suc, ◌+◌, ◌-◌, ◌*◌, ◌/◌, ◌%◌, ◌^◌, ◌<◌, ◌≤◌, List, [], ◌∷◌, length, slice_index, sum_by, Bool, true, false, ◌==◌, ◌&&◌, ◌||◌, not, nat_lt, nat_le, if◌then◌else◌, Option, Some, None, decimal, refl, sym, ap, ◌∙◌, subst, ⊎_elim, arith, eq-eqb, ne_eqb, ltb-true}
+use Rattle.std.proofs.Common.{◌≡◌, ℕ, zero, suc, ◌+◌, ◌-◌, ◌*◌, ◌/◌, ◌%◌, ◌^◌, ◌<◌, List, [], ◌∷◌, length, slice_index, Bool, true, false, ◌==◌, ◌||◌, not, nat_lt, if◌then◌else◌, Option, Some, None, decimal, refl, sym, ap, ◌∙◌, ⊎_elim, arith, eq-eqb, ne_eqb}
 use Rattle.std.specs.Str.{all_ascii_digits}
 use Rattle.std.proofs.Math.Nat.{mod-lt, mod-add-mod}
 use Rattle.std.proofs.lemmas.Bool.{cases_eq}
 use Rattle.std.proofs.lemmas.Fmt.{decimal_is_IsNumeral, decimal_nonempty, first_decimal, length-decimal-le}
 use Rattle.std.proofs.lemmas.List.Sums.{sum_by-cons}
-use Rattle.ken_model.specs.declared.messages.Message.{Message}
-use Rattle.ken_model.specs.declared.messages.Send.{Send}
 use Rattle.ken_model.specs.declared.values.Value.{Value}
 use Rattle.ken_model.specs.Effects.{Effect}
 use Rattle.ken_model.specs.Kinds.{share}
@@ -96,7 +94,7 @@ pub record GoesOn (f : Visit → ℕ) (x nodes node : ℕ) (o : Option ℕ) (e :
   pub sends : SendsOnly (weight f x nodes) e.sends to cost
   pub whole : counted f x (path_of nodes node o) ≡ (if node == x then f (visit node o) else 0) + cost
 
-counted-cons : (f : Visit → ℕ) (x : ℕ) (v : Visit) (vs : List Visit) → counted f x (v ∷ vs) ≡ (if v.node == x then f v else 0) + counted f x vs
+pub counted-cons : (f : Visit → ℕ) (x : ℕ) (v : Visit) (vs : List Visit) → counted f x (v ∷ vs) ≡ (if v.node == x then f v else 0) + counted f x vs
 counted-cons f x v vs = sum_by-cons (λ (v : Visit). if v.node == x then f v else 0) v vs
 
 pub share-goes : (f : Visit → ℕ) (x nodes node : ℕ) (value : Value) (o : Option ℕ) → node < nodes → ((n : ℕ) → o ≡ Some n → n < 10 ^ 9) → GoesOn f x nodes node o (share node nodes value o)

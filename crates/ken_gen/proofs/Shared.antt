@@ -1,5 +1,5 @@
 -- A run of kind share that leaves nothing to wait comes to what its inputs' paths count.
-use Rattle.std.proofs.Common.{◌≡◌, ℕ, zero, suc, ◌+◌, ◌/◌, ◌%◌, ◌^◌, ◌<◌, ◌≤◌, ◌⊎◌, inl, inr, List, [], ◌∷◌, ◌++◌, length, max, decimal, length-append, sum_by, Bool, true, false, ◌==◌, ◌&&◌, nat_lt, if◌then◌else◌, Option, Some, None, option_map, option_and_then, slice_get, refl, sym, ap, subst, ◌∙◌, ⊎_elim, arith, eq-eqb, ne_eqb, eqb-true, ltb-true}
+use Rattle.std.proofs.Common.{◌≡◌, ℕ, ◌+◌, ◌/◌, ◌%◌, ◌^◌, ◌<◌, ◌≤◌, inl, inr, List, [], ◌∷◌, ◌++◌, length, max, decimal, length-append, Bool, true, false, ◌==◌, ◌&&◌, nat_lt, if◌then◌else◌, Option, Some, None, option_map, option_and_then, slice_get, refl, sym, ap, subst, ◌∙◌, ⊎_elim, arith, eq-eqb, ne_eqb, eqb-true}
 use Rattle.std.specs.List.{AllByRecursion}
 use Rattle.std.proofs.Math.Nat.{mod-lt}
 use Rattle.std.proofs.lemmas.Bool.{cases_eq}
@@ -7,7 +7,6 @@ use Rattle.std.proofs.lemmas.Option.{slice_get_within}
 use Rattle.ken_model.specs.declared.facts.Input.{Input}
 use Rattle.ken_model.specs.declared.kinds.Kind.TheVariants.{Share}
 use Rattle.ken_model.specs.declared.messages.Message.{Message}
-use Rattle.ken_model.specs.declared.messages.Send.{Send}
 use Rattle.ken_model.specs.declared.messages.Step.{Step}
 use Rattle.ken_model.specs.declared.values.Value.{Value}
 use Rattle.ken_model.specs.Effects.{Effect}
@@ -15,13 +14,13 @@ use Rattle.ken_model.specs.Ending.{IsSettled}
 use Rattle.ken_model.specs.Game.{Game}
 use Rattle.ken_model.specs.Handler.{Handler}
 use Rattle.ken_model.specs.Kinds.{after, handler_of, share, without_draws}
-use Rattle.ken_model.specs.Network.{Network, Place, Turn, outside, start, inputs_for, inputs_from, numbered, handled, are_words, turn_at, turn_of, place_after, link_after, applied, applied_or_same, stepped}
+use Rattle.ken_model.specs.Network.{Network, Place, Turn, outside, start, inputs_for, inputs_from, numbered, handled, are_words, turn_at, turn_of, applied, applied_or_same}
 use Rattle.ken_model.specs.Schedule.{IsLegal, IsLegalFrom, play, played}
 use Rattle.ken_num.specs.Numbers.{num}
 use Rattle.ken_num.proofs.Small.{num-lt}
 use Rattle.ken_gen.specs.Shares.{Visit, counted_of, left, visits}
-use Rattle.ken_gen.specs.ShareLaws.{IsShareGame, IsShared, SharesComeOut}
-use Rattle.ken_gen.proofs.Sums.{IsLink, total, total-zero}
+use Rattle.ken_gen.specs.ShareLaws.{IsShareGame, SharesComeOut}
+use Rattle.ken_gen.proofs.Sums.{IsLink, total-zero}
 use Rattle.ken_gen.proofs.Links.{ahead, ahead-settled, ahead-start, ahead-step, taken-few}
 use Rattle.ken_gen.proofs.Paths.{GoesOn, kept, share-goes, share-root, visit, weight}
 

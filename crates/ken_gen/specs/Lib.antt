@@ -4,3 +4,5 @@ pub mod Inputs
 pub mod Mishaps
 pub mod Shares
 pub mod ShareLaws
+pub mod Summary
+pub mod SoakLaws

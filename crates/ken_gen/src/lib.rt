@@ -6,8 +6,10 @@ mod generated;
 mod inputs;
 mod laws;
 mod mishaps;
+mod summary;
 #[cfg(test)]
 mod tests;
 
 pub use generated::script_of;
-pub use laws::shares_come_out;
+pub use laws::{shares_come_out, soaks_come_out};
+pub use summary::NodeTotal;

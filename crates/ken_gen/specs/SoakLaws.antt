@@ -1,0 +1,23 @@
+-- What holds of a soak run, whatever its schedule.
+use Rattle.std.specs.Prelude.{◌≡◌, ℕ, ◌<◌, ◌≤◌, List}
+use Rattle.ken_model.specs.declared.facts.TheConstants.{MAX_INPUTS, MAX_NODES}
+use Rattle.ken_model.specs.declared.messages.Step.{Step}
+use Rattle.ken_model.specs.Ending.{IsCut, IsSettled}
+use Rattle.ken_model.specs.Game.{Game, game_of}
+use Rattle.ken_model.specs.Network.{Network}
+use Rattle.ken_model.specs.Schedule.{IsLegal, play}
+use Rattle.ken_gen.specs.Generated.{script_of}
+use Rattle.ken_gen.specs.Summary.{summary, summary_of, totals_in}
+
+-- the game of a soak run
+abbrev pub soak_game : ℕ → ℕ → ℕ → Game
+soak_game seed nodes inputs = game_of (script_of seed nodes inputs).facts
+
+-- nobody is short of turns while something waits, and where nothing waits the nodes came to what the summary tells
+pub record IsSoaked (seed nodes inputs : ℕ) (w : Network) : Type 0 where
+  pub not_cut : IsCut (soak_game seed nodes inputs) w → ⊥
+  pub told : IsSettled w → summary_of seed inputs (totals_in (soak_game seed nodes inputs) w) ≡ summary seed nodes inputs
+
+-- so it is after each legal schedule
+abbrev pub SoaksComeOut : Type 0
+SoaksComeOut = (seed nodes inputs : ℕ) (schedule : List Step) → 0 < nodes → nodes ≤ MAX_NODES → inputs ≤ MAX_INPUTS → IsLegal (soak_game seed nodes inputs) schedule → IsSoaked seed nodes inputs (play (soak_game seed nodes inputs) schedule)
