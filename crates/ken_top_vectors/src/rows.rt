@@ -188,7 +188,8 @@ fn texts_are_kept_by_keys(rt: HostRuntime) -> Result<(), Fail> {
 
 #[test]
 fn amounts_are_moved_between_accounts(rt: HostRuntime) -> Result<(), Fail> {
-    let script = "{\"nodes\":2,\"kind\":\"bank\",\"inputs\":[[0,\"open x 10\"],[0,\"move x 4 1 y\"]]}";
+    let script =
+        "{\"nodes\":2,\"kind\":\"bank\",\"inputs\":[[0,\"open x 10\"],[0,\"move x 4 1 y\"]]}";
     let report = "turn 1 0 out 1 -\n\
         turn 2 0 out 2 -\n\
         turn 3 1 0 1 -\n\

@@ -77,7 +77,7 @@ const RANGES: [Row; 22] = [
 ];
 
 // Whole texts.
-const TEXTS: [Row; 29] = [
+const TEXTS: [Row; 30] = [
     // No object, or more than one.
     ("", 1, 0),
     ("{\"nodes\":3", 1, 0),
