@@ -1,5 +1,5 @@
 -- Another balance, written over the old one in its block.
-use Rattle.std.proofs.Common.{◌≡◌, ℕ, suc, ◌+◌, ◌-◌, ◌<◌, ◌≤◌, List, [], ◌∷◌, ◌++◌, length, take, drop, get_or, Bool, true, false, ◌==◌, if◌then◌else◌, Option, Some, None, option_map, refl, sym, ap, subst, ◌∙◌, arith, append_assoc, take-suc, ⊎_elim}
+use Rattle.std.proofs.Common.{◌≡◌, ℕ, suc, ◌+◌, ◌<◌, List, [], ◌∷◌, ◌++◌, length, take, drop, get_or, Bool, true, false, ◌==◌, if◌then◌else◌, Option, Some, None, option_map, refl, ap, ◌∙◌, arith, append_assoc, take-suc}
 use Rattle.std.specs.List.{position}
 use Rattle.std.proofs.lemmas.Bool.Decides.{nat_tests}
 use Rattle.std.proofs.lemmas.List.{length-take, append-nil}
@@ -10,7 +10,7 @@ use Rattle.byteorder.specs.Endian.{big_bytes}
 use Rattle.byteorder.specs.Numbers.{length-bytes_high_first}
 use Rattle.ken_alloc.specs.Objects.{rewritten}
 use Rattle.ken_model.specs.declared.values.Block.{Block}
-use Rattle.ken_model.specs.Bank.{account, of_length}
+use Rattle.ken_model.specs.Bank.{account}
 use Rattle.ken_model.specs.Heap.{block_at, with_bytes}
 use Rattle.ken_model.specs.KeyValue.{at_space, is_key}
 

@@ -1,5 +1,5 @@
 -- Blocks of a heap: what putting one and taking one away keep.
-use Rattle.std.proofs.Common.{◌≡◌, ℕ, ◌+◌, ◌-◌, ◌/◌, ◌%◌, ◌<◌, ◌≤◌, ◌^◌, ◌⊎◌, List, [], ◌∷◌, ◌++◌, length, take, drop, Bool, true, false, ◌==◌, if◌then◌else◌, nat_lt, bytes_eq, codes, Option, Some, None, IfSome, option_map, inl, inr, ⊎_elim, refl, sym, ap, subst, ◌∙◌, arith}
+use Rattle.std.proofs.Common.{◌≡◌, ℕ, ◌+◌, ◌-◌, ◌/◌, ◌%◌, ◌<◌, ◌≤◌, ◌^◌, ◌⊎◌, List, [], ◌∷◌, length, take, drop, Bool, true, false, ◌==◌, if◌then◌else◌, nat_lt, bytes_eq, codes, Option, Some, None, IfSome, option_map, inl, inr, ⊎_elim, refl, sym, ap, subst, ◌∙◌, arith}
 use Rattle.std.specs.List.{All, AllByRecursion, Contains, position}
 use Rattle.std.proofs.lemmas.Bool.{ltb-false}
 use Rattle.std.proofs.lemmas.Bool.Decides.{nat_tests}
@@ -17,7 +17,7 @@ use Rattle.ken_model.specs.declared.values.Value.{Value}
 use Rattle.ken_model.specs.Effects.{Effect, refused}
 use Rattle.ken_model.specs.Heap.{IsHeap, rounded, end_of, AreBlocks, first_gap_from, first_gap, with_block, with_bytes, without_block, block_at}
 use Rattle.ken_model.specs.KeyValue.{Command, Put, Get, Delete, at_space, put_of, key_of, command_in, command_of, pair_of, is_key, without_pair, put_at, get_from, delete_from, kv}
-use Rattle.ken_model.specs.Bank.{Order, Open, Move, Credit, account, account_of, balance_of, of_length, opened, moved, moved_from, with_account, with_balance, with_credit, bank, order_of}
+use Rattle.ken_model.specs.Bank.{Order, Open, Move, Credit, account, account_of, balance_of, of_length, opened, moved, with_account, with_balance, with_credit, bank, order_of}
 use Rattle.ken_model.specs.Kinds.{after, ring, tally, share, mix, mix_counts, without_draws}
 use Rattle.ken_num.specs.Numbers.{num}
 

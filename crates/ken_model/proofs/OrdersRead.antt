@@ -50,6 +50,7 @@ module _ (P : List ℕ → Type 0) (front : (n : ℕ) (bytes : List ℕ) → P b
       fits : (t : Bool) → (t ≡ true → (0 < length bytes) × (length bytes ≤ 32)) → IfSome (if t then Some bytes else None) (IsNamed P)
       fits true is = (let long = is refl in record { some = long.0; few = long.1; holds = p })
       fits false is = tt
+
       go : (o : Option (List ℕ × List ℕ)) → IfSome (name_in bytes o) (IsNamed P)
       go None = fits (nat_lt 0 (length bytes) && nat_le (length bytes) 32) (λ e. (grind (arith, nat_tests, e), grind (arith, nat_tests, e)))
       go (Some parts) = tt

@@ -1,12 +1,11 @@
-use Rattle.std.proofs.Common.{◌≡◌, ℕ, ◌<◌, List, Option, Some, None, option_map, refl, sym, ap, ◌∙◌, subst}
+use Rattle.std.proofs.Common.{◌≡◌, ◌<◌, Some, None, option_map, sym, ap, ◌∙◌, subst}
 use Rattle.std.specs.List.{AllByRecursion}
 use Rattle.ken_model.specs.declared.messages.Send.{Send}
 use Rattle.ken_model.specs.declared.messages.Message.{Message}
 use Rattle.ken_model.specs.declared.values.Value.{Value}
-use Rattle.ken_model.specs.Effects.{Effect}
 use Rattle.ken_model.specs.Kinds.{after}
 use Rattle.ken_model.specs.Tasks.{task_of, effect_of}
-use Rattle.ken_model.specs.Answers.{effect_by, changed}
+use Rattle.ken_model.specs.Answers.{changed}
 use Rattle.ken_model.proofs.Tasks.{after-task}
 use Rattle.ken_num.specs.Numbers.{num}
 use Rattle.ken_model.proofs.kinds.Kind.react.Goals as goal
