@@ -1,3 +1,4 @@
+use ken_apps::{blocks_are_accounts, messages_are_credits, money_is_kept};
 use ken_model::{
     Command, Items, Kind, Octets, Order, agreement_is_legal, first_gap_is_least, is_pair_of,
     report_spells_its_run, rounded,
@@ -78,4 +79,7 @@ fn laws_are_told() {
     agreement_is_legal();
     first_gap_is_least();
     report_spells_its_run();
+    blocks_are_accounts();
+    messages_are_credits();
+    money_is_kept();
 }
