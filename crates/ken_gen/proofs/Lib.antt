@@ -5,3 +5,4 @@ pub mod Links
 pub mod Paths
 pub mod Shared
 pub mod Soaked
+pub mod Lines

@@ -9,10 +9,14 @@ use Rattle.ken_gen.specs.declared.summary.NodeTotal.{NodeTotal}
 use Rattle.ken_gen.specs.Inputs.{inputs_from}
 use Rattle.ken_gen.specs.Shares.{visits, left}
 
+-- the line of a node
+abbrev pub node_line : ℕ → NodeTotal → List ℕ
+node_line node t = line (codes "node" ∷ decimal node ∷ decimal t.turns ∷ decimal t.root ∷ [])
+
 -- the lines of nodes, from that one on
 unfoldable pub node_lines : ℕ → List NodeTotal → List ℕ
 node_lines node [] = []
-node_lines node (t ∷ ts) = line (codes "node" ∷ decimal node ∷ decimal t.turns ∷ decimal t.root ∷ []) ++ node_lines (node + 1) ts
+node_lines node (t ∷ ts) = node_line node t ++ node_lines (node + 1) ts
 
 abbrev pub all_turns : List NodeTotal → ℕ
 all_turns totals = sum_by (λ (t : NodeTotal). t.turns) totals

@@ -12,4 +12,4 @@ mod tests;
 
 pub use generated::script_of;
 pub use laws::{shares_come_out, soaks_come_out};
-pub use summary::NodeTotal;
+pub use summary::{NodeTotal, summary_of};
