@@ -6,3 +6,4 @@ pub mod Paths
 pub mod Shared
 pub mod Soaked
 pub mod Lines
+pub mod AddUp

@@ -1,11 +1,16 @@
 // Laws of runs of kind share, each the contract of a function that does nothing.
-ghost use Rattle.ken_gen.specs.ShareLaws.{SharesComeOut};
+ghost use Rattle.ken_gen.specs.ShareLaws.{SharesAddUp, SharesComeOut};
 ghost use Rattle.ken_gen.specs.SoakLaws.{SoaksComeOut};
 
 /// Whatever the schedule, a run of kind share that leaves nothing to wait gives each node a turn for each visit of an
 /// input's path, and leaves in its root what these paths leave there.
 pub fn shares_come_out()
     ensures { SharesComeOut }
+{}
+
+/// What the paths of inputs leave at all nodes is the sum of the inputs.
+pub fn shares_add_up()
+    ensures { SharesAddUp }
 {}
 
 /// Whatever the schedule, a soak run never ends for want of turns, and where nothing waits its summary is the one of its

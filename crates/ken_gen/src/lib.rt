@@ -11,5 +11,5 @@ mod summary;
 mod tests;
 
 pub use generated::script_of;
-pub use laws::{shares_come_out, soaks_come_out};
+pub use laws::{shares_add_up, shares_come_out, soaks_come_out};
 pub use summary::{NodeTotal, summary_of};

@@ -1,5 +1,5 @@
-// Scripts whose parts another program drew, written from the README's table.
-use crate::script_of;
+// Scripts whose parts another program drew, written from the README's table, and summaries that it wrote.
+use crate::{NodeTotal, script_of, summary_of};
 use ken_net::{Act, LinkAct};
 use ken_script::DiskCut;
 use std::test::Fail;
@@ -55,5 +55,24 @@ fn leaves_out_what_strikes_where_an_earlier_one_does(rt: HostRuntime) -> Result<
     // The last of all.
     let last = script.acks.as_slice().last().copied();
     assert!(rt; last == Some(act(0, 0, 43, Act::Repeat)));
+    Ok(())
+}
+
+fn total(turns: u64, root: u64) -> NodeTotal {
+    NodeTotal { turns, root }
+}
+
+#[test]
+fn writes_what_another_program_writes(rt: HostRuntime) -> Result<(), Fail> {
+    let one = summary_of(rt.alloc(), 0, 1, &[total(9, 424)])?;
+    assert!(rt;
+        one.as_slice() == b"soak 0 1 1\nnode 0 9 424\nturns 9\nsum 424\nsettled\n".as_slice()
+    );
+    let three = [total(35, 2009), total(34, 2172), total(33, 1483)];
+    let three = summary_of(rt.alloc(), 10_409_897_091_101_892_993, 12, &three)?;
+    assert!(rt;
+        three.as_slice()
+            == b"soak 10409897091101892993 3 12\nnode 0 35 2009\nnode 1 34 2172\nnode 2 33 1483\nturns 102\nsum 5664\nsettled\n".as_slice()
+    );
     Ok(())
 }
