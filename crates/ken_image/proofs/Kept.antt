@@ -1,10 +1,12 @@
 -- What each call of a disk keeps of the image on it, and what a crash may leave meanwhile.
-use Rattle.std.proofs.Common.{◌≡◌, ℕ, ◌+◌, ◌-◌, ◌<◌, ◌≤◌, List, length, get_or, take, drop, sym, ap, subst, ◌∙◌, arith, length-take, length-drop, ⊎_elim}
+use Rattle.std.proofs.Common.{◌≡◌, ℕ, ◌+◌, ◌-◌, ◌<◌, ◌≤◌, List, length, get_or, take, drop, sym, ap, subst, ◌∙◌, arith, length-take, length-drop, ⊎_elim, Result, Ok, Err}
 use Rattle.std.proofs.lemmas.List.{get_or-take, get_or-drop}
 use Rattle.std.proofs.lemmas.Bool.{cases_lt}
+use Rattle.ken_disk.specs.declared.faults.DiskFault.{DiskFault}
+use Rattle.ken_disk.specs.declared.faults.DiskFault.TheVariants.{Failed, Memory}
 use Rattle.ken_disk.specs.Bytes.{overwrite, IsIn}
-use Rattle.ken_disk.specs.Story.{DiskState, IsImage, IsAtRest, Leaves}
-use Rattle.ken_disk.specs.Steps.{written, made_safe}
+use Rattle.ken_disk.specs.Story.{DiskState, Story, IsImage, IsAtRest, Leaves}
+use Rattle.ken_disk.specs.Steps.{written, made_safe, after_write}
 use Rattle.ken_disk.specs.Through.{Torn}
 use Rattle.ken_disk.proofs.Images.{image-seen_at_rest, image-overwrite, image_at_rest, rests-made_safe, furthest-least, Torn-same, Torn-by_place}
 use Rattle.ken_disk.proofs.Overwrites.{length-overwrite, get_or-overwrite_before, get_or-overwrite_in, get_or-overwrite_behind}
@@ -23,6 +25,12 @@ keeps_written pages at bytes s inside keeps = record {
   long = keeps.long;
   seen = image-overwrite at bytes s s.seen (omega (arith, keeps.long, keeps.seen.no_shorter)) keeps.seen;
 }
+
+-- whatever it answers
+pub keeps_write : {T : Type 0} (pages at : ℕ) (bytes : List ℕ) (r : Result T DiskFault) (h : Story) → at ≤ place_of pages → Keeps pages h.now → Keeps pages (after_write at bytes r h).now
+keeps_write pages at bytes (Ok x) h inside keeps = keeps_written pages at bytes h.now inside keeps
+keeps_write pages at bytes (Err Failed) h inside keeps = keeps_written pages at bytes h.now inside keeps
+keeps_write pages at bytes (Err Memory) h inside keeps = keeps
 
 pub keeps_safe : (pages : ℕ) (s : DiskState) → Keeps pages s → Keeps pages (made_safe s)
 keeps_safe pages s keeps = record {

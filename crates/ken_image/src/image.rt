@@ -31,8 +31,8 @@ impl<D: Disk> Image<D> {
         Image { disk, pages }
     }
 
-    /// Writes one page, by one call of the disk, and opens it alone. After `Disk` it counts as written, and the image takes no
-    /// more calls. After `Memory` nothing has changed.
+    /// Writes one page, by one call of the disk, and opens it alone. After `Disk` it counts as written, and the image is to be
+    /// released. After `Memory` nothing has changed.
     pub fn patch(&mut self, page: u32, bytes: &Frame) -> Result<(), ImageFault>
         requires whole { IsWhole D.told D.size self.old }
         requires page { page < self.old.pages }
@@ -41,6 +41,7 @@ impl<D: Disk> Image<D> {
         ensures changes { OnOk result (Follows (λ h s. ChangesPage page bytes.now h.now.seen s.now.seen) (D.told self.old.disk) (D.told self.new.disk)) }
         ensures whole { OnOk result (IsWhole D.told D.size self.new) }
         ensures goes_on { IsErrOf result ImageFault.Memory → IsWhole D.told D.size self.new }
+        ensures fails { OnErr result (Tells (D.told self.new.disk) (λ h. IsWhole D.told D.size self.new)) }
         ensures count { self.new.pages ≡ self.old.pages }
         ensures cause { HasImageCause (D.faults self.old.disk) (D.faults self.new.disk) result }
         ensures fate { Follows (Suffers (as_disk result)) (D.fate self.old.disk) (D.fate self.new.disk) }
@@ -50,7 +51,7 @@ impl<D: Disk> Image<D> {
     }
 
     /// Makes safe what reads give, by one call of the disk. After `Ok` no page is open. After an error the open pages are open
-    /// still, and after `Disk` the image takes no more calls.
+    /// still, and after `Disk` the image is to be released.
     pub fn sync(&mut self) -> Result<(), ImageFault>
         requires { IsWhole D.told D.size self.old }
         ensures calls { Follows (Called (as_disk result) (Sync ∷ [])) (D.told self.old.disk) (D.told self.new.disk) }
@@ -58,6 +59,7 @@ impl<D: Disk> Image<D> {
         ensures stable { OnOk result (Follows (λ h s. IsAtRest s.now × (s.now.seen ≡ h.now.seen)) (D.told self.old.disk) (D.told self.new.disk)) }
         ensures whole { OnOk result (IsWhole D.told D.size self.new) }
         ensures goes_on { IsErrOf result ImageFault.Memory → IsWhole D.told D.size self.new }
+        ensures fails { OnErr result (Tells (D.told self.new.disk) (λ h. IsWhole D.told D.size self.new)) }
         ensures count { self.new.pages ≡ self.old.pages }
         ensures cause { HasImageCause (D.faults self.old.disk) (D.faults self.new.disk) result }
         ensures fate { Follows (Suffers (as_disk result)) (D.fate self.old.disk) (D.fate self.new.disk) }

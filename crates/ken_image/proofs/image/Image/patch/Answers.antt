@@ -1,10 +1,11 @@
 use Rattle.std.proofs.Common.{◌≡◌, ◌≤◌, ◌∙◌, [], ◌∷◌, length, sym, ap, arith}
 use Rattle.std.proofs.lemmas.Result.{err_from_is_err_and}
-use Rattle.ken_disk.proofs.Told.{tells_after}
+use Rattle.ken_disk.specs.Steps.{after_write}
+use Rattle.ken_disk.proofs.Told.{by_step, tells_after}
 use Rattle.ken_image.specs.Calls.{Write}
 use Rattle.ken_image.specs.Pages.{place_of, ChangesPage, IsTornPage}
 use Rattle.ken_image.specs.Whole.{Keeps}
-use Rattle.ken_image.proofs.Kept.{keeps_written, page_synced, page_seen, torn_none, torn_page}
+use Rattle.ken_image.proofs.Kept.{keeps_written, keeps_write, page_synced, page_seen, torn_none, torn_page}
 use Rattle.ken_image.proofs.Changes.{changes_page}
 use Rattle.ken_image.proofs.Called.{wrote, wrote_ok, through_write, told_fault}
 use Rattle.ken_image.proofs.image.Image.patch.Goals as goal
@@ -43,3 +44,17 @@ returns-clause-whole g c = record {
       (λ h told. keeps_written c.args.self.now.pages (place_of c.args.page) c.args.bytes.now h.now (let inside : place_of c.args.page ≤ place_of c.args.self.now.pages = omega (arith, c.requires.page) in inside)))
       (λ h s told so. so (c.requires.whole.keeps h told));
 }
+
+pub returns-in_err-write-clause-fails : goal.returns-in_err-write-clause-fails
+returns-in_err-write-clause-fails g c =
+    let p = err_from_is_err_and c.from_residual.result c.from_residual.ensures.1 in
+    rw p.1 (λ s told.
+    let n = c.args.self.now.pages in
+    let at = place_of c.args.page in
+    let inside : at ≤ place_of n = omega (arith, c.requires.page) in
+    let kept = tells_after (λ h x. Keeps n h.now → Keeps n x.now) (λ x. Keeps n x.now) _ _
+    (by_step (after_write at c.args.bytes.now c.write.result) (λ h x. Keeps n h.now → Keeps n x.now) _ _ (rw (c.place.ensures, c.as_slice.ensures.same) at c.write.ensures.story) (λ h _. keeps_write n at c.args.bytes.now c.write.result h inside))
+    (λ h x was so. so (c.requires.whole.keeps h was)) in
+    let now = kept s told in
+    let size = g.met.D.Disk.sized _ s told in
+    record { room = omega (arith, now.long, now.seen.no_shorter, size); keeps = kept })
