@@ -17,7 +17,7 @@ use Rattle.ken_image.specs.Whole.{IsWhole}
 use Rattle.ken_image.specs.Faults.{as_disk}
 use Rattle.ken_store.specs.declared.patching.PatchSide.{PatchSide}
 use Rattle.ken_store.specs.Ahead.{ahead_layers}
-use Rattle.ken_store.specs.Patching.{Holds, HoldsImage, TakesPatches, Patching, SettlesBy}
+use Rattle.ken_store.specs.Patching.{HoldsImage, TakesPatches, Patching, SettlesBy}
 use Rattle.ken_store.specs.Reads.{of_image}
 use Rattle.ken_cover.specs.Overlay.{AreWithin}
 
@@ -97,15 +97,13 @@ module _ {D : Type 0} (told : D → Option Story) (size : D → ℕ) (old : Patc
   abbrev side : PatchSide D
   side = record old { image = im }
 
-  takes_still : IsWhole told size im → TakesPatches told size side
-  takes_still whole = record { image = whole; order = p.takes.order; within = subst (λ (n : ℕ). AreWithin n (pages_of (ahead_layers old.ahead.items))) (sym count) p.takes.within }
+  still : (T : Type 0) (e : ImageFault) → IsWhole told size im → Follows (Called {T = T} (as_disk (Err e)) (Sync ∷ [])) (told old.image.disk) (told im.disk) → Patching told size side i
+  still T e whole calls =
+      stands_after told size old side i p (record { image = whole; order = p.takes.order; within = subst (λ (n : ℕ). AreWithin n (pages_of (ahead_layers old.ahead.items))) (sym count) p.takes.within })
+      count i (Called {T = T} (as_disk (Err e)) (Sync ∷ [])) calls p.ahead
+      (λ h s holds called. subst (λ (x : Story). HoldsImage old.image.pages i x.now) (sym (sync_failed T e h s called)) holds)
 
-  pub synced_err : (T U : Type 0) (e : ImageFault) → (e ≡ image.Memory → IsWhole told size im) → Follows (Called {T = T} (as_disk (Err e)) (Sync ∷ [])) (told old.image.disk) (told im.disk)
-      → SettlesBy {T = U} (Err (of_image e)) (Patching told size side) (Holds told side) i
-  synced_err T U image.Disk whole calls =
-      subst (λ (n : ℕ). Tells (told im.disk) (λ h. HoldsImage n i h.now)) (sym count)
-      (tells_after (Called {T = T} (Err Failed) (Sync ∷ [])) (λ h. HoldsImage old.image.pages i h.now) (told old.image.disk) (told im.disk) calls
-      (λ h s was called. subst (λ (x : Story). HoldsImage old.image.pages i x.now) (sym (sync_failed T image.Disk h s called)) (p.holds h was)))
-  synced_err T U image.Memory whole calls =
-      stands_after told size old side i p (takes_still (whole refl)) count i (Called {T = T} (Err Memory) (Sync ∷ [])) calls p.ahead
-      (λ h s holds called. subst (λ (x : Story). HoldsImage old.image.pages i x.now) (sym (sync_failed T image.Memory h s called)) holds)
+  pub synced_err : (T U : Type 0) (e : ImageFault) → (e ≡ image.Memory → IsWhole told size im) → Tells (told im.disk) (λ h. IsWhole told size im) → Follows (Called {T = T} (as_disk (Err e)) (Sync ∷ [])) (told old.image.disk) (told im.disk)
+      → SettlesBy {T = U} (told im.disk) (Err (of_image e)) (Patching told size side) i
+  synced_err T U image.Disk whole fails calls = λ h now. still T image.Disk (fails h now) calls
+  synced_err T U image.Memory whole fails calls = still T image.Memory (whole refl) calls

@@ -93,18 +93,18 @@ module _ {D : Type 0} (told : D → Option Story) (size : D → ℕ) (old new : 
     sync_recovers follows = with_turns (sync_recovers_apart told size old.turns old.patches new.patches [] i v (apart_of told size old i stands) reads follows)
 
 -- by the answer of a patch
-pub patches_by : {D : Type 0} (told : D → Option Story) (size : D → ℕ) (old new : Store D) (i : ImagePages) (holds : ImagePages → Type 0) (result : Result Bool StoreFault) → Standing told size old i → new.turns ≡ old.turns
-    → new.patches.image.pages ≡ old.patches.image.pages → new.patches.known ≡ old.patches.known → PatchesBy result (Patching told size new.patches) holds i → PatchesBy result (Standing told size new) holds i
-patches_by told size old new i holds (Ok true) stands turns count known by = (by.0, (by.1.0, stands_patched told size old new i stands turns by.0 by.1.0 by.1.1 count known))
-patches_by told size old new i holds (Ok false) stands turns count known by = (by.0, stands_still told size old new i stands turns by.1 count known)
-patches_by told size old new i holds (Err faults.Disk) stands turns count known by = by
-patches_by told size old new i holds (Err faults.Memory) stands turns count known by = stands_still told size old new i stands turns by count known
-patches_by told size old new i holds (Err (faults.Damaged disk place)) stands turns count known by = by
+pub patches_by : {D : Type 0} (told : D → Option Story) (size : D → ℕ) (old new : Store D) (i : ImagePages) (result : Result Bool StoreFault) → Standing told size old i → new.turns ≡ old.turns
+    → new.patches.image.pages ≡ old.patches.image.pages → new.patches.known ≡ old.patches.known → PatchesBy (told new.patches.image.disk) result (Patching told size new.patches) i → PatchesBy (told new.patches.image.disk) result (Standing told size new) i
+patches_by told size old new i (Ok true) stands turns count known by = (by.0, (by.1.0, stands_patched told size old new i stands turns by.0 by.1.0 by.1.1 count known))
+patches_by told size old new i (Ok false) stands turns count known by = (by.0, stands_still told size old new i stands turns by.1 count known)
+patches_by told size old new i (Err faults.Disk) stands turns count known by = (by.0, (by.1.0, λ h now. stands_patched told size old new i stands turns by.0 by.1.0 (by.1.1 h now) count known))
+patches_by told size old new i (Err faults.Memory) stands turns count known by = stands_still told size old new i stands turns by count known
+patches_by told size old new i (Err (faults.Damaged disk place)) stands turns count known by = by
 
 -- and of a sync
-pub settles_by : {D T : Type 0} (told : D → Option Story) (size : D → ℕ) (old new : Store D) (i : ImagePages) (holds : ImagePages → Type 0) (result : Result T StoreFault) → Standing told size old i → new.turns ≡ old.turns
-    → new.patches.image.pages ≡ old.patches.image.pages → new.patches.known ≡ old.patches.known → SettlesBy result (Patching told size new.patches) holds i → SettlesBy result (Standing told size new) holds i
-settles_by told size old new i holds (Ok x) stands turns count known by = stands_synced told size old new i stands turns by count known
-settles_by told size old new i holds (Err faults.Disk) stands turns count known by = by
-settles_by told size old new i holds (Err faults.Memory) stands turns count known by = stands_still told size old new i stands turns by count known
-settles_by told size old new i holds (Err (faults.Damaged disk place)) stands turns count known by = by
+pub settles_by : {D T : Type 0} (told : D → Option Story) (size : D → ℕ) (old new : Store D) (i : ImagePages) (result : Result T StoreFault) → Standing told size old i → new.turns ≡ old.turns
+    → new.patches.image.pages ≡ old.patches.image.pages → new.patches.known ≡ old.patches.known → SettlesBy (told new.patches.image.disk) result (Patching told size new.patches) i → SettlesBy (told new.patches.image.disk) result (Standing told size new) i
+settles_by told size old new i (Ok x) stands turns count known by = stands_synced told size old new i stands turns by count known
+settles_by told size old new i (Err faults.Disk) stands turns count known by = λ h now. stands_still told size old new i stands turns (by h now) count known
+settles_by told size old new i (Err faults.Memory) stands turns count known by = stands_still told size old new i stands turns by count known
+settles_by told size old new i (Err (faults.Damaged disk place)) stands turns count known by = by

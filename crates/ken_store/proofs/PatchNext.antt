@@ -12,18 +12,14 @@ use Rattle.ken_cover.specs.Overlay.{newest_by, AreWithin}
 use Rattle.ken_cover.specs.Sides.{ImagePages, pages_of, changes_at, onto, without_page, patched_page}
 use Rattle.ken_cover.proofs.Bases.{pages_of-first, pages_of-onto, pages-changes_at, AreWithin-left, AreWithin-right}
 use Rattle.ken_cover.proofs.Newest.{AreWithin-append}
-use Rattle.ken_image.specs.declared.faults.ImageFault.{ImageFault}
-use Rattle.ken_image.specs.declared.faults.ImageFault.TheVariants as image
 use Rattle.ken_image.specs.declared.image.Image.{Image}
 use Rattle.ken_image.specs.Calls.{Call, Write, Called}
-use Rattle.ken_image.specs.Faults.{as_disk}
 use Rattle.ken_image.specs.Pages.{place_of, IsTornPage}
 use Rattle.ken_image.specs.Whole.{IsWhole}
 use Rattle.ken_store.specs.declared.patching.Ahead.{Ahead}
 use Rattle.ken_store.specs.declared.patching.PatchSide.{PatchSide}
 use Rattle.ken_store.specs.Ahead.{frame_pages, ahead_layer, ahead_layers}
-use Rattle.ken_store.specs.Patching.{HoldsImage, IsInOrder, TakesPatches, Patching, Patched, MayBePatched, PatchesBy, page_calls, first_number, GoesOn}
-use Rattle.ken_store.specs.Reads.{of_image}
+use Rattle.ken_store.specs.Patching.{HoldsImage, IsInOrder, TakesPatches, Patching, Patched, MayBePatched, page_calls, first_number, GoesOn}
 use Rattle.ken_store.proofs.Holding.{both, after_failed, after_memory, stands_after}
 use Rattle.ken_store.proofs.Patched.{FirstOf, first_of, page_in, newest_first, without_first, IsPassed, rises, passed, through_patch, holds_patched}
 
@@ -113,40 +109,44 @@ module _ {D : Type 0} (told : D → Option Story) (size : D → ℕ) (old : Patc
         called : Follows (Called r (Write (place_of one.page.page) one.page.bytes ∷ [])) (told old.image.disk) (told disk)
         called = subst (λ (cs : List Call). Follows (Called r cs) (told old.image.disk) (told disk)) one.calls calls
 
+    -- the page counts as written
+    stands_for : (new : PatchSide D) → IsWhole told size new.image → new.image.pages ≡ old.image.pages → new.known ≡ old.known → GoesOn old.ahead.items new.ahead.items
+        → Follows (λ h s. Through (IsTornPage (first_number a.pages.items) h.now) h s) (told old.image.disk) (told new.image.disk)
+        → Follows (λ h s. s ≡ after_writing (place_of one.page.page) one.page.bytes h) (told old.image.disk) (told new.image.disk) → Patching told size new after
+    stands_for new whole count known goes moment wrote = record {
+      takes = takes_patched new whole count known goes;
+      ahead = (left new whole count known goes).layers ∙ sym after_ahead;
+      holds = subst (λ (n : ℕ). Tells (told new.image.disk) (λ h. HoldsImage n after h.now)) (sym count) (holds_after new.image.disk moment wrote);
+    }
+
     -- true
     pub patched_ok : (new : PatchSide D) → IsWhole told size new.image → new.image.pages ≡ old.image.pages → new.known ≡ old.known → GoesOn old.ahead.items new.ahead.items
         → Follows (λ h s. Through (IsTornPage (first_number a.pages.items) h.now) h s) (told old.image.disk) (told new.image.disk)
         → (T : Type 0) (x : T) → Follows (Called {T = T} (Ok x) (page_calls a.pages.items)) (told old.image.disk) (told new.image.disk)
         → (i2 : ImagePages) × (Patched i i2 × Patching told size new i2)
-    patched_ok new whole count known goes moment T x calls = (
+    patched_ok new whole count known goes moment T x calls = (after, (is_patched, stands_for new whole count known goes moment (called new.image.disk moment T (Ok x) calls)))
+
+    -- the write failed
+    pub patched_failed : (new : PatchSide D) → Tells (told new.image.disk) (λ h. IsWhole told size new.image) → new.image.pages ≡ old.image.pages → new.known ≡ old.known → GoesOn old.ahead.items new.ahead.items
+        → Follows (λ h s. Through (IsTornPage (first_number a.pages.items) h.now) h s) (told old.image.disk) (told new.image.disk)
+        → (T : Type 0) → Follows (Called {T = T} (Err Failed) (page_calls a.pages.items)) (told old.image.disk) (told new.image.disk)
+        → (i2 : ImagePages) × (Patched i i2 × Tells (told new.image.disk) (λ h. Patching told size new i2))
+    patched_failed new whole count known goes moment T calls = (
       after,
       (
         is_patched,
-        record {
-          takes = takes_patched new whole count known goes;
-          ahead = (left new whole count known goes).layers ∙ sym after_ahead;
-          holds = subst (λ (n : ℕ). Tells (told new.image.disk) (λ h. HoldsImage n after h.now)) (sym count) (holds_after new.image.disk moment (called new.image.disk moment T (Ok x) calls));
-        },
+        λ h now. stands_for new (whole h now) count known goes moment
+            (weakened (Called {T = T} (Err Failed) (Write (place_of one.page.page) one.page.bytes ∷ [])) (λ h s. s ≡ after_writing (place_of one.page.page) one.page.bytes h) (told old.image.disk) (told new.image.disk)
+            (called new.image.disk moment T (Err Failed) calls) (λ h s was so. after_failed T (Write (place_of one.page.page) one.page.bytes) h s so)),
       ),
     )
 
-    -- and the errors
-    pub patched_err : (e : ImageFault) (im : Image D) → (e ≡ image.Memory → IsWhole told size im) → im.pages ≡ old.image.pages
+    -- nothing was written, for want of memory
+    pub patched_none : (im : Image D) → IsWhole told size im → im.pages ≡ old.image.pages
         → Follows (λ h s. Through (IsTornPage (first_number a.pages.items) h.now) h s) (told old.image.disk) (told im.disk)
-        → (T : Type 0) → Follows (Called {T = T} (as_disk (Err e)) (page_calls a.pages.items)) (told old.image.disk) (told im.disk)
-        → PatchesBy (Err (of_image e)) (Patching told size (record old { image = im })) (λ i2. Tells (told im.disk) (λ h. HoldsImage im.pages i2 h.now)) i
-    patched_err image.Disk im whole count moment T calls = (
-      after,
-      (
-        is_patched,
-        subst (λ (n : ℕ). Tells (told im.disk) (λ h. HoldsImage n after h.now)) (sym count)
-            (holds_after im.disk moment
-            (weakened (Called {T = T} (Err Failed) (Write (place_of one.page.page) one.page.bytes ∷ [])) (λ h s. s ≡ after_writing (place_of one.page.page) one.page.bytes h) (told old.image.disk) (told im.disk)
-            (called im.disk moment T (Err Failed) calls) (λ h s was so. after_failed T (Write (place_of one.page.page) one.page.bytes) h s so))),
-      ),
-    )
-    patched_err image.Memory im whole count moment T calls =
+        → (T : Type 0) → Follows (Called {T = T} (Err Memory) (page_calls a.pages.items)) (told old.image.disk) (told im.disk) → Patching told size (record old { image = im }) i
+    patched_none im whole count moment T calls =
         stands_after told size old (record old { image = im }) i p
-        (record { image = whole refl; order = takes.order; within = subst (λ (n : ℕ). AreWithin n (pages_of (ahead_layers old.ahead.items))) (sym count) takes.within })
+        (record { image = whole; order = takes.order; within = subst (λ (n : ℕ). AreWithin n (pages_of (ahead_layers old.ahead.items))) (sym count) takes.within })
         count i (Called {T = T} (Err Memory) (Write (place_of one.page.page) one.page.bytes ∷ [])) (called im.disk moment T (Err Memory) calls) p.ahead
         (λ h s holds so. subst (λ (x : Story). HoldsImage old.image.pages i x.now) (sym (after_memory T (Write (place_of one.page.page) one.page.bytes) h s so)) holds)

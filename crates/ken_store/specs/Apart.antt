@@ -120,13 +120,13 @@ module _ {D : Type 0} (told : D → Option Story) (size : D → ℕ) where
       (handler : TurnSide D) (patcher new : PatchSide D) (turn : ℕ) (pages : List Page) (waiting : List (ℕ × List Page)) (i : ImagePages) → Apart told size handler patcher ((turn, pages) ∷ waiting) i
       → Patching told size new (handed_pages turn pages i) → new.image.pages ≡ patcher.image.pages → new.known ≡ turn → Apart told size handler new waiting (handed_pages turn pages i)
 
-  -- nothing happens to the image's pages
+  -- nothing happens to the image's pages, as at a sync that failed
   abbrev pub RoomKeepsApart : Type 0
   RoomKeepsApart =
       (handler : TurnSide D) (patcher new : PatchSide D) (waiting : List (ℕ × List Page)) (i : ImagePages) → Apart told size handler patcher waiting i
       → Patching told size new i → new.image.pages ≡ patcher.image.pages → new.known ≡ patcher.known → Apart told size handler new waiting i
 
-  -- a page is written
+  -- a page is written, or its write failed
   abbrev pub PatchKeepsApart : Type 0
   PatchKeepsApart =
       (handler : TurnSide D) (patcher new : PatchSide D) (waiting : List (ℕ × List Page)) (i i2 : ImagePages) → Apart told size handler patcher waiting i

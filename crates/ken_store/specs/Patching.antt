@@ -70,14 +70,14 @@ pub record Patched (i i2 : ImagePages) : Type 0 where
 abbrev pub MayBePatched : ImagePages → List ℕ → Type 0
 MayBePatched i image = IsPossible i image ⊎ ((i2 : ImagePages) × (Patched i i2 × IsPossible i2 image))
 
--- by the answer of a patch: true where a page was written, and false where none is to be. A write that failed counts as written,
--- and then the side takes no more calls
-abbrev pub PatchesBy : Result Bool StoreFault → (ImagePages → Type 0) → (ImagePages → Type 0) → ImagePages → Type 0
-PatchesBy (Ok true) stands holds i = (i2 : ImagePages) × (Patched i i2 × stands i2)
-PatchesBy (Ok false) stands holds i = (i.ahead ≡ []) × stands i
-PatchesBy (Err faults.Disk) stands holds i = (i2 : ImagePages) × (Patched i i2 × holds i2)
-PatchesBy (Err faults.Memory) stands holds i = stands i
-PatchesBy (Err (faults.Damaged disk place)) stands holds i = ⊥
+-- by the answer of a patch, and by what its disk tells then: true where a page was written, and false where none is to be. A write
+-- that failed counts as written: where the disk tells, the side stands for it
+abbrev pub PatchesBy : Option Story → Result Bool StoreFault → (ImagePages → Type 0) → ImagePages → Type 0
+PatchesBy told (Ok true) stands i = (i2 : ImagePages) × (Patched i i2 × stands i2)
+PatchesBy told (Ok false) stands i = (i.ahead ≡ []) × stands i
+PatchesBy told (Err faults.Disk) stands i = (i2 : ImagePages) × (Patched i i2 × Tells told (λ h. stands i2))
+PatchesBy told (Err faults.Memory) stands i = stands i
+PatchesBy told (Err (faults.Damaged disk place)) stands i = ⊥
 
 -- the write of the first of some pages
 abbrev pub page_calls : {Z : Type 0} → List (ℕ × Arc (List ℕ) Z) → List Call
@@ -116,13 +116,13 @@ abbrev pub origin_before : Origin → ℕ → ℕ
 origin_before Base turn = 0
 origin_before Record turn = turn - 1
 
--- by the answer of a sync: Ok makes all that was written safe. One that failed made nothing safe, and then the side takes no more
--- calls
-abbrev pub SettlesBy : {T : Type 0} → Result T StoreFault → (ImagePages → Type 0) → (ImagePages → Type 0) → ImagePages → Type 0
-SettlesBy (Ok x) stands holds i = stands (synced_pages i)
-SettlesBy (Err faults.Disk) stands holds i = holds i
-SettlesBy (Err faults.Memory) stands holds i = stands i
-SettlesBy (Err (faults.Damaged disk place)) stands holds i = ⊥
+-- by the answer of a sync, and by what its disk tells then: Ok makes all that was written safe. One that failed made nothing safe:
+-- where the disk tells, the side stands as before
+abbrev pub SettlesBy : {T : Type 0} → Option Story → Result T StoreFault → (ImagePages → Type 0) → ImagePages → Type 0
+SettlesBy told (Ok x) stands i = stands (synced_pages i)
+SettlesBy told (Err faults.Disk) stands i = Tells told (λ h. stands i)
+SettlesBy told (Err faults.Memory) stands i = stands i
+SettlesBy told (Err (faults.Damaged disk place)) stands i = ⊥
 
 -- the turn that is told as settled: the last one before what is to patch, and none where that is a base
 abbrev pub settled_before : Ahead → ℕ
@@ -146,11 +146,13 @@ abbrev pub GoesOn : List Ahead → List Ahead → Type 0
 GoesOn [] new = new ≡ []
 GoesOn (a ∷ rest) new = Leaves a rest (drop 1 a.pages.items) new
 
--- by the answer of a patch
+-- by the answer of a patch: a write that failed counts as written
 abbrev pub GoesOnBy : Result Bool StoreFault → List Ahead → List Ahead → Type 0
 GoesOnBy (Ok true) old new = GoesOn old new
 GoesOnBy (Ok false) old new = new ≡ old
-GoesOnBy (Err fault) old new = new ≡ old
+GoesOnBy (Err faults.Disk) old new = GoesOn old new
+GoesOnBy (Err faults.Memory) old new = new ≡ old
+GoesOnBy (Err (faults.Damaged disk place)) old new = ⊥
 
 -- what is ahead, and the last turn that is known, are as before
 pub record KeepsAhead {D : Type 0} (old new : PatchSide D) : Type 0 where

@@ -103,7 +103,8 @@ pub fn hand_keeps_apart<D: Disk>()
     ensures { HandKeepsApart D.told D.size }
 {}
 
-/// So does what leaves the image's pages as they are: room that is made, or a call that ran out of memory.
+/// So does what leaves the image's pages as they are: room that is made, a call that ran out of memory, or a sync that
+/// failed.
 pub fn room_keeps_apart<D: Disk>()
     ensures { RoomKeepsApart D.told D.size }
 {}

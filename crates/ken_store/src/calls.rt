@@ -15,7 +15,7 @@ ghost use Rattle.ken_image.specs.Calls.{Sync, Called};
 ghost use Rattle.ken_store.specs.Answers.{disks_in};
 ghost use Rattle.ken_store.specs.Lending.{LendsStoreHeap};
 ghost use Rattle.ken_store.specs.Numbers.{follows};
-ghost use Rattle.ken_store.specs.Patching.{GoesOnBy, Holds, IsFaultOfCall, KeepsAhead, PatchesBy, PatchSuffers, SettlesBy, disk_answer, patch_calls, settled_turn};
+ghost use Rattle.ken_store.specs.Patching.{GoesOnBy, IsFaultOfCall, KeepsAhead, PatchesBy, PatchSuffers, SettlesBy, disk_answer, patch_calls, settled_turn};
 ghost use Rattle.ken_store.specs.Recovered.{Whole};
 ghost use Rattle.ken_store.specs.Standing.{RecoversMeanwhile, Standing, StandsSealed, TakesCalls, is_either, is_one, sealed_recovery};
 ghost use Rattle.ken_store.specs.Turnovers.{BeginsWith, IsTurned, IsUnturned, ReplacesOn, base_of, kept_disk, replaced_disk, without_told};
@@ -130,10 +130,10 @@ impl<D: Disk> Store<D> {
 
     /// Writes the next page of the oldest record that is to patch, by one call of the image's disk: false exactly where there is
     /// none, and then no call is made. A crash at any moment leaves disks that recover to the same state. After `Disk` the page
-    /// counts as written, and the store is to be released. After `Memory` nothing has changed.
+    /// counts as written, and is no longer to patch; the store is to be released. After `Memory` nothing has changed.
     pub fn patch_next(&mut self) -> Result<bool, StoreFault>
         requires { TakesCalls D.told D.size self.old }
-        ensures stands { (i : ImagePages) → Standing D.told D.size self.old i → PatchesBy result (Standing D.told D.size self.new) (Holds D.told self.new.patches) i }
+        ensures stands { (i : ImagePages) → Standing D.told D.size self.old i → PatchesBy (D.told self.new.patches.image.disk) result (Standing D.told D.size self.new) i }
         ensures recovers { (i : ImagePages) (v : Value) → Standing D.told D.size self.old i → read_value (turn_pages self.old.turns).heap ≡ Some v → RecoversMeanwhile D.told self.old.turns.owner (disks_in self.old) (disks_in self.new) (is_one (Whole (state_in self.old.turns) v)) }
         ensures turns { self.new.turns ≡ self.old.turns }
         ensures more { IfOk result (λ more. IsTrue more ↔ (self.old.patches.ahead.items ≢ [])) }
@@ -141,6 +141,7 @@ impl<D: Disk> Store<D> {
         ensures known { self.new.patches.known ≡ self.old.patches.known }
         ensures takes { OnOk result (TakesCalls D.told D.size self.new) }
         ensures goes_on { IsErrOf result StoreFault.Memory → TakesCalls D.told D.size self.new }
+        ensures fails { OnErr result (Tells (D.told self.new.patches.image.disk) (λ h. TakesCalls D.told D.size self.new)) }
         ensures calls { Follows (Called (disk_answer result) (patch_calls self.old.patches.ahead.items)) (D.told self.old.patches.image.disk) (D.told self.new.patches.image.disk) }
         ensures sound { IfErr result IsFaultOfCall }
         ensures cause { HasCause (D.faults self.old.patches.image.disk) (D.faults self.new.patches.image.disk) (disk_answer result) }
@@ -158,11 +159,12 @@ impl<D: Disk> Store<D> {
         ensures told { IfOk result (λ turn. turn ≡ settled_turn self.old.patches.known self.old.patches.ahead.items) }
         ensures ahead { KeepsAhead self.old.patches self.new.patches }
         ensures clean { (i : ImagePages) → Standing D.told D.size self.old i → IfOk result (λ turn. MayLeaveOut turn (turn_pages self.new.turns) (synced_pages i)) }
-        ensures stands { (i : ImagePages) → Standing D.told D.size self.old i → SettlesBy result (Standing D.told D.size self.new) (Holds D.told self.new.patches) i }
+        ensures stands { (i : ImagePages) → Standing D.told D.size self.old i → SettlesBy (D.told self.new.patches.image.disk) result (Standing D.told D.size self.new) i }
         ensures recovers { (i : ImagePages) (v : Value) → Standing D.told D.size self.old i → read_value (turn_pages self.old.turns).heap ≡ Some v → RecoversMeanwhile D.told self.old.turns.owner (disks_in self.old) (disks_in self.new) (is_one (Whole (state_in self.old.turns) v)) }
         ensures turns { self.new.turns ≡ self.old.turns }
         ensures takes { OnOk result (TakesCalls D.told D.size self.new) }
         ensures goes_on { IsErrOf result StoreFault.Memory → TakesCalls D.told D.size self.new }
+        ensures fails { OnErr result (Tells (D.told self.new.patches.image.disk) (λ h. TakesCalls D.told D.size self.new)) }
         ensures calls { Follows (Called (disk_answer result) (Sync ∷ [])) (D.told self.old.patches.image.disk) (D.told self.new.patches.image.disk) }
         ensures sound { IfErr result IsFaultOfCall }
         ensures cause { HasCause (D.faults self.old.patches.image.disk) (D.faults self.new.patches.image.disk) (disk_answer result) }

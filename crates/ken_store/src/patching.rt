@@ -1,10 +1,10 @@
 // The side of the patcher.
-ghost use Rattle.std.specs.Prelude.{◌≡◌, ◌≢◌, ◌↔◌, ◌+◌, ◌*◌, ◌<◌, ◌≤◌, [], ◌∷◌, take, IsTrue, OnOk, IfOk, IfErr, IsErrOf};
+ghost use Rattle.std.specs.Prelude.{◌≡◌, ◌≢◌, ◌↔◌, ◌+◌, ◌*◌, ◌<◌, ◌≤◌, [], ◌∷◌, take, IsTrue, OnOk, OnErr, IfOk, IfErr, IsErrOf};
 ghost use Rattle.std.specs.VecDeque.{deque_len, deque_capacity};
 ghost use Rattle.ken_disk.specs.Causes.{HasCause};
 ghost use Rattle.ken_disk.specs.Fates.{Suffers};
 ghost use Rattle.ken_disk.specs.Moments.{Through};
-ghost use Rattle.ken_disk.specs.Story.{Follows};
+ghost use Rattle.ken_disk.specs.Story.{Tells, Follows};
 ghost use Rattle.ken_record.specs.Grammar.{rise_from, page_rank};
 ghost use Rattle.ken_cover.specs.Covers.{IsPossible, MayLeaveOut};
 ghost use Rattle.ken_cover.specs.Overlay.{AreWithin};
@@ -16,7 +16,7 @@ ghost use Rattle.ken_image.specs.Whole.{IsWhole};
 ghost use Rattle.ken_store.specs.declared.patching.Origin.TheVariants.{Record};
 ghost use Rattle.ken_store.specs.Ahead.{frame_pages};
 ghost use Rattle.ken_store.specs.PatchLaws.{IsAheadOf};
-ghost use Rattle.ken_store.specs.Patching.{Holds, TakesPatches, Patching, PatchesBy, PatchSuffers, MayBePatched, SettlesBy, IsInOrder, IsFaultOfCall, Grows, GoesOn, GoesOnBy, first_number, page_calls, patch_calls, disk_answer, settled_turn, settled_before};
+ghost use Rattle.ken_store.specs.Patching.{TakesPatches, Patching, PatchesBy, PatchSuffers, MayBePatched, SettlesBy, IsInOrder, IsFaultOfCall, Grows, GoesOn, GoesOnBy, first_number, page_calls, patch_calls, disk_answer, settled_turn, settled_before};
 
 use crate::StoreFault;
 use ken_disk::Disk;
@@ -98,12 +98,13 @@ impl<D: Disk> PatchSide<D> {
     pub fn settle(&mut self) -> Result<u64, StoreFault>
         requires { TakesPatches D.told D.size self.old }
         ensures told { IfOk result (λ turn. turn ≡ settled_turn self.old.known self.old.ahead.items) }
-        ensures stands { (i : ImagePages) → Patching D.told D.size self.old i → SettlesBy result (Patching D.told D.size self.new) (Holds D.told self.new) i }
+        ensures stands { (i : ImagePages) → Patching D.told D.size self.old i → SettlesBy (D.told self.new.image.disk) result (Patching D.told D.size self.new) i }
         ensures clean { (i : ImagePages) (t : TurnPages) → Patching D.told D.size self.old i → IsAheadOf t i → IfOk result (λ turn. MayLeaveOut turn t (synced_pages i)) }
         ensures any_moment { (i : ImagePages) → Patching D.told D.size self.old i → Follows (λ h s. Through (λ image. IsPossible i (take (256 * self.old.image.pages) image)) h s) (D.told self.old.image.disk) (D.told self.new.image.disk) }
         ensures calls { Follows (Called (disk_answer result) (Sync ∷ [])) (D.told self.old.image.disk) (D.told self.new.image.disk) }
         ensures takes { OnOk result (TakesPatches D.told D.size self.new) }
         ensures goes_on { IsErrOf result StoreFault.Memory → TakesPatches D.told D.size self.new }
+        ensures fails { OnErr result (Tells (D.told self.new.image.disk) (λ h. TakesPatches D.told D.size self.new)) }
         ensures ahead { self.new.ahead ≡ self.old.ahead }
         ensures known { self.new.known ≡ self.old.known }
         ensures count { self.new.image.pages ≡ self.old.image.pages }
@@ -116,16 +117,17 @@ impl<D: Disk> PatchSide<D> {
     }
 
     /// Writes the next page of the oldest record that is to patch, by one call of the disk: false exactly where there is none, and
-    /// then no call is made. After `Disk` the page counts as written, and the side is to be released. After `Memory` nothing has
-    /// changed.
+    /// then no call is made. After `Disk` the page counts as written, and is no longer to patch; the side is to be released. After
+    /// `Memory` nothing has changed.
     pub fn patch_next(&mut self) -> Result<bool, StoreFault>
         requires { TakesPatches D.told D.size self.old }
-        ensures stands { (i : ImagePages) → Patching D.told D.size self.old i → PatchesBy result (Patching D.told D.size self.new) (Holds D.told self.new) i }
+        ensures stands { (i : ImagePages) → Patching D.told D.size self.old i → PatchesBy (D.told self.new.image.disk) result (Patching D.told D.size self.new) i }
         ensures any_moment { (i : ImagePages) → Patching D.told D.size self.old i → Follows (λ h s. Through (λ image. MayBePatched i (take (256 * self.old.image.pages) image)) h s) (D.told self.old.image.disk) (D.told self.new.image.disk) }
         ensures calls { Follows (Called (disk_answer result) (patch_calls self.old.ahead.items)) (D.told self.old.image.disk) (D.told self.new.image.disk) }
         ensures more { IfOk result (λ more. IsTrue more ↔ (self.old.ahead.items ≢ [])) }
         ensures takes { OnOk result (TakesPatches D.told D.size self.new) }
         ensures goes_on { IsErrOf result StoreFault.Memory → TakesPatches D.told D.size self.new }
+        ensures fails { OnErr result (Tells (D.told self.new.image.disk) (λ h. TakesPatches D.told D.size self.new)) }
         ensures ahead { GoesOnBy result self.old.ahead.items self.new.ahead.items }
         ensures known { self.new.known ≡ self.old.known }
         ensures count { self.new.image.pages ≡ self.old.image.pages }
@@ -138,9 +140,17 @@ impl<D: Disk> PatchSide<D> {
         let Some(next) = self.ahead.front() else {
             return Ok(false);
         };
-        write_first(&mut self.image, next)?;
-        pass_first(&mut self.ahead);
-        Ok(true)
+        match write_first(&mut self.image, next) {
+            Ok(()) => {
+                pass_first(&mut self.ahead);
+                Ok(true)
+            }
+            Err(ImageFault::Disk) => {
+                pass_first(&mut self.ahead);
+                Err(StoreFault::Disk)
+            }
+            Err(ImageFault::Memory) => Err(StoreFault::Memory),
+        }
     }
 
     // The last turn before what is to patch.
@@ -177,6 +187,7 @@ fn write_first<D: Disk>(image: &mut Image<D>, next: &Ahead) -> Result<(), ImageF
     ensures any_moment { Follows (λ h s. Through (IsTornPage (first_number next.now.pages.items) h.now) h s) (D.told image.old.disk) (D.told image.new.disk) }
     ensures whole { OnOk result (IsWhole D.told D.size image.new) }
     ensures goes_on { IsErrOf result ImageFault.Memory → IsWhole D.told D.size image.new }
+    ensures fails { OnErr result (Tells (D.told image.new.disk) (λ h. IsWhole D.told D.size image.new)) }
     ensures count { image.new.pages ≡ image.old.pages }
     ensures cause { HasImageCause (D.faults image.old.disk) (D.faults image.new.disk) result }
     ensures fate { Follows (Suffers (as_disk result)) (D.fate image.old.disk) (D.fate image.new.disk) }

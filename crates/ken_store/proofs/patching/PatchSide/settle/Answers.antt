@@ -21,7 +21,7 @@ pub returns-in_err-sync-clause-stands : goal.returns-in_err-sync-clause-stands
 returns-in_err-sync-clause-stands g c i p =
     let e = err_from_is_err_and c.from_residual.result c.from_residual.ensures.1 in
     rw (e.1, e.2) (synced_err g.D.Disk.told g.D.Disk.size c.args.self.now i p c.sync.new.self c.sync.ensures.count (Unit {0}) ℕ
-    c.in_err-sync.field-0.0 (λ memory. c.in_err-sync.ensures.goes_on (here c.in_err-sync.field-0.0 memory)) c.in_err-sync.ensures.calls)
+    c.in_err-sync.field-0.0 (λ memory. c.in_err-sync.ensures.goes_on (here c.in_err-sync.field-0.0 memory)) c.in_err-sync.ensures.fails c.in_err-sync.ensures.calls)
 
 pub returns-in_err-sync-clause-any_moment : goal.returns-in_err-sync-clause-any_moment
 returns-in_err-sync-clause-any_moment g c i p =

@@ -4,7 +4,7 @@ use Rattle.ken_store.proofs.store.Store.patch_next.Goals as goal
 
 pub returns-clause-stands : goal.returns-clause-stands
 returns-clause-stands g c = λ i stands.
-    patches_by g.D.Disk.told g.D.Disk.size c.args.self.now (record { turns = c.args.self.now.turns; patches = c.patch_next.new.self }) i _ c.patch_next.result stands refl c.patch_next.ensures.count c.patch_next.ensures.known (c.patch_next.ensures.stands i stands.patches)
+    patches_by g.D.Disk.told g.D.Disk.size c.args.self.now (record { turns = c.args.self.now.turns; patches = c.patch_next.new.self }) i c.patch_next.result stands refl c.patch_next.ensures.count c.patch_next.ensures.known (c.patch_next.ensures.stands i stands.patches)
 
 pub returns-clause-recovers : goal.returns-clause-recovers
 returns-clause-recovers g c = λ i v stands reads.

@@ -4,7 +4,7 @@ use Rattle.ken_store.proofs.store.Store.settle.Goals as goal
 
 pub returns-clause-stands : goal.returns-clause-stands
 returns-clause-stands g c = λ i stands.
-    settles_by g.D.Disk.told g.D.Disk.size c.args.self.now (record { turns = c.args.self.now.turns; patches = c.settle.new.self }) i _ c.settle.result stands refl c.settle.ensures.count c.settle.ensures.known (c.settle.ensures.stands i stands.patches)
+    settles_by g.D.Disk.told g.D.Disk.size c.args.self.now (record { turns = c.args.self.now.turns; patches = c.settle.new.self }) i c.settle.result stands refl c.settle.ensures.count c.settle.ensures.known (c.settle.ensures.stands i stands.patches)
 
 pub returns-clause-recovers : goal.returns-clause-recovers
 returns-clause-recovers g c = λ i v stands reads.
