@@ -1,4 +1,4 @@
--- A node that is up, or whose write of the image failed, may be restarted.
+-- A node that is up may be restarted.
 use Rattle.std.proofs.Common.{◌≡◌, ℕ, ◌*◌, ◌<◌, List, [], ◌∷◌, length, map, replicate, take, Bool, true, false, inr, refl, sym, ap, subst, ◌∙◌, arith, Option, Some, None}
 use Rattle.std.specs.List.{zip}
 use Rattle.ken_disk.specs.Story.{Story, IsImage, Tells}
@@ -16,14 +16,10 @@ use Rattle.ken_cover.specs.declared.layers.Change.{Change}
 use Rattle.ken_cover.specs.declared.layers.Layer.{Layer}
 use Rattle.ken_cover.specs.Covers.{Covers, IsPossible}
 use Rattle.ken_cover.specs.Sides.{ImagePages, TurnPages, changes_at, recounted}
-use Rattle.ken_core.specs.Calls.{Call, Doubt, IsPatchOf, no_doubt}
-use Rattle.ken_core.specs.declared.events.Event.{Event}
-use Rattle.ken_core.specs.declared.events.Event.TheVariants.{Patch}
+use Rattle.ken_core.specs.Calls.{Doubt, no_doubt}
 use Rattle.ken_core.specs.Nodes.{Node, heap_pages}
-use Rattle.ken_core.specs.Packets.{Packet, nothing}
-use Rattle.ken_core.specs.Runs.{NodeRun}
+use Rattle.ken_core.specs.Packets.{Packet}
 use Rattle.ken_core.specs.Steps.{recovered_node}
-use Rattle.std.specs.List.{Contains}
 use Rattle.ken_store.specs.declared.disks.Which.{Which}
 use Rattle.ken_store.specs.declared.disks.Which.TheVariants.{First, Second}
 use Rattle.ken_store.specs.declared.owner.Owner.{Owner}
@@ -43,12 +39,12 @@ use Rattle.ken_node.specs.declared.stage.Stage.TheVariants.{Created}
 use Rattle.ken_node.specs.declared.worker.TurnWorker.{TurnWorker}
 use Rattle.ken_node.specs.Created.{owner_of}
 use Rattle.ken_node.specs.Down.{AreTold, ComesOut, Finds, HasLanded, IsDown, IsSound, LeavesLog, LeavesNode, MountedLog, TellsNode, a_log}
-use Rattle.ken_node.specs.DownLaws.{PatchGoesDown, SyncGoesDown, WholeGoesDown}
+use Rattle.ken_node.specs.DownLaws.{WholeGoesDown}
 use Rattle.ken_node.specs.Meeting.{AreJoined}
 use Rattle.ken_node.specs.Patches.{waits_of}
 use Rattle.ken_node.specs.Whole.{AreOfRun, AreWorkersOf, IsWhole}
 use Rattle.ken_app.specs.Limits.{ComesTo}
-use Rattle.ken_node.proofs.PatchesWhole.{covers-node, joined-patcher}
+use Rattle.ken_node.proofs.PatchesWhole.{covers-node}
 
 -- ---- which of two logs is current
 
@@ -245,28 +241,3 @@ module _ {D : Type 0} (told : D → Option Story) (size : D → ℕ) where
       let h = whole.pages in
       is-down told g v given n no_doubt t p s limits known w.of_run w.joined w.turns.kept tell
       (leaves-now told size g v n t p s w h.turning given n.patching p.side.image.disk (covers-node told size g v n t p w.of_run.size h) (possible-now told size g v n t p s whole))
-
-  -- a patch changes nothing but the image
-  only-image : (g : Game) (v : ℕ) (n after : Node) → Call g v [] (IsPatchOf v) n nothing after → after ≡ record n { patching = after.patching }
-  only-image g v n after call =
-      let run : NodeRun g (Contains []) v n (Patch v call.which.0 ∷ []) nothing after = subst (λ (es : List Event). NodeRun g (Contains []) v n es nothing after) call.which.1 call.run in
-      let step : run.0 ≡ record n { patching = run.0.patching } = let made = run.1.1.1.1.1.1.2 in made ∙ ap (λ (x : Node). record n { patching = x.patching }) (sym made) in
-      let last : after ≡ run.0 = run.1.1.3.1 in
-      last ∙ step ∙ ap (λ (x : Node). record n { patching = x.patching }) (sym last)
-
-  pub patch_goes_down : PatchGoesDown told size
-  patch_goes_down g v given n t p p2 s limits known whole same fails tell =
-      let w = whole.workers in
-      let after : Node = fails.after in
-      let is : after ≡ record n { patching = after.patching } = only-image g v n after fails.call in
-      let covers : Covers (heap_pages g) true n.turning.pages after.patching = subst (λ (x : Node). Covers (heap_pages g) true x.turning.pages after.patching) is fails.covers in
-      is-down told g v given after no_doubt t p2 s limits known w.of_run (joined-patcher told size g v t p p2 s w.joined same) (w.turns.kept ∙ ap (λ (x : Node). x.turning.turns) (sym is)) tell
-      (subst (λ (x : Node). LeavesLogs told g v given x no_doubt (disks_apart t.side p2.side)) (sym is)
-      (leaves-now told size g v n t p s w whole.pages.turning given after.patching p2.side.image.disk covers
-      (λ i ti b ib. subst (λ (x : ImagePages). IsPossible x (take g.size b)) (sym fails.patching) (possible-all g (waits_of fails.queue) fails.image p2.side.image.pages i (fails.holds i ti) fails.pages b ib))))
-
-  pub sync_goes_down : SyncGoesDown told size
-  sync_goes_down g v given n t p p2 s limits known whole same fails tell =
-      let w = whole.workers in
-      is-down told g v given n no_doubt t p2 s limits known w.of_run (joined-patcher told size g v t p p2 s w.joined same) w.turns.kept tell
-      (leaves-now told size g v n t p s w whole.pages.turning given n.patching p2.side.image.disk (covers-node told size g v n t p w.of_run.size whole.pages) fails)

@@ -1,9 +1,9 @@
 -- A page is written or the image is synced, and the workers meet.
-use Rattle.std.proofs.Common.{◌≡◌, ℕ, List, [], ◌∷◌, ◌++◌, ◌≢◌, Option, Bool, true, false, Result, Ok, Err, IsSome, refl, sym, ap, subst, ◌∙◌, append-nil}
+use Rattle.std.proofs.Common.{◌≡◌, ℕ, List, [], ◌∷◌, ◌++◌, ◌≢◌, Option, Some, None, Bool, true, false, Result, Ok, Err, IsSome, refl, sym, ap, subst, ◌∙◌, append-nil}
 use Rattle.std.proofs.lemmas.List.{append_cancel_left}
 use Rattle.std.proofs.lemmas.Bool.{false≢true}
 use Rattle.ken_disk.specs.Fates.{Fate, Suffers}
-use Rattle.ken_disk.specs.Story.{Story, Follows}
+use Rattle.ken_disk.specs.Story.{Story, Tells, Follows}
 use Rattle.ken_image.specs.Calls.{Called, Sync}
 use Rattle.ken_image.specs.declared.image.Image.{Image}
 use Rattle.ken_model.specs.Game.{Game}
@@ -15,6 +15,9 @@ use Rattle.ken_core.specs.Packets.{nothing}
 use Rattle.ken_links.specs.Rings.{pushed, popped}
 use Rattle.ken_store.specs.declared.faults.StoreFault.{StoreFault}
 use Rattle.ken_store.specs.declared.faults.StoreFault.TheVariants as store
+use Rattle.ken_store.specs.declared.disks.Which.{Which}
+use Rattle.ken_store.specs.declared.disks.Which.TheVariants.{First, Second}
+use Rattle.ken_store.specs.Answers.{disks_from}
 use Rattle.ken_store.specs.Apart.{disks_apart, hand_all}
 use Rattle.ken_store.specs.Creations.{HasFailed, IsUnfailed}
 use Rattle.ken_store.specs.Ahead.{ahead_layers}
@@ -30,10 +33,10 @@ use Rattle.ken_node.specs.declared.worker.TurnWorker.{TurnWorker}
 use Rattle.ken_node.specs.Down.{AreTold}
 use Rattle.ken_node.specs.Faults.{IsFaultOfWorker, store_answer}
 use Rattle.ken_node.specs.Meeting.{AreEmpty, AreJoined, HaveMet}
-use Rattle.ken_node.specs.NodeCalls.{DisksFailBy, PatchStepsBy, SettleStepsBy, Steps}
+use Rattle.ken_node.specs.NodeCalls.{DisksFailBy, GoesDown, PatchStepsBy, SettleStepsBy, Steps}
 use Rattle.ken_node.specs.Patches.{IsHandedOver, IsSamePatcher, PatchesOnce, SettlesOnce, waits_of, went, no_room}
 use Rattle.ken_node.specs.WholeLaws.{LeadsTo}
-use Rattle.ken_node.proofs.GoesDown.{patch_goes_down, sync_goes_down}
+use Rattle.ken_node.proofs.GoesDown.{whole_goes_down}
 use Rattle.ken_node.proofs.MeetingDown.{meeting_stays_down}
 use Rattle.ken_node.proofs.PatchesWhole.{patch_keeps_whole, sync_keeps_whole}
 use Rattle.ken_node.proofs.Rings.{queue-moved, ring-popped, ring-pushed}
@@ -46,6 +49,15 @@ front-of-none (x ∷ xs) ys none = absurd cc
 not-some : {A : Type 0} (xs : List A) → (xs ≢ [] → ⊥) → xs ≡ []
 not-some [] none = refl
 not-some (x ∷ xs) none = absurd (none (λ e. cc))
+
+-- what holds where something is told
+told-so : {X A : Type 0} (o : Option X) → IsSome o → Tells o (λ x. A) → A
+told-so (Some x) some so = so x refl
+told-so None some so = absurd (false≢true some)
+
+told-of-image : {D : Type 0} (told : D → Option Story) (w : Which) (log image other : D) → AreTold told (disks_from w log image other) → IsSome (told image)
+told-of-image told First log image other tell = tell.1
+told-of-image told Second log image other tell = tell.1
 
 -- the workers are joined still, so they may meet
 pub joined-patcher : {D : Type 0} (t : TurnWorker D) (p p2 : PatchWorker D) (s : SendWorker) → AreJoined t p s → IsSamePatcher p p2 → AreJoined t p2 s
@@ -70,6 +82,9 @@ module _ {D : Type 0} (told : D → Option Story) (size count : D → ℕ) (fate
   -- the disks of the node are told still
   disks-told : (t : TurnWorker D) (p p2 : PatchWorker D) → (IsSome (told p.side.image.disk) → IsSome (told p2.side.image.disk)) → AreTold told (disks_apart t.side p.side) → AreTold told (disks_apart t.side p2.side)
   disks-told t p p2 goes tell = told-image told t.side.which t.side.log.disk p.side.image.disk p2.side.image.disk t.side.other goes tell
+
+  image-told : (t : TurnWorker D) (p : PatchWorker D) → AreTold told (disks_apart t.side p.side) → IsSome (told p.side.image.disk)
+  image-told t p tell = told-of-image told t.side.which t.side.log.disk p.side.image.disk t.side.other tell
 
   wrote : (b : Bool) (old new : Option Fate) → Follows (PatchSuffers (Ok b)) old new → new ≡ old
   wrote true old new follows = follows-same (PatchSuffers (Ok true)) old new (λ x y is. is.1) follows
@@ -110,6 +125,17 @@ module _ {D : Type 0} (told : D → Option Story) (size count : D → ℕ) (fate
       up = met-up told size t t2 p1 p2 s s2 met g v leads.after up.limits up.known leads.whole (disks-told t p p1 goes up.tell) same joined empty;
     }
 
+    -- and, where the call failed, to one that may be restarted
+    patcher-fails : (says : List Event → Type 0) → (IsSome (told p.side.image.disk) → IsSome (told p1.side.image.disk)) → LeadsTo told size g v [] says n nothing t p1 s → GoesDown told g v n [] [] says nothing no_doubt (Created t2 p2 s2)
+    patcher-fails says goes leads = record {
+      after = leads.after;
+      call = leads.call;
+      spelled = tt;
+      down =
+          meeting_stays_down told size g v [] leads.after no_doubt t t2 p1 p2 s s2
+          (whole_goes_down told size g v [] leads.after t p1 s up.limits up.known leads.whole (disks-told t p p1 goes up.tell)) same joined met;
+    }
+
     -- where no page is to be written, none waits of the node's
     none-ahead : PatchesOnce told size count fate (Ok false) p p1 → n.patching.ahead ≡ []
     none-ahead (no_room e takes) = absurd cc
@@ -131,15 +157,9 @@ module _ {D : Type 0} (told : D → Option Story) (size count : D → ℕ) (fate
     patch-steps (Ok false) sound still is =
         (patcher-steps IsNone (patched-told (Ok false) p p1 is) (patch_keeps_whole told size count fate g v n t p p1 s (Ok false) up.whole still is (met-fronts told size t t2 p1 p2 s s2 met empty)), none-ahead is)
     patch-steps (Err Disk) sound still is =
-        let fails = patch_keeps_whole told size count fate g v n t p p1 s (Err store.Disk) up.whole still is (met-fronts told size t t2 p1 p2 s s2 met empty) in
-        record {
-          after = fails.after;
-          call = fails.call;
-          spelled = tt;
-          down =
-              meeting_stays_down told size g v [] fails.after no_doubt t t2 p1 p2 s s2
-              (patch_goes_down told size g v [] n t p p1 s up.limits up.known up.whole still fails (disks-told t p p1 (patched-told (Err store.Disk) p p1 is) up.tell)) same joined met;
-        }
+        let goes = patched-told (Err store.Disk) p p1 is in
+        patcher-fails (IsPatchOf v) goes
+        (told-so (told p1.side.image.disk) (goes (image-told t p up.tell)) (patch_keeps_whole told size count fate g v n t p p1 s (Err store.Disk) up.whole still is (met-fronts told size t t2 p1 p2 s s2 met empty)))
     patch-steps (Err Memory) sound still is = tt
     patch-steps (Err Outlet) sound still is = sound
     patch-steps (Err (Damaged disk place)) sound still is = sound
@@ -147,15 +167,8 @@ module _ {D : Type 0} (told : D → Option Story) (size count : D → ℕ) (fate
     pub settle-steps : (result : Result (Unit {0}) NodeFault) → IsFaultOfWorker result → IsSamePatcher p p1 → SettlesOnce told size count fate (store_answer result) p p1 → SettleStepsBy told size result g v n (Created t2 p2 s2)
     settle-steps (Ok x) sound still is = patcher-steps (IsSync v) (settled-told (Ok x) p p1 is) (sync_keeps_whole told size count fate g v n t p p1 s (Ok x) up.whole still is)
     settle-steps (Err Disk) sound still is =
-        let fails = sync_keeps_whole told size count fate g v n t p p1 s (Err store.Disk) up.whole still is in
-        record {
-          after = n;
-          call = record { events = []; run = (refl, refl); which = refl };
-          spelled = tt;
-          down =
-              meeting_stays_down told size g v [] n no_doubt t t2 p1 p2 s s2
-              (sync_goes_down told size g v [] n t p p1 s up.limits up.known up.whole still fails (disks-told t p p1 (settled-told {T = Unit {0}} (Err store.Disk) p p1 is) up.tell)) same joined met;
-        }
+        let goes = settled-told {T = Unit {0}} (Err store.Disk) p p1 is in
+        patcher-fails IsNone goes (told-so (told p1.side.image.disk) (goes (image-told t p up.tell)) (sync_keeps_whole told size count fate g v n t p p1 s (Err store.Disk) up.whole still is))
     settle-steps (Err Memory) sound still is = tt
     settle-steps (Err Outlet) sound still is = sound
     settle-steps (Err (Damaged disk place)) sound still is = sound

@@ -1,13 +1,12 @@
 -- A patch and a sync of a whole node.
-use Rattle.std.proofs.Common.{◌≡◌, ℕ, ◌*◌, List, [], ◌∷◌, ◌++◌, take, Bool, true, false, IsTrue, Option, Result, Ok, Err, IsErrOf, refl, sym, ap, subst, ◌∙◌, arith}
+use Rattle.std.proofs.Common.{◌≡◌, ℕ, ◌*◌, List, [], ◌∷◌, ◌++◌, Bool, true, false, IsTrue, Option, Result, Ok, Err, IsErrOf, refl, sym, ap, subst, ◌∙◌, arith}
 use Rattle.ken_disk.specs.Fates.{Fate}
-use Rattle.ken_disk.specs.Story.{Story, Tells}
+use Rattle.ken_disk.specs.Story.{Story}
 use Rattle.ken_model.specs.Game.{Game}
 use Rattle.ken_model.specs.History.{IsPrefixOf}
 use Rattle.ken_record.specs.declared.page.Page.{Page}
-use Rattle.ken_cover.specs.Covers.{Covers, IsPossible, MayLeaveOut}
+use Rattle.ken_cover.specs.Covers.{Covers, MayLeaveOut}
 use Rattle.ken_cover.specs.Sides.{TurnPages, ImagePages, synced_pages}
-use Rattle.ken_cover.proofs.Keeps.{patch_keeps_coverage}
 use Rattle.ken_core.specs.declared.events.Event.TheVariants.{Patch, SyncImage}
 use Rattle.ken_core.specs.Calls.{Call, IsNone, IsPatchOf, IsSync}
 use Rattle.ken_core.specs.Nodes.{Node, heap_pages}
@@ -18,11 +17,11 @@ use Rattle.ken_links.specs.Rings.{pushed, popped}
 use Rattle.ken_store.specs.declared.faults.StoreFault.{StoreFault}
 use Rattle.ken_store.specs.declared.faults.StoreFault.TheVariants.{Disk, Memory, Damaged}
 use Rattle.ken_store.specs.Apart.{Apart, hand_all}
-use Rattle.ken_store.specs.Patching.{HoldsImage, Patched, Patching, settled_turn}
+use Rattle.ken_store.specs.Patching.{Patched, Patching, settled_turn}
 use Rattle.ken_store.specs.Turning.{turn_pages}
 use Rattle.ken_store.proofs.AheadLaws.{patch_keeps_settled, sync_keeps_settled}
 use Rattle.ken_store.proofs.ApartLaws.{patch_keeps_apart, room_keeps_apart, sync_keeps_apart, told_is_sealed, told_is_settled}
-use Rattle.ken_store.proofs.ApartPages.{hand_all-patched, hand_all-possible}
+use Rattle.ken_store.proofs.ApartPages.{hand_all-patched}
 use Rattle.ken_ship.specs.declared.worker.SendWorker.{SendWorker}
 use Rattle.ken_ship.proofs.Emissions.{others_keep_due}
 use Rattle.ken_node.specs.declared.items.Frozen.{Frozen}
@@ -31,7 +30,7 @@ use Rattle.ken_node.specs.declared.worker.TurnWorker.{TurnWorker}
 use Rattle.ken_node.specs.Meeting.{AreFronts, AreJoined}
 use Rattle.ken_node.specs.Patches.{IsSamePatcher, Patches, PatchesOnce, SettlesOnce, TakesNone, TakesOver, waits_of, went, no_room}
 use Rattle.ken_node.specs.Whole.{AreWorkersOf, HasReached, HavePages, IsSettledAt, IsWhole, WereTold}
-use Rattle.ken_node.specs.WholeLaws.{LeadsTo, FailsToPatch, PatchedBy, PatchKeepsWhole, SyncedBy, SyncKeepsWhole}
+use Rattle.ken_node.specs.WholeLaws.{LeadsTo, PatchedBy, PatchKeepsWhole, SyncedBy, SyncKeepsWhole}
 use Rattle.ken_node.proofs.Handed.{handed_apart, handed_same, synced_same}
 use Rattle.ken_node.proofs.Rings.{queue-moved, ring-popped, ring-pushed}
 use Rattle.ken_node.proofs.Told.{told-by, told-last}
@@ -168,30 +167,12 @@ module _ {D : Type 0} (told : D → Option Story) (size : D → ℕ) (g : Game) 
           };
         }
 
-    failed-patch : (mid : PatchWorker D) (pages : HavePages told size n t mid) (image : ImagePages) → popped p2.pages ≡ popped mid.pages → Patched pages.image image → Tells (told p2.side.image.disk) (λ h. HoldsImage p2.side.image.pages image h.now)
-        → p2.side.image.pages ≡ mid.side.image.pages → FailsToPatch told size g v n t p2
-    failed-patch mid pages image popped_same patched holds count_is =
-        let all : ImagePages = hand_all (waits_of pages.queue) image in
-        let is : Patched n.patching all = node-patched n t mid pages image patched in
-        let sized = whole.workers.of_run.size in
-        record {
-          after = record n { patching = all };
-          call = patch-call n all whole.workers.sends.due.up is;
-          queue = pages.queue;
-          ring = pages.ring ∙ ap (λ (xs : List Frozen). xs ++ pages.queue) (sym popped_same);
-          image = image;
-          patching = refl;
-          covers = subst (Covers (heap_pages g) true n.turning.pages) (sym is.is) (patch_keeps_coverage (heap_pages g) n.turning.pages n.patching is.page is.first is.rest is.change is.next (covers-node n t mid sized pages));
-          pages = ap (λ (k : ℕ). 256 * k) (count_is ∙ pages.apart.count) ∙ sized;
-          holds = holds;
-        }
-
     -- by the answer
     patched-by : (result : Result Bool StoreFault) (mid : PatchWorker D) (pages : HavePages told size n t mid) → popped p2.pages ≡ popped mid.pages → p2.settled ≡ p.settled → Patches told size count fate result mid.side p2.side → PatchedBy told size result g v n t p2 s
     patched-by (Ok true) mid pages popped_same settled is = let by = is.stands pages.image pages.apart.patches in one-patched mid pages by.0 popped_same settled by.1.0 by.1.1 is.pages is.known
     patched-by (Ok false) mid pages popped_same settled is = let by = is.stands pages.image pages.apart.patches in none-patched settled (pages-kept n t mid p2 pages popped_same by.1 is.pages is.known)
     patched-by (Err Memory) mid pages popped_same settled is = none-patched settled (pages-kept n t mid p2 pages popped_same (is.stands pages.image pages.apart.patches) is.pages is.known)
-    patched-by (Err Disk) mid pages popped_same settled is = let by = is.stands pages.image pages.apart.patches in failed-patch mid pages by.0 popped_same by.1.0 by.1.1 is.pages
+    patched-by (Err Disk) mid pages popped_same settled is = let by = is.stands pages.image pages.apart.patches in λ h told_is. one-patched mid pages by.0 popped_same settled by.1.0 (by.1.1 h told_is) is.pages is.known
     patched-by (Err (Damaged disk place)) mid pages popped_same settled is = is.stands pages.image pages.apart.patches
 
     no-room-patched : (result : Result Bool StoreFault) → IsErrOf result Memory → TakesNone told size p p2 → PatchedBy told size result g v n t p2 s
@@ -247,12 +228,8 @@ module _ {D : Type 0} (told : D → Option Story) (size : D → ℕ) (g : Game) 
   synced-once count fate n t p p2 s (Ok x) whole same is = synced n t p p2 s whole same is.pages is.stands is.count_is is.known is.tells
   synced-once count fate n t p p2 s (Err Memory) whole same is =
       none-patched count fate n t p p2 s whole same is.untold (pages-kept n t p p2 whole.pages (ap popped is.pages) (is.stands whole.pages.image whole.pages.apart.patches) is.count_is is.known)
-  synced-once count fate n t p p2 s (Err Disk) whole same is = λ h th b left.
-      let pages = whole.pages in
-      let sized : 256 * p2.side.image.pages ≡ g.size = ap (λ (k : ℕ). 256 * k) (is.count_is ∙ pages.apart.count) ∙ whole.workers.of_run.size in
-      let holds = is.stands pages.image pages.apart.patches h th in
-      subst (λ (x : ImagePages). IsPossible x (take g.size b)) (sym pages.patching)
-      (hand_all-possible (waits_of pages.queue) pages.image (take g.size b) (subst (λ (k : ℕ). IsPossible pages.image (take k b)) sized (holds.left b left)))
+  synced-once count fate n t p p2 s (Err Disk) whole same is = λ h now.
+      none-patched count fate n t p p2 s whole same is.untold (pages-kept n t p p2 whole.pages (ap popped is.pages) (is.stands whole.pages.image whole.pages.apart.patches h now) is.count_is is.known)
   synced-once count fate n t p p2 s (Err (Damaged disk place)) whole same is = is.stands whole.pages.image whole.pages.apart.patches
 
 module _ {D : Type 0} (told : D → Option Story) (size count : D → ℕ) (fate : D → Option Fate) where

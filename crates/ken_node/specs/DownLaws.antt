@@ -24,11 +24,9 @@ use Rattle.ken_node.specs.Calls.{IsTurnoverInDoubt, TakesTurn}
 use Rattle.ken_node.specs.Created.{IsCreation}
 use Rattle.ken_node.specs.Down.{AreTold, IsDown}
 use Rattle.ken_node.specs.Meeting.{AreFronts, AreJoined, HaveMet}
-use Rattle.ken_node.specs.Patches.{IsSamePatcher}
 use Rattle.ken_node.specs.Sealing.{coming_pages}
 use Rattle.ken_node.specs.TurnLaws.{DoubtsSeal, DoubtsTurnover, Drew, told_of}
 use Rattle.ken_node.specs.Whole.{IsWhole}
-use Rattle.ken_node.specs.WholeLaws.{FailsToPatch, FailsToSync}
 use Rattle.ken_node.specs.Workers.{HearsNews, IsSameWorker}
 
 module _ {D : Type 0} (told : D → Option Story) (size : D → ℕ) where
@@ -37,18 +35,6 @@ module _ {D : Type 0} (told : D → Option Story) (size : D → ℕ) where
   WholeGoesDown =
       (g : Game) (v : ℕ) (given : List Packet) (n : Node) (t : TurnWorker D) (p : PatchWorker D) (s : SendWorker) → IsWithinLimits g → v < g.nodes → IsWhole told size g v n t p s
       → AreTold told (disks_apart t.side p.side) → IsDown told g v given n no_doubt (Created t p s)
-
-  -- a write of the image failed: the node counts it as written
-  abbrev pub PatchGoesDown : Type 0
-  PatchGoesDown =
-      (g : Game) (v : ℕ) (given : List Packet) (n : Node) (t : TurnWorker D) (p p2 : PatchWorker D) (s : SendWorker) → IsWithinLimits g → v < g.nodes → IsWhole told size g v n t p s
-      → IsSamePatcher p p2 → (fails : FailsToPatch told size g v n t p2) → AreTold told (disks_apart t.side p2.side) → IsDown told g v given fails.after no_doubt (Created t p2 s)
-
-  -- a sync of the image failed: the node is as it was
-  abbrev pub SyncGoesDown : Type 0
-  SyncGoesDown =
-      (g : Game) (v : ℕ) (given : List Packet) (n : Node) (t : TurnWorker D) (p p2 : PatchWorker D) (s : SendWorker) → IsWithinLimits g → v < g.nodes → IsWhole told size g v n t p s
-      → IsSamePatcher p p2 → FailsToSync told size g n p2 → AreTold told (disks_apart t.side p2.side) → IsDown told g v given n no_doubt (Created t p2 s)
 
   -- a node that may be restarted meets its rings
   abbrev pub MeetingStaysDown : Type 0

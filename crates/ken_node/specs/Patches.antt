@@ -3,7 +3,7 @@ use Rattle.std.specs.Prelude.{◌≡◌, ◌≢◌, ℕ, ◌+◌, ◌*◌, ◌�
 use Rattle.ken_disk.specs.Causes.{HasCause}
 use Rattle.ken_disk.specs.Fates.{Fate, Suffers}
 use Rattle.ken_disk.specs.Moments.{Through}
-use Rattle.ken_disk.specs.Story.{Story, Follows}
+use Rattle.ken_disk.specs.Story.{Story, Tells, Follows}
 use Rattle.ken_record.specs.declared.page.Page.{Page}
 use Rattle.ken_cover.specs.Covers.{IsPossible, MayLeaveOut}
 use Rattle.ken_cover.specs.Overlay.{AreWithin}
@@ -16,7 +16,7 @@ use Rattle.ken_store.specs.declared.patching.PatchSide.{PatchSide}
 use Rattle.ken_store.specs.Ahead.{frame_pages}
 use Rattle.ken_store.specs.Apart.{hand_all, known_after}
 use Rattle.ken_store.specs.PatchLaws.{IsAheadOf}
-use Rattle.ken_store.specs.Patching.{GoesOnBy, Holds, MayBePatched, PatchSuffers, Patching, PatchesBy, SettlesBy, TakesPatches, disk_answer, patch_calls, settled_turn}
+use Rattle.ken_store.specs.Patching.{GoesOnBy, MayBePatched, PatchSuffers, Patching, PatchesBy, SettlesBy, TakesPatches, disk_answer, patch_calls, settled_turn}
 use Rattle.ken_ship.specs.Handing.{GaveAll}
 use Rattle.ken_node.specs.declared.items.Frozen.{Frozen}
 use Rattle.ken_node.specs.declared.patcher.PatchWorker.{PatchWorker}
@@ -67,12 +67,13 @@ pub record TakesNone {D : Type 0} (told : D → Option Story) (size : D → ℕ)
 module _ {D : Type 0} (told : D → Option Story) (size count : D → ℕ) (fate : D → Option Fate) where
   -- the next page of the oldest record to patch was written, or none is to be, by the answer
   pub record Patches (result : Result Bool StoreFault) (old new : PatchSide D) : Type 0 where
-    pub stands : (i : ImagePages) → Patching told size old i → PatchesBy result (Patching told size new) (Holds told new) i
+    pub stands : (i : ImagePages) → Patching told size old i → PatchesBy (told new.image.disk) result (Patching told size new) i
     pub any_moment : (i : ImagePages) → Patching told size old i → Follows (λ h s. Through (λ image. MayBePatched i (take (256 * old.image.pages) image)) h s) (told old.image.disk) (told new.image.disk)
     pub calls : Follows (Called (disk_answer result) (patch_calls old.ahead.items)) (told old.image.disk) (told new.image.disk)
     pub more : IfOk result (λ more. IsTrue more ↔ (old.ahead.items ≢ []))
     pub takes : OnOk result (TakesPatches told size new)
     pub goes_on : IsErrOf result Memory → TakesPatches told size new
+    pub fails : OnErr result (Tells (told new.image.disk) (λ h. TakesPatches told size new))
     pub ahead : GoesOnBy result old.ahead.items new.ahead.items
     pub known : new.known ≡ old.known
     pub pages : new.image.pages ≡ old.image.pages
@@ -87,12 +88,13 @@ module _ {D : Type 0} (told : D → Option Story) (size count : D → ℕ) (fate
   -- the image was synced, and the settled turn told, by the answer
   pub record SettlesOnce {T : Type 0} (result : Result T StoreFault) (old new : PatchWorker D) : Type 0 where
     pub pages : new.pages ≡ old.pages
-    pub stands : (i : ImagePages) → Patching told size old.side i → SettlesBy result (Patching told size new.side) (Holds told new.side) i
+    pub stands : (i : ImagePages) → Patching told size old.side i → SettlesBy (told new.side.image.disk) result (Patching told size new.side) i
     pub clean : (i : ImagePages) (t : TurnPages) → Patching told size old.side i → IsAheadOf t i → OnOk result (MayLeaveOut (settled_turn old.side.known old.side.ahead.items) t (synced_pages i))
     pub any_moment : (i : ImagePages) → Patching told size old.side i → Follows (λ h s. Through (λ image. IsPossible i (take (256 * old.side.image.pages) image)) h s) (told old.side.image.disk) (told new.side.image.disk)
     pub calls : Follows (Called (disk_answer result) (Sync ∷ [])) (told old.side.image.disk) (told new.side.image.disk)
     pub takes : OnOk result (TakesPatches told size new.side)
     pub goes_on : IsErrOf result Memory → TakesPatches told size new.side
+    pub fails : OnErr result (Tells (told new.side.image.disk) (λ h. TakesPatches told size new.side))
     pub ahead : new.side.ahead ≡ old.side.ahead
     pub known : new.side.known ≡ old.side.known
     pub count_is : new.side.image.pages ≡ old.side.image.pages

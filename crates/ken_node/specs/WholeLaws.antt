@@ -1,23 +1,19 @@
 -- What the calls of a node's workers are as events of the node, and that the workers stand for it after each.
-use Rattle.std.specs.Prelude.{◌≡◌, ℕ, ◌+◌, ◌*◌, ◌≤◌, List, [], ◌∷◌, ◌++◌, length, take, Option, Bool, true, false, Result, Ok, Err, OnOk}
+use Rattle.std.specs.Prelude.{◌≡◌, ℕ, ◌+◌, ◌≤◌, List, [], ◌∷◌, length, Option, Bool, true, false, Result, Ok, Err, OnOk}
 use Rattle.std.specs.List.{AllByRecursion}
 use Rattle.std.specs.declared.alloc.AllocError.{AllocError}
 use Rattle.ken_disk.specs.Fates.{Fate}
-use Rattle.ken_disk.specs.Story.{Story, IsImage, Tells}
+use Rattle.ken_disk.specs.Story.{Story, Tells}
 use Rattle.ken_model.specs.declared.messages.Out.{Out}
 use Rattle.ken_model.specs.Game.{Game}
-use Rattle.ken_cover.specs.Covers.{Covers, IsPossible}
-use Rattle.ken_cover.specs.Sides.{ImagePages}
 use Rattle.ken_core.specs.declared.events.Event.{Event}
-use Rattle.ken_core.specs.Nodes.{Node, heap_pages}
+use Rattle.ken_core.specs.Nodes.{Node}
 use Rattle.ken_core.specs.Packets.{Packet, Outgoing, nothing}
 use Rattle.ken_core.specs.Calls.{Call, IsNone, IsPatchOf, IsSync, AreSends, AreSomeSends, AreTaken, IsEmit}
 use Rattle.ken_net.specs.Puts.{Put}
 use Rattle.ken_outbox.specs.Waiting.{Waiting}
 use Rattle.ken_store.specs.declared.faults.StoreFault.{StoreFault}
 use Rattle.ken_store.specs.declared.faults.StoreFault.TheVariants.{Disk, Memory, Damaged}
-use Rattle.ken_store.specs.Apart.{hand_all}
-use Rattle.ken_store.specs.Patching.{HoldsImage}
 use Rattle.ken_links.specs.Rings.{pushed, popped}
 use Rattle.ken_ship.specs.declared.emit.Emit.{Emit}
 use Rattle.ken_ship.specs.declared.emit.Emit.TheVariants.{Done, Refused, Nothing}
@@ -30,11 +26,10 @@ use Rattle.ken_ship.specs.Parts.{part_of}
 use Rattle.ken_ship.specs.Parts.{IsSameWorker as IsSameSender}
 use Rattle.ken_ship.specs.Sending.{SentDue, all_due}
 use Rattle.ken_ship.specs.Taking.{Heard, TellsRisen, acks_in}
-use Rattle.ken_node.specs.declared.items.Frozen.{Frozen}
 use Rattle.ken_node.specs.declared.patcher.PatchWorker.{PatchWorker}
 use Rattle.ken_node.specs.declared.worker.TurnWorker.{TurnWorker}
 use Rattle.ken_node.specs.Meeting.{AreFronts, AreJoined, HaveMet}
-use Rattle.ken_node.specs.Patches.{IsSamePatcher, PatchesOnce, SettlesOnce, waits_of}
+use Rattle.ken_node.specs.Patches.{IsSamePatcher, PatchesOnce, SettlesOnce}
 use Rattle.ken_node.specs.Whole.{IsWhole}
 
 -- messages were put, and these events of the node send them
@@ -58,35 +53,19 @@ module _ {D : Type 0} (told : D → Option Story) (size : D → ℕ) where
     pub call : Call g v given says n out after
     pub whole : IsWhole told size g v after t p s
 
-  -- a write of the image failed: it counts as written, and a crash leaves what is possible of the node's image then
-  pub record FailsToPatch (g : Game) (v : ℕ) (n : Node) (t : TurnWorker D) (p : PatchWorker D) : Type 0 where
-    pub after : Node
-    pub call : Call g v [] (IsPatchOf v) n nothing after
-    pub queue : List Frozen
-    pub ring : pushed t.pages ≡ popped p.pages ++ queue
-    pub image : ImagePages
-    pub patching : after.patching ≡ hand_all (waits_of queue) image
-    pub covers : Covers (heap_pages g) true after.turning.pages after.patching
-    pub pages : 256 * p.side.image.pages ≡ g.size
-    pub holds : Tells (told p.side.image.disk) (λ h. HoldsImage p.side.image.pages image h.now)
-
-  -- by the answer of a patch
+  -- by the answer of a patch: a write that failed counts as written, where the disk tells
   abbrev pub PatchedBy : Result Bool StoreFault → Game → ℕ → Node → TurnWorker D → PatchWorker D → SendWorker → Type 0
   PatchedBy (Ok true) g v n t p s = LeadsTo g v [] (IsPatchOf v) n nothing t p s
   PatchedBy (Ok false) g v n t p s = LeadsTo g v [] IsNone n nothing t p s
   PatchedBy (Err Memory) g v n t p s = LeadsTo g v [] IsNone n nothing t p s
-  PatchedBy (Err Disk) g v n t p s = FailsToPatch g v n t p
+  PatchedBy (Err Disk) g v n t p s = Tells (told p.side.image.disk) (λ h. LeadsTo g v [] (IsPatchOf v) n nothing t p s)
   PatchedBy (Err (Damaged disk place)) g v n t p s = ⊥
-
-  -- a sync of the image failed: a crash leaves what is possible of the node's image as it was
-  abbrev pub FailsToSync : Game → Node → PatchWorker D → Type 0
-  FailsToSync g n p = Tells (told p.side.image.disk) (λ h. (b : List ℕ) → IsImage h.now b → IsPossible n.patching (take g.size b))
 
   -- by the answer of a sync: one that failed is no event
   abbrev pub SyncedBy : Result (Unit {0}) StoreFault → Game → ℕ → Node → TurnWorker D → PatchWorker D → SendWorker → Type 0
   SyncedBy (Ok x) g v n t p s = LeadsTo g v [] (IsSync v) n nothing t p s
   SyncedBy (Err Memory) g v n t p s = LeadsTo g v [] IsNone n nothing t p s
-  SyncedBy (Err Disk) g v n t p s = FailsToSync g n p
+  SyncedBy (Err Disk) g v n t p s = Tells (told p.side.image.disk) (λ h. LeadsTo g v [] IsNone n nothing t p s)
   SyncedBy (Err (Damaged disk place)) g v n t p s = ⊥
 
   module _ (count : D → ℕ) (fate : D → Option Fate) where

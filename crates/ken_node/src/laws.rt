@@ -1,5 +1,5 @@
 // What the calls of a node's workers are as events of the node. Each law is the contract of a function that does nothing.
-ghost use Rattle.ken_node.specs.DownLaws.{CreationGoesDown, MeetingStaysDown, PatchGoesDown, SealGoesDown, SyncGoesDown, TurnGoesDown, TurnoverGoesDown, WholeGoesDown};
+ghost use Rattle.ken_node.specs.DownLaws.{CreationGoesDown, MeetingStaysDown, SealGoesDown, TurnGoesDown, TurnoverGoesDown, WholeGoesDown};
 ghost use Rattle.ken_node.specs.KindLaws.{KindsKeepLimits};
 ghost use Rattle.ken_node.specs.NewLaws.{NewAreWhole};
 ghost use Rattle.ken_node.specs.Synced.{UpHasSynced};
@@ -60,16 +60,6 @@ pub fn new_workers_are_whole<D: Disk>()
 /// A node that is up may be restarted, whatever a crash leaves of its disks.
 pub fn a_whole_node_goes_down<D: Disk>()
     ensures { WholeGoesDown D.told D.size }
-{}
-
-/// So may one whose write of the image failed: the page counts as written.
-pub fn a_failed_patch_goes_down<D: Disk>()
-    ensures { PatchGoesDown D.told D.size }
-{}
-
-/// So may one whose sync of the image failed: it is as it was.
-pub fn a_failed_sync_goes_down<D: Disk>()
-    ensures { SyncGoesDown D.told D.size }
 {}
 
 /// So may one whose creation failed.

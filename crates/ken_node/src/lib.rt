@@ -29,11 +29,11 @@ mod worker;
 
 pub use items::Frozen;
 pub use laws::{
-    a_failed_creation_goes_down, a_failed_patch_goes_down, a_failed_turn_goes_down,
-    a_meeting_keeps_the_whole, a_meeting_stays_down, a_node_has_synced, a_patch_keeps_the_whole,
-    a_seal_in_doubt_goes_down, a_sync_keeps_the_whole, a_turn_keeps_the_whole,
-    a_turnover_in_doubt_goes_down, a_whole_node_goes_down, acks_keep_the_whole,
-    an_emission_keeps_the_whole, kinds_keep_limits, new_workers_are_whole, sends_keep_the_whole,
+    a_failed_creation_goes_down, a_failed_turn_goes_down, a_meeting_keeps_the_whole,
+    a_meeting_stays_down, a_node_has_synced, a_patch_keeps_the_whole, a_seal_in_doubt_goes_down,
+    a_sync_keeps_the_whole, a_turn_keeps_the_whole, a_turnover_in_doubt_goes_down,
+    a_whole_node_goes_down, acks_keep_the_whole, an_emission_keeps_the_whole, kinds_keep_limits,
+    new_workers_are_whole, sends_keep_the_whole,
 };
 pub use meeting::meet;
 pub use node::Node;

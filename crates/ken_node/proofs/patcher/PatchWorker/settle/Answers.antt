@@ -7,7 +7,7 @@ use Rattle.ken_cover.specs.Sides.{synced_pages}
 use Rattle.ken_image.specs.Calls.{Sync, Called}
 use Rattle.ken_links.specs.Rings.{pushed}
 use Rattle.ken_store.specs.declared.faults.StoreFault.{StoreFault}
-use Rattle.ken_store.specs.Patching.{Holds, Patching, SettlesBy, TakesPatches, disk_answer, settled_turn}
+use Rattle.ken_store.specs.Patching.{Patching, SettlesBy, TakesPatches, disk_answer, settled_turn}
 use Rattle.ken_node.proofs.Answered.{was_ok}
 use Rattle.ken_node.proofs.patcher.PatchWorker.settle.Goals as goal
 
@@ -21,12 +21,13 @@ returns-clause-settles g c =
     let turn : c.in_ok-settled.settled ≡ settled_turn old.side.known old.side.ahead.items = subst (λ (r : Result ℕ StoreFault). IfOk r (λ t. t ≡ settled_turn old.side.known old.side.ahead.items)) is e.told in
     record {
       pages = refl;
-      stands = λ i p. subst (λ (r : Result ℕ StoreFault). SettlesBy r (Patching told g.D.Disk.size new) (Holds told new) i) is (e.stands i p);
+      stands = λ i p. subst (λ (r : Result ℕ StoreFault). SettlesBy (told new.image.disk) r (Patching told g.D.Disk.size new) i) is (e.stands i p);
       clean = λ i t p ahead. subst (λ (n : ℕ). MayLeaveOut n t (synced_pages i)) turn (subst (λ (r : Result ℕ StoreFault). IfOk r (λ n. MayLeaveOut n t (synced_pages i))) is (e.clean i t p ahead));
       any_moment = e.any_moment;
       calls = subst (λ (r : Result ℕ StoreFault). Follows (Called (disk_answer r) (Sync ∷ [])) (told old.side.image.disk) (told new.image.disk)) is e.calls;
       takes = subst (λ (r : Result ℕ StoreFault). OnOk r (TakesPatches told g.D.Disk.size new)) is e.takes;
       goes_on = λ memory. absurd (let no : ⊥ = cc memory in no);
+      fails = tt;
       ahead = e.ahead;
       known = e.known;
       count_is = e.count;

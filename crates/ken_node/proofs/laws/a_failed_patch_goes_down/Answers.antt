@@ -1,5 +1,0 @@
-use Rattle.ken_node.proofs.GoesDown.{patch_goes_down}
-use Rattle.ken_node.proofs.laws.a_failed_patch_goes_down.Goals as goal
-
-pub returns : goal.returns
-returns g c = patch_goes_down g.D.Disk.told g.D.Disk.size
