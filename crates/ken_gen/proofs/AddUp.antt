@@ -1,5 +1,5 @@
 -- What paths leave at all nodes is the sum of the inputs.
-use Rattle.std.proofs.Common.{◌≡◌, ℕ, zero, suc, ◌+◌, ◌-◌, ◌*◌, ◌/◌, ◌%◌, ◌^◌, ◌<◌, ◌≤◌, List, [], ◌∷◌, sum_by, Bool, true, false, ◌==◌, nat_lt, if◌then◌else◌, Option, Some, None, refl, sym, ap, ◌∙◌, ⊎_elim, arith, eq-eqb, ne_eqb, ltb-true, ltb-false}
+use Rattle.std.proofs.Common.{◌≡◌, ℕ, zero, suc, ◌+◌, ◌-◌, ◌/◌, ◌%◌, ◌^◌, ◌<◌, List, [], ◌∷◌, sum_by, Bool, true, false, ◌==◌, nat_lt, if◌then◌else◌, Option, Some, None, refl, sym, ap, ◌∙◌, ⊎_elim, arith, eq-eqb, ne_eqb, ltb-false}
 use Rattle.std.specs.List.{AllByRecursion, range_with_len}
 use Rattle.std.proofs.Math.Nat.{mod-lt}
 use Rattle.std.proofs.lemmas.Bool.{cases_eq}
@@ -7,7 +7,7 @@ use Rattle.std.proofs.lemmas.List.Sums.{sum_by-cons}
 use Rattle.ken_model.specs.declared.facts.Input.{Input}
 use Rattle.ken_num.specs.Numbers.{num}
 use Rattle.ken_num.proofs.Small.{num-lt}
-use Rattle.ken_gen.specs.Shares.{Visit, counted, counted_of, left, path, path_of}
+use Rattle.ken_gen.specs.Shares.{Visit, counted, counted_of, path, path_of}
 use Rattle.ken_gen.specs.ShareLaws.{SharesAddUp, number_or_none}
 use Rattle.ken_gen.proofs.Paths.{below, counted-cons}
 use Rattle.ken_gen.proofs.Sums.{only, sum-only, sum-plus, sum-same, sum-turned, sum-zero}

@@ -7,3 +7,4 @@ pub mod Shared
 pub mod Soaked
 pub mod Lines
 pub mod AddUp
+pub mod Followed

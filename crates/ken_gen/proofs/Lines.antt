@@ -2,7 +2,7 @@
 use Rattle.std.proofs.Common.{◌≡◌, ℕ, ◌+◌, ◌<◌, ◌≤◌, List, [], ◌∷◌, ◌++◌, length, get_or, drop, flat_map, append_assoc, append-nil, drop-cons, add-one, arith, sym, ap, ◌∙◌}
 use Rattle.std.specs.List.{join_with_byte}
 use Rattle.std.proofs.lemmas.Grind.{common_steps}
-use Rattle.ken_gen.specs.declared.summary.NodeTotal.{NodeTotal}
+use Rattle.ken_gen.specs.declared.soaks.NodeTotal.{NodeTotal}
 use Rattle.ken_gen.specs.Summary.{node_line, node_lines}
 
 -- words that follow another, each after a space

@@ -13,7 +13,7 @@ use Rattle.ken_model.specs.Game.{Game}
 use Rattle.ken_model.specs.Network.{Network, outside}
 use Rattle.ken_model.specs.Schedule.{IsLegal, play}
 use Rattle.ken_num.specs.Numbers.{num}
-use Rattle.ken_gen.specs.declared.summary.NodeTotal.{NodeTotal}
+use Rattle.ken_gen.specs.declared.soaks.NodeTotal.{NodeTotal}
 use Rattle.ken_gen.specs.Draws.{drawn, past}
 use Rattle.ken_gen.specs.Inputs.{input_at, inputs_from, past_input}
 use Rattle.ken_gen.specs.Shares.{Visit, counted, counted_of, left, path, path_of, visits}
@@ -95,10 +95,10 @@ soak-left nodes count seed x =
     let all = sum_by-le (λ (i : Input). counted (λ v. v.left) x (path_of nodes i.node (num i.text))) 999 (inputs_from nodes count seed) each in
     omega (arith, all, inputs_length nodes count seed)
 
-soak-known : (nodes count seed : ℕ) → 0 < nodes → AllByRecursion (λ (i : Input). i.node < nodes) (inputs_from nodes count seed)
+pub soak_known : (nodes count seed : ℕ) → 0 < nodes → AllByRecursion (λ (i : Input). i.node < nodes) (inputs_from nodes count seed)
 unfolding inputs_from input_at
-soak-known nodes zero seed some = tt
-soak-known nodes (suc count) seed some = (drawn_below nodes seed some, soak-known nodes count (past_input seed) some)
+soak_known nodes zero seed some = tt
+soak_known nodes (suc count) seed some = (drawn_below nodes seed some, soak_known nodes count (past_input seed) some)
 
 -- ---- what waits has visits to come
 
@@ -150,7 +150,7 @@ module _ (seed nodes inputs : ℕ) (schedule : List Step) (some : 0 < nodes) (fe
   net = play g schedule
 
   is_share : IsShareGame g
-  is_share = record { handler = refl; few = omega (arith, few_nodes); inputs = soak-known nodes inputs seed some }
+  is_share = record { handler = refl; few = omega (arith, few_nodes); inputs = soak_known nodes inputs seed some }
 
   not_cut : IsCut g net → ⊥
   not_cut cut =

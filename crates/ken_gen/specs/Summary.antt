@@ -1,11 +1,12 @@
 -- The summary of a soak run: what each node came to.
 use Rattle.std.specs.Prelude.{ℕ, ◌+◌, List, [], ◌∷◌, ◌++◌, map, length, codes, decimal, sum_by}
 use Rattle.std.specs.List.{range_with_len}
+use Rattle.ken_model.specs.declared.facts.Input.{Input}
 use Rattle.ken_model.specs.Game.{Game}
 use Rattle.ken_model.specs.Network.{Network}
 use Rattle.ken_model.specs.Ending.{nodes_of}
 use Rattle.ken_model.specs.Report.{line}
-use Rattle.ken_gen.specs.declared.summary.NodeTotal.{NodeTotal}
+use Rattle.ken_gen.specs.declared.soaks.NodeTotal.{NodeTotal}
 use Rattle.ken_gen.specs.Inputs.{inputs_from}
 use Rattle.ken_gen.specs.Shares.{visits, left}
 
@@ -37,7 +38,10 @@ summary_of seed inputs totals =
 abbrev pub totals_in : Game → Network → List NodeTotal
 totals_in g w = map (λ v. record { turns = (w.place v).turns; root = (w.place v).value.root }) (nodes_of g)
 
+-- what the paths of inputs count at a node
+abbrev pub total_by : ℕ → List Input → ℕ → NodeTotal
+total_by nodes inputs v = record { turns = visits nodes v inputs; root = left nodes v inputs }
+
 -- the text of a seed, so many nodes and so many inputs
 unfoldable pub summary : ℕ → ℕ → ℕ → List ℕ
-summary seed nodes inputs =
-    summary_of seed inputs (map (λ v. record { turns = visits nodes v (inputs_from nodes inputs seed); root = left nodes v (inputs_from nodes inputs seed) }) (range_with_len 0 nodes))
+summary seed nodes inputs = summary_of seed inputs (map (total_by nodes (inputs_from nodes inputs seed)) (range_with_len 0 nodes))

@@ -6,10 +6,11 @@ mod generated;
 mod inputs;
 mod laws;
 mod mishaps;
-mod summary;
+mod soaks;
 #[cfg(test)]
 mod tests;
+mod walks;
 
 pub use generated::script_of;
 pub use laws::{shares_add_up, shares_come_out, soaks_come_out};
-pub use summary::{NodeTotal, summary_of};
+pub use soaks::{NodeTotal, summary, summary_of};

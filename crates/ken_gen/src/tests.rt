@@ -1,5 +1,5 @@
 // Scripts whose parts another program drew, written from the README's table, and summaries that it wrote.
-use crate::{NodeTotal, script_of, summary_of};
+use crate::{NodeTotal, script_of, summary, summary_of};
 use ken_net::{Act, LinkAct};
 use ken_script::DiskCut;
 use std::test::Fail;
@@ -58,21 +58,32 @@ fn leaves_out_what_strikes_where_an_earlier_one_does(rt: HostRuntime) -> Result<
     Ok(())
 }
 
+const ONE: &str = "soak 0 1 1\nnode 0 9 424\nturns 9\nsum 424\nsettled\n";
+
+const THREE: &str =
+    "soak 10409897091101892993 3 12\nnode 0 35 2009\nnode 1 34 2172\nnode 2 33 1483\nturns 102\nsum 5664\nsettled\n";
+
+const SEVEN: &str =
+    "soak 0 7 23\nnode 0 31 2423\nnode 1 31 1693\nnode 2 30 1658\nnode 3 29 1568\nnode 4 28 1499\nnode 5 29 1620\nnode 6 30 2301\nturns 208\nsum 12762\nsettled\n";
+
 fn total(turns: u64, root: u64) -> NodeTotal {
     NodeTotal { turns, root }
 }
 
 #[test]
-fn writes_what_another_program_writes(rt: HostRuntime) -> Result<(), Fail> {
-    let one = summary_of(rt.alloc(), 0, 1, &[total(9, 424)])?;
-    assert!(rt;
-        one.as_slice() == b"soak 0 1 1\nnode 0 9 424\nturns 9\nsum 424\nsettled\n".as_slice()
-    );
-    let three = [total(35, 2009), total(34, 2172), total(33, 1483)];
-    let three = summary_of(rt.alloc(), 10_409_897_091_101_892_993, 12, &three)?;
-    assert!(rt;
-        three.as_slice()
-            == b"soak 10409897091101892993 3 12\nnode 0 35 2009\nnode 1 34 2172\nnode 2 33 1483\nturns 102\nsum 5664\nsettled\n".as_slice()
-    );
+fn writes_what_nodes_came_to(rt: HostRuntime) -> Result<(), Fail> {
+    let text = summary_of(rt.alloc(), 0, 1, &[total(9, 424)])?;
+    assert!(rt; text.as_slice() == ONE.as_bytes());
+    Ok(())
+}
+
+#[test]
+fn writes_the_summaries_that_another_program_writes(rt: HostRuntime) -> Result<(), Fail> {
+    let one = summary(rt.alloc(), 0, 1, 1)?;
+    assert!(rt; one.as_slice() == ONE.as_bytes());
+    let three = summary(rt.alloc(), 10_409_897_091_101_892_993, 3, 12)?;
+    assert!(rt; three.as_slice() == THREE.as_bytes());
+    let seven = summary(rt.alloc(), 0, 7, 23)?;
+    assert!(rt; seven.as_slice() == SEVEN.as_bytes());
     Ok(())
 }

@@ -1,7 +1,7 @@
 use Rattle.std.proofs.Common.{◌≡◌, ◌∷◌, ◌++◌, map, drop, decimal}
 use Rattle.std.specs.List.{join_with_byte}
 use Rattle.ken_gen.proofs.Lines.{following}
-use Rattle.ken_gen.proofs.summary.put_line.Given as goal
+use Rattle.ken_gen.proofs.soaks.put_line.Given as goal
 
 -- the words so far, with those that are still to be written, are all
 abbrev pub invariant-loop-number : goal.invariant-loop-number

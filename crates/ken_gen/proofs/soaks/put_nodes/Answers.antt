@@ -1,7 +1,7 @@
 use Rattle.std.proofs.Common.{◌+◌, ◌++◌, drop, ap, ◌∙◌}
 use Rattle.ken_gen.specs.Summary.{node_lines}
 use Rattle.ken_gen.proofs.Lines.{lines_on, lines_done}
-use Rattle.ken_gen.proofs.summary.put_nodes.Goals as goal
+use Rattle.ken_gen.proofs.soaks.put_nodes.Goals as goal
 
 pub loop-node-preserved : goal.loop-node-preserved
 loop-node-preserved c =

@@ -1,6 +1,6 @@
 use Rattle.std.proofs.Common.{◌++◌, map, decimal, ap, ◌∙◌}
 use Rattle.ken_gen.proofs.Lines.{following, joined}
-use Rattle.ken_gen.proofs.summary.put_line.Goals as goal
+use Rattle.ken_gen.proofs.soaks.put_line.Goals as goal
 
 pub loop-number-init : goal.loop-number-init
 loop-number-init c =

@@ -1,10 +1,13 @@
 // The summary of a soak run.
-ghost use Rattle.std.specs.Prelude.{◌≡◌, ◌<◌, ◌^◌, ◌∷◌, ◌++◌, map, decimal, IfOk, OnOk};
+ghost use Rattle.std.specs.Prelude.{◌≡◌, ◌<◌, ◌≤◌, ◌^◌, ◌∷◌, ◌++◌, map, decimal, IfOk, OnOk};
+ghost use Rattle.ken_model.specs.declared.facts.TheConstants.{MAX_INPUTS, MAX_NODES};
 ghost use Rattle.ken_model.specs.Report.{line};
-ghost use Rattle.ken_gen.specs.Summary.{all_roots, all_turns, node_lines, summary_of};
+ghost use Rattle.ken_gen.specs.Summary.{all_roots, all_turns, node_lines, summary, summary_of};
 
+use crate::inputs::draw_inputs;
+use crate::walks::follow_all;
 use ken_model::Octets;
-use ken_num::put_decimal;
+use ken_num::{Lcg, put_decimal};
 use std::alloc::{AllocError, Global};
 
 /// What a node came to.
@@ -40,6 +43,19 @@ pub fn summary_of(
     put_line(&mut out, b"sum", &[sum_roots(totals)])?;
     put_line(&mut out, b"settled", &[])?;
     Ok(Octets::new(out))
+}
+
+/// The summary of a seed, so many nodes and so many inputs, by the inputs' paths alone: no run is made.
+#[tactic(auto, using(crate::proofs::Keeps::inputs_length), unfolding(crate::specs::Summary::summary))]
+pub fn summary(alloc: Global, seed: u64, nodes: u8, inputs: u16) -> Result<Octets, AllocError>
+    requires some { 0 < nodes }
+    requires few_nodes { nodes ≤ MAX_NODES }
+    requires few_inputs { inputs ≤ MAX_INPUTS }
+    ensures text { IfOk result (λ text. text ≡ summary seed nodes inputs) }
+{
+    let drawn = draw_inputs(alloc, &mut Lcg::new(seed), nodes, inputs)?;
+    let totals = follow_all(alloc, nodes, drawn.as_slice())?;
+    summary_of(alloc, seed, inputs, totals.as_slice())
 }
 
 /// The turns of all nodes.
