@@ -152,16 +152,19 @@ module _ (seed nodes inputs : ℕ) (schedule : List Step) (some : 0 < nodes) (fe
   is_share : IsShareGame g
   is_share = record { handler = refl; few = omega (arith, few_nodes); inputs = soak_known nodes inputs seed some }
 
-  not_cut : IsCut g net → ⊥
-  not_cut cut =
-      let u = cut.some.0 in
-      let v = cut.some.1 in
-      let waits : 0 < waiting_on (net.link u v) = cut.some.2 in
+  enough : (u v : ℕ) → 0 < waiting_on (net.link u v) → (net.place v).turns < g.turns
+  enough u v waits =
       let mid = midway g v schedule is_share legal in
       let link = mid.links u v (omega (arith, waits)) in
       let one_waits = some-weight nodes v (drop (net.link u v).taken (net.link u v).sent) (omega (arith, waits, length-drop (net.link u v).taken (net.link u v).sent)) in
       let within = total-at nodes (λ u v'. on_link (weight (λ v. 1) v nodes v') (net.link u v')) u v is_share.few link in
-      omega (arith, mid.turns, soak-visits nodes inputs seed v, few_inputs, one_waits, within, cut.each u v waits)
+      omega (arith, mid.turns, soak-visits nodes inputs seed v, few_inputs, one_waits, within)
+
+  not_cut : IsCut g net → ⊥
+  not_cut cut =
+      let more = enough cut.some.0 cut.some.1 cut.some.2 in
+      let all = cut.each cut.some.0 cut.some.1 cut.some.2 in
+      omega (arith, more, all)
 
   told : IsSettled net → summary_of seed inputs (totals_in g net) ≡ summary seed nodes inputs
   unfolding summary
@@ -178,6 +181,7 @@ module _ (seed nodes inputs : ℕ) (schedule : List Step) (some : 0 < nodes) (fe
 
 pub soaks_come_out : SoaksComeOut
 soaks_come_out seed nodes inputs schedule some few_nodes few_inputs legal = record {
+  enough = enough seed nodes inputs schedule some few_nodes few_inputs legal;
   not_cut = not_cut seed nodes inputs schedule some few_nodes few_inputs legal;
   told = told seed nodes inputs schedule some few_nodes few_inputs legal;
 }

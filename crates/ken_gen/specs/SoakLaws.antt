@@ -2,7 +2,7 @@
 use Rattle.std.specs.Prelude.{◌≡◌, ℕ, ◌<◌, ◌≤◌, List}
 use Rattle.ken_model.specs.declared.facts.TheConstants.{MAX_INPUTS, MAX_NODES}
 use Rattle.ken_model.specs.declared.messages.Step.{Step}
-use Rattle.ken_model.specs.Ending.{IsCut, IsSettled}
+use Rattle.ken_model.specs.Ending.{IsCut, IsSettled, waiting_on}
 use Rattle.ken_model.specs.Game.{Game, game_of}
 use Rattle.ken_model.specs.Network.{Network}
 use Rattle.ken_model.specs.Schedule.{IsLegal, play}
@@ -13,8 +13,10 @@ use Rattle.ken_gen.specs.Summary.{summary, summary_of, totals_in}
 abbrev pub soak_game : ℕ → ℕ → ℕ → Game
 soak_game seed nodes inputs = game_of (script_of seed nodes inputs).facts
 
--- nobody is short of turns while something waits, and where nothing waits the nodes came to what the summary tells
+-- each node for which something waits has turns left, so the run isn't cut; and where nothing waits the nodes came to what the summary
+-- tells
 pub record IsSoaked (seed nodes inputs : ℕ) (w : Network) : Type 0 where
+  pub enough : (u v : ℕ) → 0 < waiting_on (w.link u v) → (w.place v).turns < (soak_game seed nodes inputs).turns
   pub not_cut : IsCut (soak_game seed nodes inputs) w → ⊥
   pub told : IsSettled w → summary_of seed inputs (totals_in (soak_game seed nodes inputs) w) ≡ summary seed nodes inputs
 
