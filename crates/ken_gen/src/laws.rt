@@ -13,8 +13,8 @@ pub fn shares_add_up()
     ensures { SharesAddUp }
 {}
 
-/// Whatever the schedule, a soak run never ends for want of turns, and where nothing waits its summary is the one of its
-/// seed, nodes and inputs.
+/// Whatever the schedule, in a soak run each node for which something waits has turns left, and where nothing waits its
+/// summary is the one of its seed, nodes and inputs.
 pub fn soaks_come_out()
     ensures { SoaksComeOut }
 {}
