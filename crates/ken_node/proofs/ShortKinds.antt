@@ -12,7 +12,7 @@ use Rattle.ken_model.specs.declared.messages.Message.{Message}
 use Rattle.ken_model.specs.declared.messages.Send.{Send}
 use Rattle.ken_model.specs.Effects.{Effect, answered, refused}
 use Rattle.ken_model.specs.Heap.{first_gap, with_block, with_bytes, without_block}
-use Rattle.ken_model.specs.Bank.{Order, Open, Move, Credit, account, account_of, balance_of, credit_text, opened, moved, moved_from, with_account, with_balance, with_credit, bank, order_of}
+use Rattle.ken_model.specs.Bank.{Order, Open, Move, Credit, account, account_of, balance_of, credit_text, opened, moved, moved_from, with_credit, bank, order_of}
 use Rattle.ken_model.specs.Kinds.{after, handler_of, mix, mix_counts, ring, share, tally, to_others, without_draws}
 use Rattle.ken_model.specs.KeyValue.{Command, Put, Get, Delete, at_space, put_of, key_of, command_in, command_of, is_key, pair_of, without_pair, put_at, get_from, delete_from, kv}
 use Rattle.ken_model.proofs.Heaps.{account-length}
