@@ -22,7 +22,8 @@ use Rattle.ken_gen.specs.SoakLaws.{SoaksComeOut, soak_game}
 use Rattle.ken_gen.specs.Summary.{summary, summary_of, totals_in}
 use Rattle.ken_gen.proofs.Keeps.{drawn_below, inputs_length}
 use Rattle.ken_gen.proofs.Links.{on_link, weighed}
-use Rattle.ken_gen.proofs.Paths.{below, counted-cons, num_decimal, weight}
+use Rattle.ken_num.proofs.ReadBack.{num_decimal}
+use Rattle.ken_gen.proofs.Paths.{below, counted-cons, weight}
 use Rattle.ken_gen.proofs.Shared.{midway, shares_come_out}
 use Rattle.ken_gen.proofs.Sums.{IsLink, one, total, total-one}
 
