@@ -1,0 +1,5 @@
+pub mod Lists
+pub mod Beside
+pub mod Weave
+pub mod Crossing
+pub mod Keeping

@@ -1,0 +1,4 @@
+pub mod Workers
+pub mod Orders
+pub mod Laws
+pub mod Crossing
