@@ -1,8 +1,7 @@
 -- Two workers that each heard the other first have no order.
-use Rattle.std.proofs.Common.{◌≡◌, ℕ, ◌+◌, ◌≤◌, List, [], ◌∷◌, ◌++◌, length, Bool, true, false, refl, sym, ap, ◌∙◌, subst, arith}
+use Rattle.std.proofs.Common.{◌≡◌, ℕ, ◌+◌, ◌≤◌, List, [], ◌∷◌, ◌++◌, Bool, true, false, refl, sym, ap, ◌∙◌, subst, arith}
 use Rattle.std.specs.List.{AllByRecursion}
-use Rattle.ken_model.specs.History.{IsPrefixOf}
-use Rattle.ken_weave.specs.Workers.{Steps, none, then, Ends, Counts, Tells, AreFronts}
+use Rattle.ken_weave.specs.Workers.{none, then, Counts, Tells, AreFronts}
 use Rattle.ken_weave.specs.Orders.{Woven, done, turns, patches, sends}
 use Rattle.ken_weave.specs.Crossing.{once, never, first, ends, HaveCrossed, StepsMayNotWeave}
 
@@ -26,11 +25,11 @@ not_handed : (t p : Bool) → t ≡ false → p ≡ true → AreFronts ends ends
 not_handed t p e f fronts =
     let handed = sym (ap first e) ∙ fronts.handed.1 ∙ ap (λ l. l ++ fronts.handed.0) (ap first f) in absurd cc
 
-no_order : (t t2 p p2 s s2 : Bool) → t ≡ false → t2 ≡ true → p ≡ false → Woven once once never HaveCrossed t p s t2 p2 s2 → ⊥
-no_order t t2 p p2 s s2 e e2 f done = absurd cc
-no_order t t2 p p2 s s2 e e2 f (turns {t2 = mid} one fact rest) = not_front mid p one.1 f fact
-no_order t t2 p p2 s s2 e e2 f (patches {p2 = mid} one fact rest) = not_handed t mid e one.1 fact
-no_order t t2 p p2 s s2 e e2 f (sends {s2 = mid} one fact rest) = one
+no_order : (t t2 p p2 s s2 : Bool) (ts ps ss : List Bool) → t ≡ false → t2 ≡ true → p ≡ false → Woven once once never HaveCrossed t p s ts ps ss t2 p2 s2 → ⊥
+no_order t t2 p p2 s s2 ts ps ss e e2 f done = absurd cc
+no_order t t2 p p2 s s2 ts ps ss e e2 f (turns {t2 = mid} one fact rest) = not_front mid p one.1 f fact
+no_order t t2 p p2 s s2 ts ps ss e e2 f (patches {p2 = mid} one fact rest) = not_handed t mid e one.1 fact
+no_order t t2 p p2 s s2 ts ps ss e e2 f (sends {s2 = mid} one fact rest) = one
 
 pub may_not : StepsMayNotWeave
 may_not = record {
@@ -41,5 +40,5 @@ may_not = record {
   in_step = refl;
   starts = record { handed = ([], refl); told = ([], refl) };
   stops = record { handed = ([], refl); told = ([], refl) };
-  no_order = no_order false true false true false false refl refl refl;
+  no_order = no_order false true false true false false (true ∷ []) (true ∷ []) [] refl refl refl;
 }

@@ -27,9 +27,9 @@ HaveCrossed t p s = AreFronts ends ends t p
 pub record StepsMayNotWeave : Type 0 where
   pub counts : Counts once ends
   pub tells : Tells once ends (λ (n : ℕ). n)
-  pub turn : Steps once false true
-  pub patch : Steps once false true
+  pub turn : Steps once false (true ∷ []) true
+  pub patch : Steps once false (true ∷ []) true
   pub in_step : IsInStep ends ends false false
   pub starts : AreFronts ends ends false false
   pub stops : AreFronts ends ends true true
-  pub no_order : Woven once once never HaveCrossed false false false true true false → ⊥
+  pub no_order : Woven once once never HaveCrossed false false false (true ∷ []) (true ∷ []) [] true true false → ⊥

@@ -1,12 +1,12 @@
 -- Workers that run side by side, with rings between them.
-use Rattle.std.specs.Prelude.{◌≡◌, ℕ, ◌+◌, ◌≤◌, List, ◌++◌, length}
+use Rattle.std.specs.Prelude.{◌≡◌, ℕ, ◌+◌, ◌≤◌, List, [], ◌∷◌, ◌++◌, length}
 use Rattle.std.specs.List.{AllByRecursion}
 use Rattle.ken_model.specs.History.{IsPrefixOf}
 
--- steps of a worker, one after the other
-pub data Steps {W : Type 0} (step : W → W → Type 0) : W → W → Type 0 where
-  none : {a : W} → Steps step a a
-  then : {a b c : W} → step a b → Steps step b c → Steps step a c
+-- steps of a worker, one after the other, with the state that each led to
+pub data Steps {W : Type 0} (step : W → W → Type 0) : W → List W → W → Type 0 where
+  none : {a : W} → Steps step a [] a
+  then : {a b c : W} {bs : List W} → step a b → Steps step b bs c → Steps step a (b ∷ bs) c
 
 -- a worker's ends of two rings between a handler and a worker beside it: one by which turns are handed over, and one by which
 -- news of them are told

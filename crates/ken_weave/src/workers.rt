@@ -1,20 +1,24 @@
-/// Three workers that run side by side: a handler that makes turns, a patcher and an externaliser that each take them over and
-/// tell it news.
+/// Three workers that run side by side: a handler that makes turns, and a patcher and an externaliser that each take them
+/// over and tell it news.
 pub trait Workers {
     ghost use Rattle.std.specs.Prelude.{ℕ};
     ghost use Rattle.ken_weave.specs.Workers.{Ends};
 
     /// The handler, the patcher and the externaliser.
     type Turns;
+
     type Patches;
+
     type Sends;
 
     /// What the handler hands to the patcher at each turn, and what it hears from it.
     type Pages;
+
     type Settled;
 
     /// The same between the handler and the externaliser.
     type Sealed;
+
     type Progress;
 
     /// A step of each.
@@ -37,14 +41,16 @@ pub trait Workers {
     /// How many turns had been handed over, by what is told.
     ghost settled_by: { Self.Settled → ℕ };
 
-    ghost progress_by: { Self.Progress → ℕ };
+    ghost told_by: { Self.Progress → ℕ };
 }
 
 /// A fact of three workers, and what holds of them after each step of an order.
 pub trait Fact {
     /// The handler, the patcher and the externaliser.
     type Turns;
+
     type Patches;
+
     type Sends;
 
     /// A step of each.
