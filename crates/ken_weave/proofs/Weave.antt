@@ -62,7 +62,8 @@ module _ {T W K N : Type 0} (handler : Ends T K N) (beside : Ends W K N) where
 module _ {T P S K L N M : Type 0} (turn : T → T → Type 0) (patch : P → P → Type 0) (send : S → S → Type 0)
     (to_patcher : Ends T K N) (patcher : Ends P K N) (to_sender : Ends T L M) (sender : Ends S L M)
     (settled_by : N → ℕ) (told_by : M → ℕ)
-    (rules : KeepRules turn patch send to_patcher patcher to_sender sender settled_by told_by) where
+    (rules : KeepRules turn patch send to_patcher patcher to_sender sender settled_by told_by)
+    (waits_settled : Waits turn to_patcher settled_by) (waits_progress : Waits turn to_sender told_by) where
   abbrev Order : T → P → S → List T → List P → List S → T → P → S → Type 0
   Order = Woven turn patch send (HaveFronts turn patch send to_patcher patcher to_sender sender)
 
@@ -105,10 +106,10 @@ module _ {T P S K L N M : Type 0} (turn : T → T → Type 0) (patch : P → P �
   woven t t3 p p3 s s3 ts ps ss (then {b = t2} {bs = later} one rest) by_p by_s same_p same_s starts stops =
       let caught_p = catch_up patch patcher rules.patches settled_by rules.settled (to_patcher.turns t) p p3 ps by_p (to_patcher.told t2)
       (front_then (to_patcher.told t2) (to_patcher.told t3) (patcher.told p3) (told_grows turn to_patcher rules.hands_pages t2 t3 later rest) stops.0.told)
-      (ripe_then to_patcher patcher turn rules.hands_pages settled_by rules.waits_settled t t2 p one starts.0) in
+      (ripe_then to_patcher patcher turn rules.hands_pages settled_by waits_settled t t2 p one starts.0) in
       let caught_s = catch_up send sender rules.sends told_by rules.progress (to_sender.turns t) s s3 ss by_s (to_sender.told t2)
       (front_then (to_sender.told t2) (to_sender.told t3) (sender.told s3) (told_grows turn to_sender rules.hands_sealed t2 t3 later rest) stops.1.told)
-      (ripe_then to_sender sender turn rules.hands_sealed told_by rules.waits_progress t t2 s one starts.1) in
+      (ripe_then to_sender sender turn rules.hands_sealed told_by waits_progress t t2 s one starts.1) in
       let p2 = caught_p.at in
       let s2 = caught_s.at in
       let taken_p = front_then (patcher.handed p2) (patcher.handed p3) (to_patcher.handed t3) (handed_grows patch patcher rules.patches p2 p3 caught_p.after caught_p.rest) stops.0.handed in

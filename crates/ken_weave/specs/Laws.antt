@@ -9,7 +9,7 @@ module _ {T P S K L N M : Type 0} (turn : T → T → Type 0) (patch : P → P �
   abbrev pub HaveFronts : T → P → S → Type 0
   HaveFronts t p s = AreFronts to_patcher patcher t p × AreFronts to_sender sender t s
 
-  -- what is known of each worker's own steps
+  -- what is known of each worker's own steps, but for the handler's test
   pub record KeepRules (settled_by : N → ℕ) (told_by : M → ℕ) : Type 0 where
     pub hands_pages : Counts turn to_patcher
     pub hands_sealed : Counts turn to_sender
@@ -17,13 +17,12 @@ module _ {T P S K L N M : Type 0} (turn : T → T → Type 0) (patch : P → P �
     pub sends : Counts send sender
     pub settled : Tells patch patcher settled_by
     pub progress : Tells send sender told_by
-    pub waits_settled : Waits turn to_patcher settled_by
-    pub waits_progress : Waits turn to_sender told_by
 
-  -- the steps that each worker made go into one order in which nothing leaves a ring before it was pushed, where that is so at
-  -- the start and at the end
+  -- with the test, the steps that each worker made go into one order in which nothing leaves a ring before it was pushed, where
+  -- that is so at the start and at the end
   abbrev pub StepsWeave : (N → ℕ) → (M → ℕ) → Type 0
-  StepsWeave settled_by told_by = KeepRules settled_by told_by → (t t2 : T) (p p2 : P) (s s2 : S) (ts : List T) (ps : List P) (ss : List S) → Steps turn t ts t2 → Steps patch p ps p2 → Steps send s ss s2
+  StepsWeave settled_by told_by = KeepRules settled_by told_by → Waits turn to_patcher settled_by → Waits turn to_sender told_by
+      → (t t2 : T) (p p2 : P) (s s2 : S) (ts : List T) (ps : List P) (ss : List S) → Steps turn t ts t2 → Steps patch p ps p2 → Steps send s ss s2
       → IsInStep to_patcher patcher t p → IsInStep to_sender sender t s → HaveFronts t p s → HaveFronts t2 p2 s2
       → Woven turn patch send HaveFronts t p s ts ps ss t2 p2 s2
 
