@@ -411,31 +411,33 @@ fn bank_knows_its_orders_alone(rt: HostRuntime) -> Result<(), AllocError> {
     Ok(())
 }
 
-// A page has no room for an account beside a pair of 208 bytes.
-fn try_full<'a>(
+// A heap that holds a pair, and keeps it as it is.
+fn try_beside<'a>(
     rt: &(impl Abort + AllocGlobal),
+    pair: &'a [u8],
     from: u8,
     payload: &'a [u8],
     root_then: u64,
     outs: &'a [&'a [u8]],
 ) -> Result<(), AllocError> {
-    let pair = text_of(rt.alloc(), b"k ", 208)?;
     let case = Case {
         from,
         payload,
-        block: &pair,
+        block: pair,
         root_then,
-        block_then: &pair,
+        block_then: pair,
         outs,
         ..BAD
     };
     try_case(rt, &KindApp(Kind::Bank), &case)
 }
 
+// A page has no room for an account beside a pair of 208 bytes.
 #[test]
 fn a_credit_without_room_goes_to_the_root(rt: HostRuntime) -> Result<(), AllocError> {
-    try_full(&rt, OUTSIDE, b"open x 1", 5, &[b"full"])?;
-    try_full(&rt, 0, b"credit x 7", 12, &[b"got"])
+    let pair = text_of(rt.alloc(), b"k ", 208)?;
+    try_beside(&rt, &pair, OUTSIDE, b"open x 1", 5, &[b"full"])?;
+    try_beside(&rt, &pair, 0, b"credit x 7", 12, &[b"got"])
 }
 
 #[test]
