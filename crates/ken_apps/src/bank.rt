@@ -100,7 +100,9 @@ fn transfer<O: Oracle>(
 fn credit<O: Oracle>(turn: &mut Turn<'_, O>, name: &[u8], amount: u64) -> Result<(), AllocError>
     requires fresh { IsFresh (turning turn.old) }
     requires name { IsNameLong name.now }
-    ensures value { OnOk result ((turning turn.new).heap.value ≡ with_credit (turning turn.old).heap.value name.now amount (account_of name.now (turning turn.old).heap.value.blocks) (first_gap (turning turn.old).heap.value (length name.now + 9))) }
+    ensures value { OnOk result ((turning turn.new).heap.value ≡ with_credit (turning turn.old).heap.value name.now amount
+        (account_of name.now (turning turn.old).heap.value.blocks)
+        (first_gap (turning turn.old).heap.value (length name.now + 9))) }
     ensures rest { turning turn.new ≡ record (turning turn.old) { heap = (turning turn.new).heap } }
     ensures oracle { oracle_of turn.new ≡ oracle_of turn.old }
     ensures begun { (turning turn.new).heap.begun ≡ (turning turn.old).heap.begun }

@@ -87,7 +87,9 @@ fn transfer(
     to: u64,
     other: &[u8],
 ) -> Result<Answer, AllocError>
-    ensures effect { IfOk result (λ a. (if nat_lt to nodes then moved value.now name.now amount to other.now (account_of name.now value.now.blocks) else refused value.now) ≡ effect_by value.now a) }
+    ensures effect { IfOk result (λ a. (if nat_lt to nodes
+        then moved value.now name.now amount to other.now (account_of name.now value.now.blocks)
+        else refused value.now) ≡ effect_by value.now a) }
     ensures known { IfOk result (λ a. AllByRecursion (λ s. s.to < nodes) a.sends.items) }
 {
     if to >= u64::from(nodes) {
@@ -112,7 +114,9 @@ fn transfer(
 fn credit(alloc: Global, value: &Value, name: &[u8], amount: u64) -> Result<Answer, AllocError>
     requires heap { IsHeap value.now }
     requires name { IsNameLong name.now }
-    ensures effect { IfOk result (λ a. answered (with_credit value.now name.now amount (account_of name.now value.now.blocks) (first_gap value.now (length name.now + 9))) (codes "got") ≡ effect_by value.now a) }
+    ensures effect { IfOk result (λ a. answered
+        (with_credit value.now name.now amount (account_of name.now value.now.blocks)
+        (first_gap value.now (length name.now + 9))) (codes "got") ≡ effect_by value.now a) }
 {
     if let Some(account) = account(value, name) {
         let sum = balance(account.bytes.as_slice()).wrapping_add(amount);

@@ -21,7 +21,22 @@ ghost use Rattle.ken_store.specs.Standing.{RecoversMeanwhile, Standing, StandsSe
 ghost use Rattle.ken_store.specs.Turnovers.{BeginsWith, IsTurned, IsUnturned, ReplacesOn, base_of, kept_disk, replaced_disk, without_told};
 ghost use Rattle.ken_record.specs.Spelling.{base_bytes};
 ghost use Rattle.ken_log.specs.Formats.{next_header};
-ghost use Rattle.ken_store.specs.Turning.{AreChangedPages, IsSameNode, IsSealed, IsStillBegun, IsUndone, KeepsLog, SealsOn, begun_on, coming_record, log_answer, record_of, state_in, turn_pages, undone};
+ghost use Rattle.ken_store.specs.Turning.{
+  AreChangedPages,
+  IsSameNode,
+  IsSealed,
+  IsStillBegun,
+  IsUndone,
+  KeepsLog,
+  SealsOn,
+  begun_on,
+  coming_record,
+  log_answer,
+  record_of,
+  state_in,
+  turn_pages,
+  undone,
+};
 
 use crate::StoreFault;
 use crate::store::Store;
@@ -82,8 +97,15 @@ impl<D: Disk> Store<D> {
         ensures goes_on { IsErrOf result StoreFault.Memory → TakesCalls D.told D.size self.new }
         ensures stands { (i : ImagePages) → Standing D.told D.size self.old i → IsErrOf result StoreFault.Memory → Standing D.told D.size self.new i }
         ensures spent { IsErrOf result StoreFault.Disk → self.new.turns.log.spent ≡ true }
-        ensures any_moment { (i : ImagePages) (v : Value) → Standing D.told D.size self.old i → read_value (turn_pages self.old.turns).heap ≡ Some v → RecoversMeanwhile D.told self.old.turns.owner (disks_in self.old) (disks_in self.new) (is_either (Whole (state_in self.old.turns) v) (sealed_recovery effects.now self.old self.old.turns.objects.value)) }
-        ensures memory { (i : ImagePages) (v : Value) → Standing D.told D.size self.old i → read_value (turn_pages self.old.turns).heap ≡ Some v → IsErrOf result StoreFault.Memory → RecoversMeanwhile D.told self.old.turns.owner (disks_in self.old) (disks_in self.new) (is_one (Whole (state_in self.old.turns) v)) }
+        ensures any_moment { (i : ImagePages) (v : Value) → Standing D.told D.size self.old i
+            → read_value (turn_pages self.old.turns).heap ≡ Some v
+            → RecoversMeanwhile D.told self.old.turns.owner (disks_in self.old) (disks_in self.new)
+            (is_either (Whole (state_in self.old.turns) v)
+            (sealed_recovery effects.now self.old self.old.turns.objects.value)) }
+        ensures memory { (i : ImagePages) (v : Value) → Standing D.told D.size self.old i
+            → read_value (turn_pages self.old.turns).heap ≡ Some v → IsErrOf result StoreFault.Memory
+            → RecoversMeanwhile D.told self.old.turns.owner (disks_in self.old) (disks_in self.new)
+            (is_one (Whole (state_in self.old.turns) v)) }
         ensures log { SealsOn D.told D.faults D.fate (log_answer result) self.old.turns.log.end (coming_record self.old.turns effects.now) self.old.turns.log.disk self.new.turns.log.disk }
         ensures others { IsSameNode self.old.turns self.new.turns }
         ensures image { self.new.patches.image ≡ self.old.patches.image }
@@ -118,9 +140,16 @@ impl<D: Disk> Store<D> {
         ensures goes_on { IsErrOf result StoreFault.Memory → TakesCalls D.told D.size self.new }
         ensures stands { (i : ImagePages) → Standing D.told D.size self.old i → MayLeaveOut settled (turn_pages self.old.turns) i → OnOk result (Standing D.told D.size self.new i) }
         ensures still { (i : ImagePages) → Standing D.told D.size self.old i → IsErrOf result StoreFault.Memory → Standing D.told D.size self.new i }
-        ensures any_moment { (i : ImagePages) (v : Value) → Standing D.told D.size self.old i → MayLeaveOut settled (turn_pages self.old.turns) i → read_value (turn_pages self.old.turns).heap ≡ Some v → RecoversMeanwhile D.told self.old.turns.owner (disks_in self.old) (disks_in self.new) (is_either (Whole (state_in self.old.turns) v) (Whole (without_told acked.now emitted (state_in self.old.turns)) v)) }
+        ensures any_moment { (i : ImagePages) (v : Value) → Standing D.told D.size self.old i
+            → MayLeaveOut settled (turn_pages self.old.turns) i → read_value (turn_pages self.old.turns).heap ≡ Some v
+            → RecoversMeanwhile D.told self.old.turns.owner (disks_in self.old) (disks_in self.new)
+            (is_either (Whole (state_in self.old.turns) v)
+            (Whole (without_told acked.now emitted (state_in self.old.turns)) v)) }
         ensures spent { IsErrOf result StoreFault.Disk → self.new.turns.log.spent ≡ true }
-        ensures log { ReplacesOn D.told D.faults D.fate (log_answer result) (next_header self.old.turns.log (base_of self.old.turns settled acked.now emitted)) (base_of self.old.turns settled acked.now emitted) self.old.turns.other (replaced_disk result self.new.turns) }
+        ensures log { ReplacesOn D.told D.faults D.fate (log_answer result)
+            (next_header self.old.turns.log (base_of self.old.turns settled acked.now emitted))
+            (base_of self.old.turns settled acked.now emitted) self.old.turns.other
+            (replaced_disk result self.new.turns) }
         ensures own { kept_disk result self.new.turns ≡ self.old.turns.log.disk }
         ensures patches { self.new.patches ≡ self.old.patches }
         ensures sound { (disk place : ℕ) → IsErrOf result (StoreFault.Damaged disk place) → ⊥ }
@@ -134,7 +163,10 @@ impl<D: Disk> Store<D> {
     pub fn patch_next(&mut self) -> Result<bool, StoreFault>
         requires { TakesCalls D.told D.size self.old }
         ensures stands { (i : ImagePages) → Standing D.told D.size self.old i → PatchesBy (D.told self.new.patches.image.disk) result (Standing D.told D.size self.new) i }
-        ensures recovers { (i : ImagePages) (v : Value) → Standing D.told D.size self.old i → read_value (turn_pages self.old.turns).heap ≡ Some v → RecoversMeanwhile D.told self.old.turns.owner (disks_in self.old) (disks_in self.new) (is_one (Whole (state_in self.old.turns) v)) }
+        ensures recovers { (i : ImagePages) (v : Value) → Standing D.told D.size self.old i
+            → read_value (turn_pages self.old.turns).heap ≡ Some v
+            → RecoversMeanwhile D.told self.old.turns.owner (disks_in self.old) (disks_in self.new)
+            (is_one (Whole (state_in self.old.turns) v)) }
         ensures turns { self.new.turns ≡ self.old.turns }
         ensures more { IfOk result (λ more. IsTrue more ↔ (self.old.patches.ahead.items ≢ [])) }
         ensures ahead { GoesOnBy result self.old.patches.ahead.items self.new.patches.ahead.items }
@@ -160,7 +192,10 @@ impl<D: Disk> Store<D> {
         ensures ahead { KeepsAhead self.old.patches self.new.patches }
         ensures clean { (i : ImagePages) → Standing D.told D.size self.old i → IfOk result (λ turn. MayLeaveOut turn (turn_pages self.new.turns) (synced_pages i)) }
         ensures stands { (i : ImagePages) → Standing D.told D.size self.old i → SettlesBy (D.told self.new.patches.image.disk) result (Standing D.told D.size self.new) i }
-        ensures recovers { (i : ImagePages) (v : Value) → Standing D.told D.size self.old i → read_value (turn_pages self.old.turns).heap ≡ Some v → RecoversMeanwhile D.told self.old.turns.owner (disks_in self.old) (disks_in self.new) (is_one (Whole (state_in self.old.turns) v)) }
+        ensures recovers { (i : ImagePages) (v : Value) → Standing D.told D.size self.old i
+            → read_value (turn_pages self.old.turns).heap ≡ Some v
+            → RecoversMeanwhile D.told self.old.turns.owner (disks_in self.old) (disks_in self.new)
+            (is_one (Whole (state_in self.old.turns) v)) }
         ensures turns { self.new.turns ≡ self.old.turns }
         ensures takes { OnOk result (TakesCalls D.told D.size self.new) }
         ensures goes_on { IsErrOf result StoreFault.Memory → TakesCalls D.told D.size self.new }

@@ -16,7 +16,25 @@ ghost use Rattle.ken_image.specs.Whole.{IsWhole};
 ghost use Rattle.ken_store.specs.declared.patching.Origin.TheVariants.{Record};
 ghost use Rattle.ken_store.specs.Ahead.{frame_pages};
 ghost use Rattle.ken_store.specs.PatchLaws.{IsAheadOf};
-ghost use Rattle.ken_store.specs.Patching.{TakesPatches, Patching, PatchesBy, PatchSuffers, MayBePatched, SettlesBy, IsInOrder, IsFaultOfCall, Grows, GoesOn, GoesOnBy, first_number, page_calls, patch_calls, disk_answer, settled_turn, settled_before};
+ghost use Rattle.ken_store.specs.Patching.{
+  TakesPatches,
+  Patching,
+  PatchesBy,
+  PatchSuffers,
+  MayBePatched,
+  SettlesBy,
+  IsInOrder,
+  IsFaultOfCall,
+  Grows,
+  GoesOn,
+  GoesOnBy,
+  first_number,
+  page_calls,
+  patch_calls,
+  disk_answer,
+  settled_turn,
+  settled_before,
+};
 
 use crate::StoreFault;
 use ken_disk::Disk;
@@ -100,7 +118,9 @@ impl<D: Disk> PatchSide<D> {
         ensures told { IfOk result (λ turn. turn ≡ settled_turn self.old.known self.old.ahead.items) }
         ensures stands { (i : ImagePages) → Patching D.told D.size self.old i → SettlesBy (D.told self.new.image.disk) result (Patching D.told D.size self.new) i }
         ensures clean { (i : ImagePages) (t : TurnPages) → Patching D.told D.size self.old i → IsAheadOf t i → IfOk result (λ turn. MayLeaveOut turn t (synced_pages i)) }
-        ensures any_moment { (i : ImagePages) → Patching D.told D.size self.old i → Follows (λ h s. Through (λ image. IsPossible i (take (256 * self.old.image.pages) image)) h s) (D.told self.old.image.disk) (D.told self.new.image.disk) }
+        ensures any_moment { (i : ImagePages) → Patching D.told D.size self.old i → Follows
+            (λ h s. Through (λ image. IsPossible i (take (256 * self.old.image.pages) image)) h s)
+            (D.told self.old.image.disk) (D.told self.new.image.disk) }
         ensures calls { Follows (Called (disk_answer result) (Sync ∷ [])) (D.told self.old.image.disk) (D.told self.new.image.disk) }
         ensures takes { OnOk result (TakesPatches D.told D.size self.new) }
         ensures goes_on { IsErrOf result StoreFault.Memory → TakesPatches D.told D.size self.new }
@@ -122,7 +142,9 @@ impl<D: Disk> PatchSide<D> {
     pub fn patch_next(&mut self) -> Result<bool, StoreFault>
         requires { TakesPatches D.told D.size self.old }
         ensures stands { (i : ImagePages) → Patching D.told D.size self.old i → PatchesBy (D.told self.new.image.disk) result (Patching D.told D.size self.new) i }
-        ensures any_moment { (i : ImagePages) → Patching D.told D.size self.old i → Follows (λ h s. Through (λ image. MayBePatched i (take (256 * self.old.image.pages) image)) h s) (D.told self.old.image.disk) (D.told self.new.image.disk) }
+        ensures any_moment { (i : ImagePages) → Patching D.told D.size self.old i → Follows
+            (λ h s. Through (λ image. MayBePatched i (take (256 * self.old.image.pages) image)) h s)
+            (D.told self.old.image.disk) (D.told self.new.image.disk) }
         ensures calls { Follows (Called (disk_answer result) (patch_calls self.old.ahead.items)) (D.told self.old.image.disk) (D.told self.new.image.disk) }
         ensures more { IfOk result (λ more. IsTrue more ↔ (self.old.ahead.items ≢ [])) }
         ensures takes { OnOk result (TakesPatches D.told D.size self.new) }
