@@ -1,7 +1,7 @@
 use Rattle.std.proofs.Common.{◌≡◌, ◌<◌, ◌^◌, drop}
 use Rattle.std.specs.Str.{all_ascii_digits}
 use Rattle.ken_num.specs.Numbers.{value_from}
-use Rattle.ken_num.proofs.decimal.num.Given as goal
+use Rattle.ken_num.proofs.text.num.Given as goal
 
 -- what is left to read decides as the whole does
 abbrev pub invariant-loop-byte : goal.invariant-loop-byte

@@ -1,9 +1,10 @@
 // Decimal numbers in text.
-ghost use Rattle.std.specs.Prelude.{◌≡◌, ◌==◌, ◌&&◌, ◌++◌, nat_lt, length, slice_index, decimal, OnOk, OnErr};
+ghost use Rattle.std.specs.Prelude.{◌≡◌, ◌<◌, ◌^◌, ◌==◌, ◌&&◌, ◌++◌, ℕ, nat_lt, length, slice_index, decimal, MatchOption, OnOk, OnErr, Some};
 ghost use Rattle.ken_num.specs.Numbers.{num};
 
 use itoa::Buffer;
 use std::alloc::AllocError;
+use std::str;
 
 /// The most digits that `num` reads.
 pub const MAX_DIGITS: usize = 9;
@@ -31,6 +32,29 @@ fn has_leading_zero(bytes: &[u8]) -> bool
     ensures { result ≡ (slice_index bytes.now 0 == 48 && nat_lt 1 (length bytes.now)) }
 {
     matches!(bytes, [b'0', _, ..])
+}
+
+/// The number that `bytes` are in decimal, with no zero in front of others: `None` exactly where no `u64` is written so. Takes no
+/// memory.
+pub fn decimal(bytes: &[u8]) -> Option<u64>
+    ensures { MatchOption result ((n : ℕ) → n < 2 ^ 64 → decimal n ≡ bytes.now → ⊥) (λ n. decimal n ≡ bytes.now) }
+{
+    let number = parsed(bytes)?;
+    if Buffer::new().format(number).as_bytes() == bytes {
+        Some(number)
+    } else {
+        None
+    }
+}
+
+// The number that std reads in bytes, which may be written in other ways too.
+fn parsed(bytes: &[u8]) -> Option<u64>
+    ensures { (n : ℕ) → n < 2 ^ 64 → decimal n ≡ bytes.now → result ≡ Some n }
+{
+    match str::from_utf8(bytes) {
+        Ok(text) => text.parse().ok(),
+        Err(_) => None,
+    }
 }
 
 /// Appends `n` in decimal, with no zero in front. After an error `out` has its bytes as before.
@@ -65,6 +89,25 @@ mod tests {
         for (text, want) in cases {
             assert_eq!(rt; num(text.as_bytes()), want, "of {text:?}");
         }
+    }
+
+    #[test]
+    fn reads_the_one_spelling_of_a_number(rt: HostRuntime) {
+        let cases = [
+            ("0", Some(0)),
+            ("1000000000", Some(1_000_000_000)),
+            ("18446744073709551615", Some(u64::MAX)),
+            ("18446744073709551616", None),
+            ("", None),
+            ("01", None),
+            ("+1", None),
+            ("-1", None),
+            ("1 ", None),
+        ];
+        for (text, want) in cases {
+            assert_eq!(rt; decimal(text.as_bytes()), want, "of {text:?}");
+        }
+        assert_eq!(rt; decimal(&[0x31, 0xff]), None);
     }
 
     #[test]
