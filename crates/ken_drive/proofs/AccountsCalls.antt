@@ -13,6 +13,7 @@ use Rattle.ken_model.specs.Handler.{Handler}
 use Rattle.ken_model.specs.History.{place_of}
 use Rattle.ken_model.specs.Network.{outputs_from}
 use Rattle.ken_model.specs.Network as net
+use Rattle.ken_model.specs.Restarts.{NeverFall}
 use Rattle.ken_record.specs.declared.effects.Effects.{Effects}
 use Rattle.ken_app.specs.Oracles.{Answers, HasAnswered, Telling}
 use Rattle.ken_net.specs.Puts.{Put}
@@ -55,7 +56,7 @@ use Rattle.ken_drive.specs.declared.station.Station.{Station}
 use Rattle.ken_drive.specs.Accounts.{AccountsBy, AreAccounted, AreRaised, HasBooks, HasDrawn, HasFailedOften, HasFates, HasNotFailed, HasOwnDisks, HaveFallen, IsAccounted, IsHeld, OneIsHeld, TellsAll, TellsAtMost, Terms, draws_of, doubted, emitted_through, faults_of, numbers_of}
 use Rattle.ken_drive.specs.Ends.{WereGiven}
 use Rattle.ken_drive.specs.Running.{IsRunning}
-use Rattle.ken_drive.specs.Sequences.{IsSubsequence, NeverFall, descents}
+use Rattle.ken_drive.specs.Sequences.{IsSubsequence, descents}
 use Rattle.ken_app.specs.declared.turn.TheConstants.{MAX_DRAWS}
 use Rattle.ken_drive.specs.Worlds.{IsTold}
 use Rattle.ken_drive.proofs.AccountsFates.{fates-failed, fates-still, own-after, own-still}

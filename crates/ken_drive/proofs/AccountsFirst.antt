@@ -6,6 +6,7 @@ use Rattle.ken_disk.specs.Fates.{Fate}
 use Rattle.ken_disk.specs.Story.{Story}
 use Rattle.ken_model.specs.declared.reports.Emission.{Emission}
 use Rattle.ken_model.specs.Game.{Game}
+use Rattle.ken_model.specs.Restarts.{NeverFall}
 use Rattle.ken_record.specs.declared.effects.Effects.{Effects}
 use Rattle.ken_app.specs.Oracles.{Telling}
 use Rattle.ken_core.specs.Calls.{no_doubt}
@@ -24,7 +25,7 @@ use Rattle.ken_node.specs.Synced.{IsSynced}
 use Rattle.ken_node.proofs.Fresh.{has-one}
 use Rattle.ken_drive.specs.declared.station.Station.{Station}
 use Rattle.ken_drive.specs.Accounts.{AreFated, AreOwnDisks, AreRaised, HasBooks, HasDrawn, HasFailedOften, HasFates, HaveFallen, IsAccounted, IsHeld, TellsAll, Terms, draws_of, emitted_through, faults_of, numbers_of}
-use Rattle.ken_drive.specs.Sequences.{IsSubsequence, NeverFall, descents}
+use Rattle.ken_drive.specs.Sequences.{IsSubsequence, descents}
 use Rattle.ken_drive.specs.Worlds.{IsNewOracle, IsTold}
 use Rattle.ken_app.specs.declared.turn.TheConstants.{MAX_DRAWS}
 use Rattle.ken_drive.proofs.AccountsCalls.{failed-sum, unfailed-sum}

@@ -7,6 +7,7 @@ use Rattle.ken_model.specs.declared.reports.Emission.{Emission}
 use Rattle.ken_model.specs.Emissions.{emitted_by}
 use Rattle.ken_model.specs.Game.{Game}
 use Rattle.ken_model.specs.Handler.{Handler}
+use Rattle.ken_model.specs.Restarts.{NeverFall}
 use Rattle.ken_record.specs.declared.effects.Effects.{Effects}
 use Rattle.ken_app.specs.Oracles.{Telling}
 use Rattle.ken_core.specs.Clusters.{emissions_by}
@@ -21,7 +22,7 @@ use Rattle.ken_drive.specs.declared.station.Station.{Station}
 use Rattle.ken_drive.specs.Accounts.{AreAccounted, HasDrawn, IsAccounted, IsUsedUp, Terms, draws_of, emitted_through, faults_of, numbers_of}
 use Rattle.ken_drive.specs.Known.{HasAccount}
 use Rattle.ken_drive.specs.Running.{IsRunning}
-use Rattle.ken_drive.specs.Sequences.{NeverFall, descents}
+use Rattle.ken_drive.specs.Sequences.{descents}
 use Rattle.ken_drive.specs.Stations.{HasEmitted}
 use Rattle.ken_drive.proofs.AccountsCalls.{up-turns}
 use Rattle.ken_drive.proofs.AccountsLists.{descents-front}

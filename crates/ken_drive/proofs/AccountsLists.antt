@@ -1,7 +1,8 @@
 -- Sequences of numbers that grow.
 use Rattle.std.proofs.Common.{◌≡◌, ℕ, ◌+◌, ◌≤◌, List, [], ◌∷◌, ◌++◌, Bool, true, false, nat_lt, if◌then◌else◌, refl, ap, arith}
 use Rattle.std.proofs.lemmas.Bool.Decides.{nat_tests}
-use Rattle.ken_drive.specs.Sequences.{IsSubsequence, ended, kept, left_out, NeverFall, descents}
+use Rattle.ken_model.specs.Restarts.{NeverFall}
+use Rattle.ken_drive.specs.Sequences.{IsSubsequence, ended, kept, left_out, descents}
 
 -- ---- subsequences
 

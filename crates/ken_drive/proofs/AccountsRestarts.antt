@@ -10,6 +10,7 @@ use Rattle.ken_disk.specs.Story.{Story}
 use Rattle.ken_model.specs.declared.reports.Emission.{Emission}
 use Rattle.ken_model.specs.Game.{Game}
 use Rattle.ken_model.specs.Handler.{Handler}
+use Rattle.ken_model.specs.Restarts.{NeverFall}
 use Rattle.ken_record.specs.declared.effects.Effects.{Effects}
 use Rattle.ken_app.specs.Oracles.{Telling}
 use Rattle.ken_core.specs.Calls.{Doubt}
@@ -28,7 +29,7 @@ use Rattle.ken_drive.specs.declared.run.Run.{Run}
 use Rattle.ken_drive.specs.declared.station.Station.{Station}
 use Rattle.ken_drive.specs.Accounts.{AccountsBy, AccountsFault, AccountsRunBy, AccountsRunFault, AccountsStation, AreRaised, HasDrawn, HasFates, HasOwnDisks, HaveFallen, IsHeld, IsUsedUp, OneIsHeld, Terms, draws_of, doubted, emitted_through, faults_of, numbers_of}
 use Rattle.ken_drive.specs.Left.{tries_at}
-use Rattle.ken_drive.specs.Sequences.{IsSubsequence, NeverFall, descents}
+use Rattle.ken_drive.specs.Sequences.{IsSubsequence, descents}
 use Rattle.ken_drive.specs.Stations.{RestartsStation}
 use Rattle.ken_drive.specs.Worlds.{IsOf}
 use Rattle.ken_drive.proofs.AccountsCalls.{draws-push, failed-sum, run-accounted, run-held, tells-still, unfailed-sum}

@@ -15,6 +15,7 @@ use Rattle.ken_model.specs.History.{Rises, lines_by}
 use Rattle.ken_model.specs.Limits.{IsPlainRun}
 use Rattle.ken_model.specs.Network.{inputs_for, outside}
 use Rattle.ken_model.specs.Reading.{read_value}
+use Rattle.ken_model.specs.Restarts.{AreRestartsByNode}
 use Rattle.ken_core.specs.Clusters.{Cluster, IsHistoryOf, emissions_by}
 use Rattle.ken_core.specs.Nodes.{Node}
 use Rattle.ken_core.specs.Timeline.{StampsRise}
@@ -31,7 +32,7 @@ use Rattle.ken_drive.specs.declared.lines.Summary.{Summary}
 use Rattle.ken_drive.specs.declared.run.Run.{Run}
 use Rattle.ken_drive.specs.declared.station.Station.{Station}
 use Rattle.ken_drive.proofs.RestartOrder.{restarts_by_node}
-use Rattle.ken_drive.specs.Ended.{AddsHeap, AreRestartsByNode, AreWords, HaveSaid, IsEnded, IsReportOf, emissions_of, ending_of, restart_lines, restarts_from, waits_for, waits_in}
+use Rattle.ken_drive.specs.Ended.{AddsHeap, AreWords, HaveSaid, IsEnded, IsReportOf, emissions_of, ending_of, restart_lines, restarts_from, waits_for, waits_in}
 use Rattle.ken_drive.proofs.EndingCounts.{emissions_from, in_range-le}
 use Rattle.ken_drive.proofs.EndingFew.{consumed-few, waits-little}
 use Rattle.ken_drive.proofs.EndingLists.{gone_over}

@@ -27,6 +27,7 @@ use Rattle.ken_model.specs.Report.{lines_of}
 use Rattle.ken_model.specs.Schedule.{play, turn_lines}
 use Rattle.ken_model.specs.Spelling.{IsPrintable, IsPrintableEmission, IsPrintableHeap, IsPrintableTurn, IsWord}
 use Rattle.ken_model.proofs.Agreement.{agreement_is_legal}
+use Rattle.ken_model.specs.Restarts.{AreRestartsByNode}
 use Rattle.ken_core.specs.Accord.{Accord}
 use Rattle.ken_core.specs.Clusters.{Cluster, IsHistoryOf}
 use Rattle.ken_core.specs.Laws.{IsPlayedBy}
@@ -37,7 +38,7 @@ use Rattle.ken_core.proofs.Numbers.{effects_lines, length-outputs_from}
 use Rattle.ken_flow.specs.Standstill.{HasEnded, sent_on, waits_on}
 use Rattle.ken_app.specs.Limits.{KeepsLimits}
 use Rattle.ken_app.specs.Lines.{KeepsLines}
-use Rattle.ken_drive.specs.Ended.{AreRestartsByNode, IsRunOf, ending_of, waits_for, waits_in}
+use Rattle.ken_drive.specs.Ended.{IsRunOf, ending_of, waits_for, waits_in}
 use Rattle.ken_drive.proofs.EndingBounds.{IsWithin, few_steps, printable_lines, within_played, within_start}
 use Rattle.ken_drive.proofs.EndingCounts.{AreByNode-from, all-by, all-from, emissions_from, emitted_by-from, in_range-le, largest-few, printable_by, some_in_sum, sum_by-same}
 use Rattle.ken_drive.proofs.EndingLines.{IsTidy, tidy_played, tidy_start}

@@ -17,6 +17,7 @@ use Rattle.ken_model.specs.Handler.{Handler}
 use Rattle.ken_model.specs.History.{lines_by}
 use Rattle.ken_model.specs.Laws.{steps_of}
 use Rattle.ken_model.specs.Schedule.{play}
+use Rattle.ken_model.specs.Restarts.{NeverFall, restarts_of}
 use Rattle.ken_record.specs.declared.effects.Effects.{Effects}
 use Rattle.ken_core.specs.Clusters.{emissions_by}
 use Rattle.ken_core.specs.Laws.{HistoryIsLegal, IsPlayedBy}
@@ -31,7 +32,7 @@ use Rattle.ken_flow.specs.Groups.{group_of}
 use Rattle.ken_drive.specs.declared.run.Run.{Run}
 use Rattle.ken_drive.specs.declared.station.Station.{Station}
 use Rattle.ken_drive.specs.Accounts.{AreAccounted, AreOwnDisks, IsAccounted, TellsAtMost, Terms, draws_of, emitted_through, faults_of, numbers_of}
-use Rattle.ken_drive.specs.Driven.{HaveCauses, KeepsNode, KeepsRun, Views, out_numbers, restarts_of, steps_at}
+use Rattle.ken_drive.specs.Driven.{HaveCauses, KeepsNode, KeepsRun, Views, out_numbers, steps_at}
 use Rattle.ken_drive.specs.Ended.{IsEnded, IsReportOf, restarts_from}
 use Rattle.ken_drive.specs.Finishing.{WasKept, unwatched}
 use Rattle.ken_drive.specs.Patched.{HasItsImage, HaveImages}
@@ -41,7 +42,7 @@ use Rattle.ken_drive.specs.Running.{IsRunning}
 use Rattle.ken_drive.specs.Worlds.{IsTold, MayFailAt}
 use Rattle.ken_app.specs.declared.turn.TheConstants.{MAX_DRAWS}
 use Rattle.ken_drive.proofs.Fewer.{few-turns}
-use Rattle.ken_drive.specs.Sequences.{IsSubsequence, NeverFall, descents}
+use Rattle.ken_drive.specs.Sequences.{IsSubsequence, descents}
 use Rattle.ken_drive.proofs.Recovering.{up-recovers, up-image}
 
 -- an element of a list

@@ -1,8 +1,9 @@
 -- Restart lines stand node by node.
 use Rattle.std.proofs.Common.{ℕ, ◌+◌, ◌<◌, ◌≤◌, List, [], ◌∷◌, ◌++◌, length, arith}
 use Rattle.ken_model.specs.declared.reports.RestartLine.{RestartLine}
+use Rattle.ken_model.specs.Restarts.{AreRestartsByNode}
 use Rattle.ken_drive.specs.declared.station.Station.{Station}
-use Rattle.ken_drive.specs.Ended.{AreRestartsByNode, restart_lines, restarts_from}
+use Rattle.ken_drive.specs.Ended.{restart_lines, restarts_from}
 
 -- those of later nodes
 later : (nodes low high : ℕ) (rs : List RestartLine) → low ≤ high → AreRestartsByNode nodes high rs → AreRestartsByNode nodes low rs

@@ -8,6 +8,7 @@ use Rattle.ken_model.specs.declared.messages.Out.{Out}
 use Rattle.ken_model.specs.declared.reports.Emission.{Emission}
 use Rattle.ken_model.specs.Game.{Game}
 use Rattle.ken_model.specs.Handler.{Handler}
+use Rattle.ken_model.specs.Restarts.{NeverFall}
 use Rattle.ken_record.specs.declared.effects.Effects.{Effects}
 use Rattle.ken_app.specs.Oracles.{Telling}
 use Rattle.ken_app.specs.declared.turn.TheConstants.{MAX_DRAWS}
@@ -30,7 +31,7 @@ use Rattle.ken_drive.specs.declared.faults.RunFault.TheVariants as run_faults
 use Rattle.ken_drive.specs.declared.run.Run.{Run}
 use Rattle.ken_drive.specs.declared.station.Station.{Station}
 use Rattle.ken_drive.specs.Running.{IsRunning, IsStopped}
-use Rattle.ken_drive.specs.Sequences.{IsSubsequence, NeverFall, descents}
+use Rattle.ken_drive.specs.Sequences.{IsSubsequence, descents}
 use Rattle.ken_drive.specs.Worlds.{IsOf, IsTold}
 
 -- the terms of a run: its seed, how often a node may be restarted, how many cuts were handed to the disks of each node, whose each of these

@@ -17,6 +17,7 @@ use Rattle.ken_node.specs.Synced.{HasSynced}
 use Rattle.ken_disk.specs.Fates.{Fate}
 use Rattle.ken_model.specs.declared.reports.Lines.{Lines}
 use Rattle.ken_model.specs.Laws.{steps_of}
+use Rattle.ken_model.specs.Restarts.{NeverFall, restarts_of}
 use Rattle.ken_node.specs.declared.watched.Watched.{Watched}
 use Rattle.ken_script.specs.declared.scripts.Script.{Script}
 use Rattle.ken_drive.specs.declared.faults.RunFault.{RunFault}
@@ -30,7 +31,7 @@ use Rattle.ken_drive.specs.Finishing.{WasKept}
 use Rattle.ken_drive.specs.Patched.{HaveImages}
 use Rattle.ken_drive.specs.Recovering.{HoldsHeapAt, RecoversAt}
 use Rattle.ken_drive.specs.Refusals.{AreRefused, IsWornOut}
-use Rattle.ken_drive.specs.Sequences.{IsSubsequence, NeverFall, descents}
+use Rattle.ken_drive.specs.Sequences.{IsSubsequence, descents}
 use Rattle.ken_drive.specs.Starting.{game_by, terms_of}
 use Rattle.ken_drive.specs.Worlds.{HasKeptNothing, IsOf, IsTold, MayFailAt}
 
@@ -56,10 +57,6 @@ clocks_of handler steps = flat_map (λ (s : Step). handler.clocks s.draws) steps
 
 abbrev pub words_of : Handler → List Step → List ℕ
 words_of handler steps = flat_map (λ (s : Step). handler.words s.draws) steps
-
--- with how many turns node v went on, each time that it was restarted
-abbrev pub restarts_of : ℕ → List RestartLine → List ℕ
-restarts_of v lines = map (λ (l : RestartLine). l.turns) (filter (λ (l : RestartLine). l.node == v) lines)
 
 -- the numbers of outputs
 abbrev pub out_numbers : List Out → List ℕ

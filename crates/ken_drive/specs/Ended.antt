@@ -19,6 +19,7 @@ use Rattle.ken_model.specs.Network.{outside}
 use Rattle.ken_model.specs.Report.{lines_of}
 use Rattle.ken_model.specs.Schedule.{IsLegal, play}
 use Rattle.ken_model.specs.Spelling.{IsPrintable, IsWord}
+use Rattle.ken_model.specs.Restarts.{AreRestartsByNode}
 use Rattle.ken_core.specs.Clusters.{IsHistoryOf}
 use Rattle.ken_core.specs.Nodes.{Node}
 use Rattle.ken_core.specs.Turns.{effects_line}
@@ -31,11 +32,6 @@ use Rattle.ken_drive.specs.declared.lines.Summary.{Summary}
 use Rattle.ken_drive.specs.declared.run.Run.{Run}
 use Rattle.ken_drive.specs.declared.station.Station.{Station}
 use Rattle.ken_drive.specs.Running.{IsRunning}
-
--- restart lines stand node by node, from that node on, each of a node below so many
-unfoldable pub AreRestartsByNode : ℕ → ℕ → List RestartLine → Type 0
-AreRestartsByNode nodes node [] = Unit {0}
-AreRestartsByNode nodes node (r ∷ rs) = (node ≤ r.node) × (r.node < nodes) × AreRestartsByNode nodes r.node rs
 
 -- the lines are the report of a run: a legal schedule, what playing it shows, legal emissions, restarts of its nodes, and its ending
 pub record IsRunOf (g : Game) (l : Lines) : Type 0 where

@@ -4,6 +4,7 @@ use Rattle.ken_disk.specs.Fates.{Fate}
 use Rattle.ken_disk.specs.Story.{Story}
 use Rattle.ken_model.specs.declared.messages.Out.{Out}
 use Rattle.ken_model.specs.Game.{Game}
+use Rattle.ken_model.specs.Restarts.{NeverFall}
 use Rattle.ken_app.specs.Oracles.{Telling}
 use Rattle.ken_core.specs.Nodes.{Node}
 use Rattle.ken_store.specs.declared.disks.Disks.{Disks}
@@ -12,7 +13,7 @@ use Rattle.ken_node.specs.Stages.{HasDisks}
 use Rattle.ken_node.specs.Synced.{HasSynced}
 use Rattle.ken_drive.specs.declared.station.Station.{Station}
 use Rattle.ken_drive.specs.Accounts.{AreRaised, HasDrawn, HasFailedOften, HasFates, HasNotFailed, Terms, draws_of}
-use Rattle.ken_drive.specs.Sequences.{NeverFall, descents}
+use Rattle.ken_drive.specs.Sequences.{descents}
 use Rattle.ken_drive.specs.Worlds.{IsOf}
 
 -- node v is n and has emitted these outputs: its syncs, its oracle, its restarts, its disks' faults and falls, and its emissions again

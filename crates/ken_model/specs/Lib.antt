@@ -26,6 +26,7 @@ pub mod History
 pub mod Emissions
 pub mod Ending
 pub mod Report
+pub mod Restarts
 pub mod Spelling
 pub mod Laws
 pub mod Reactions

@@ -23,7 +23,7 @@ use Rattle.ken_store.specs.declared.disks.Disks.{Disks}
 use Rattle.ken_drive.specs.declared.faults.RunFault.{RunFault}
 use Rattle.ken_drive.specs.declared.faults.RunFault.TheVariants as running
 use Rattle.ken_drive.specs.Driven.{DrivesBy, HasDriven, KeepsRun, Views}
-use Rattle.ken_drive.specs.Ended.{AreRestartsByNode, IsRunOf}
+use Rattle.ken_drive.specs.Ended.{IsRunOf}
 use Rattle.ken_drive.specs.Starting.{terms_of}
 use Rattle.ken_drive.specs.Sparing.{IsLetBy}
 use Rattle.ken_drive.specs.Worlds.{HasKeptNothing}
@@ -32,6 +32,7 @@ use Rattle.ken_top.specs.declared.status.Status.TheVariants as status
 use Rattle.ken_top.specs.Statuses.{of_running, of_script}
 use Rattle.ken_top.specs.Headline.{AreTold, IsReport, IsFront, IsLet, IsQuiet, IsRunOfSource, IsRefusal, IsOut, Wrote, Ran}
 use Rattle.ken_model.specs.Handler.{Handler}
+use Rattle.ken_model.specs.Restarts.{AreRestartsByNode}
 use Rattle.ken_top.specs.Programs.{Program, SaysTo, BreaksTo, handler_in, game_in}
 use Rattle.ken_top.specs.Programs.{kinds, service}
 

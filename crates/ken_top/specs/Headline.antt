@@ -9,10 +9,10 @@ use Rattle.ken_model.specs.Ending.{Ends}
 use Rattle.ken_model.specs.Report.{report, text}
 use Rattle.ken_model.specs.Schedule.{IsLegal, play}
 use Rattle.ken_model.specs.Spelling.{spell}
+use Rattle.ken_model.specs.Restarts.{AreRestartsByNode}
 use Rattle.ken_io.specs.Transfers.{AppendsFront}
 use Rattle.ken_script.specs.declared.scripts.Script.{Script}
 use Rattle.ken_store.specs.declared.disks.Disks.{Disks}
-use Rattle.ken_drive.specs.Ended.{AreRestartsByNode}
 use Rattle.ken_drive.specs.Driven.{HasDriven, HasGoneDown, KeepsRun, Views}
 use Rattle.ken_drive.specs.Sparing.{IsSpared, LetsGoDown}
 use Rattle.ken_drive.specs.Starting.{terms_of}
