@@ -3,7 +3,9 @@
 
 mod faults;
 mod printing;
+mod spelling;
 mod words;
 
 pub use faults::ReportFault;
 pub use printing::print;
+pub use spelling::{put_emission, put_end, put_heap, put_restart, put_turn};

@@ -7,9 +7,10 @@ ghost use Rattle.ken_report.specs.Printing.{HasReportCause};
 ghost use Rattle.ken_report.specs.Words.{spelled};
 
 use crate::ReportFault;
+use crate::spelling::put_end;
 use crate::words::{Word, emit_words, heap_words, put_line, restart_words, turn_words};
 use ken_io::{Sink, write_all};
-use ken_model::{Ending, Lines};
+use ken_model::Lines;
 use std::alloc::Global;
 
 /// Prints a report. After an error a front of its text is out.
@@ -39,24 +40,15 @@ fn print_end<K: Sink>(sink: &mut K, buffer: &mut Vec<u8>, lines: &Lines) -> Resu
     ensures front { OnErr result (AppendsFront (K.took sink.old) (K.took sink.new) (line (end_words lines.now.ending (length lines.now.turns) lines.now.waiting))) }
     ensures cause { HasReportCause (K.faults sink.old) (K.faults sink.new) result }
 {
-    let turns = Word::Number(lines.turns.len() as u64);
-    match lines.ending {
-        Ending::Settled => print_line(
-            sink,
-            buffer,
-            &[Word::Text(b"end"), Word::Text(b"settled"), turns],
-        ),
-        Ending::Cut => print_line(
-            sink,
-            buffer,
-            &[
-                Word::Text(b"end"),
-                Word::Text(b"cut"),
-                turns,
-                Word::Number(lines.waiting),
-            ],
-        ),
-    }
+    buffer.clear();
+    put_end(
+        buffer,
+        lines.ending,
+        lines.turns.len() as u64,
+        lines.waiting,
+    )?;
+    write_all(sink, buffer.as_slice())?;
+    Ok(())
 }
 
 /// Prints a line of these words. What the buffer held is lost.

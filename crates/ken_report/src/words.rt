@@ -4,7 +4,7 @@ ghost use Rattle.std.specs.List.{join_with_byte};
 ghost use Rattle.ken_model.specs.Report.{line, draws_word, block_word, turn_words, emit_words, restart_words, heap_words};
 ghost use Rattle.ken_report.specs.Words.{spelled};
 
-use ken_model::{Block, Emission, OUTSIDE, RestartLine, TurnLine, Value};
+use ken_model::{Block, Emission, OUTSIDE, Out, RestartLine, TurnLine, Value};
 use ken_num::put_decimal;
 use std::alloc::{AllocError, Global};
 
@@ -37,11 +37,18 @@ pub(crate) fn turn_words(turn: &TurnLine) -> [Word<'_>; 6]
 pub(crate) fn emit_words(emission: &Emission) -> [Word<'_>; 4]
     ensures { map spelled result ≡ emit_words emission.now }
 {
+    output_words(emission.node, &emission.out)
+}
+
+/// The words of an output that a node emitted.
+pub(crate) fn output_words(node: u8, out: &Out) -> [Word<'_>; 4]
+    ensures { map spelled result ≡ emit_words (record { node = node; out = out.now }) }
+{
     [
         Word::Text(b"emit"),
-        Word::Number(emission.node as u64),
-        Word::Number(emission.out.number),
-        Word::Text(emission.out.text.as_slice()),
+        Word::Number(node as u64),
+        Word::Number(out.number),
+        Word::Text(out.text.as_slice()),
     ]
 }
 
