@@ -12,7 +12,7 @@ pub struct PopEnd<T> {
 }
 
 impl<T> PopEnd<T> {
-    ghost use Rattle.std.specs.Prelude.{◌≡◌, ◌<◌, ◌≤◌, [], ◌∷◌, ◌++◌, length, IsSome, MatchOption};
+    ghost use Rattle.std.specs.Prelude.{◌≡◌, ◌↔◌, ◌<◌, ◌≤◌, [], ◌∷◌, ◌++◌, length, IsSome, IsTrue, IsFalse, MatchOption};
     ghost use mathlib.Core.List.{IsPrefix};
     ghost use Rattle.rtrb.specs.Ring.{consumer_capacity};
     ghost use Rattle.ken_links.specs.Counts.{Rose};
@@ -53,6 +53,31 @@ impl<T> PopEnd<T> {
         ensures nones { nones self.new ≡ nones self.old }
     {
         self.consumer.pop_known()
+    }
+
+    /// Looks into the ring, where no item of it is known yet, and tells whether one is known then. `false` counts as a pop that gave
+    /// `None`. Takes nothing, and waits for no other thread.
+    pub fn look(&mut self) -> bool
+        ensures ring { SamePopEnd self.old self.new }
+        ensures popped { popped self.new ≡ popped self.old }
+        ensures known { IsPrefix (known self.old) (known self.new) }
+        ensures exact { IsTrue result ↔ (0 < length (known self.new)) }
+        ensures counted { (IsTrue result → nones self.new ≡ nones self.old) × (IsFalse result → Rose (nones self.old) (nones self.new)) }
+        ensures count { nones self.old ≤ nones self.new }
+    {
+        if self.consumer.is_empty() {
+            self.nones = self.nones.saturating_add(1);
+            return false;
+        }
+        true
+    }
+
+    /// The oldest item, where one is known. It stays in the ring.
+    pub fn first_known(&self) -> &T
+        requires { 0 < length (known self.now) }
+        ensures { IsPrefix (result.now ∷ []) (known self.now) }
+    {
+        self.consumer.peek_known()
     }
 
     /// How many items this end knows to be in the ring, at most 64. There may be more.

@@ -56,6 +56,20 @@ fn a_full_ring_is_emptied(rt: HostRuntime) -> Result<(), AllocError> {
 }
 
 #[test]
+fn a_look_takes_nothing(rt: HostRuntime) -> Result<(), AllocError> {
+    let (mut push, mut pop) = ring(rt.alloc())?;
+    assert!(rt; !pop.look());
+    assert_eq!(rt; pop.nones(), 1);
+    push_numbers(&mut push, 2);
+    if pop.look() {
+        assert_eq!(rt; *pop.first_known(), 0);
+    }
+    assert_eq!(rt; pop.nones(), 1);
+    assert_eq!(rt; pop.pop(), Some(0));
+    Ok(())
+}
+
+#[test]
 fn a_slot_whose_item_was_popped_is_free(rt: HostRuntime) -> Result<(), AllocError> {
     let (mut push, mut pop) = ring(rt.alloc())?;
     push_numbers(&mut push, 3);

@@ -1,31 +1,32 @@
 -- What an externaliser takes of acknowledgements, of a whole node.
 use Rattle.std.proofs.Common.{◌≡◌, ◌≢◌, ℕ, ◌+◌, ◌-◌, ◌<◌, ◌≤◌, ◌⊎◌, inl, inr, max, Bool, true, false, cond, nat_lt, List, [], ◌∷◌, ◌++◌, map, length, drop, get_or, slice_set, slice_index, Option, refl, sym, ap, subst, ◌∙◌, ⊎_elim, zero-add, arith}
 use Rattle.std.specs.List.{AllByRecursion, Contains}
-use Rattle.std.proofs.lemmas.Bool.{cases_eq, cases_lt, ltb-true}
+use Rattle.std.proofs.lemmas.Bool.{cases_eq, cases_lt, leb-true}
 use Rattle.std.proofs.lemmas.List.{get_or-map, get_or-set_same, get_or-set_other, set_past, length-append, length-drop}
 use Rattle.ken_disk.specs.Story.{Story}
 use Rattle.ken_model.specs.declared.messages.Message.{Message}
 use Rattle.ken_model.specs.Game.{Game}
-use Rattle.ken_outbox.specs.Waiting.{Unacked, Waiting, acked_by, no_line, past}
+use Rattle.ken_outbox.specs.Waiting.{Unacked, Waiting}
 use Rattle.ken_core.specs.Nodes.{Node, SendSide}
 use Rattle.ken_core.specs.Packets.{Packet, nothing}
 use Rattle.ken_core.specs.Runs.{NodeRun}
 use Rattle.ken_core.specs.Steps.{acked_node}
 use Rattle.ken_core.specs.Turns.{mails_to}
 use Rattle.ken_links.specs.Rings.{pushed, popped}
-use Rattle.ken_ship.specs.declared.items.Progress.{Progress}
+use Rattle.ken_ship.specs.declared.items.Told.{Told}
 use Rattle.ken_ship.specs.declared.items.Sealed.{Sealed}
-use Rattle.ken_ship.specs.Handing.{acked_in, progress_in, with_turns}
-use Rattle.ken_ship.specs.Laws.{HasSent, IsDueOf, line_of, packets_from}
+use Rattle.ken_ship.specs.Handing.{acked_in, progress_in, told_in, with_turns}
+use Rattle.ken_ship.specs.Laws.{HasSent, IsDueOf, handed_to, line_of, packets_from}
 use Rattle.ken_ship.specs.Parts.{part_of}
-use Rattle.ken_ship.specs.Taking.{acks_in, after_acks}
-use Rattle.ken_ship.proofs.Acks.{IsAckTo, acks_given, all_taken, event_of, one_ack}
-use Rattle.ken_ship.proofs.Numbered.{AreFrom, drop_from, mails_are_from, past_is}
+use Rattle.ken_ship.specs.Taking.{acks_in, acks_taken, after_acks, goes_no_further}
+use Rattle.ken_ship.proofs.Acks.{AreNumbered, IsAckTo, acks_given, acks_known, all_taken, event_of, one_ack, takes_all}
+use Rattle.ken_ship.proofs.Numbered.{AreFrom, drop_from, mails_are_from}
+use Rattle.ken_node.specs.News.{progress_told}
 use Rattle.ken_node.specs.Whole.{HasReached, WereTold}
-use Rattle.ken_node.specs.WholeLaws.{AcksKeepWhole, GoNoFurther, handed_to}
+use Rattle.ken_node.specs.WholeLaws.{AcksKeepWhole}
 use Rattle.ken_node.proofs.Queued.{queued_to, with_ack, with_turns-ack, with_turns-emitted, with_turns-line, with_turns-long}
 use Rattle.ken_node.proofs.SendsWhole.{whole-sender}
-use Rattle.ken_node.proofs.Told.{all_by, told-by, told-last}
+use Rattle.ken_node.proofs.Told.{told-by, told-last}
 
 -- ---- one acknowledgement, before what is on its way comes
 
@@ -94,67 +95,56 @@ one-sent g v n a sent known = record {
   emitted = sent.emitted;
 }
 
--- it goes as far as before, or further
-acked-far : (v u through : ℕ) (l : Unacked) → AreFrom v u l.acked l.messages → l.acked + length l.messages ≤ (acked_by through l).acked + length (acked_by through l).messages
-acked-far v u through l from = kept (nat_lt l.acked through) refl
-  where
-    kept : (b : Bool) → nat_lt l.acked through ≡ b
-        → l.acked + length l.messages ≤ (cond b (record { acked = through; messages = past through l.messages }) l).acked + length (cond b (record { acked = through; messages = past through l.messages }) l).messages
-    kept true e =
-        let less : l.acked < through = ltb-true l.acked through e in
-        let count : length (past through l.messages) ≡ length l.messages - (through - l.acked) = ap length (past_is v u l.acked through l.messages from) ∙ length-drop (through - l.acked) l.messages in
-        omega (arith, less, count)
-    kept false e = omega arith
-
 -- numbers of a front
 from-front : (v u a : ℕ) (xs ys : List Message) → AreFrom v u a (xs ++ ys) → AreFrom v u a xs
 from-front v u a [] ys from = tt
 from-front v u a (x ∷ xs) ys from = (from.0, (from.1.0, from-front v u (a + 1) xs ys from.1.1))
 
+-- the messages of each line are numbered on, before what is on its way comes
+lines-numbered : (g : Game) (v : ℕ) (n : Node) (queue : List Sealed) (w : Waiting) → IsDueOf g v n (with_turns v queue w) → AreNumbered v g.nodes w.lines
+lines-numbered g v n queue w due u low =
+    let l : Unacked = line_of w.lines u in
+    let long = long_enough g v n queue w due in
+    let line : line_of (with_turns v queue w).lines u ≡ record l { messages = l.messages ++ queued_to v u queue } = with_turns-line v queue w u (omega (arith, low, long)) in
+    from-front v u l.acked l.messages (queued_to v u queue) (subst (λ (x : Unacked). AreFrom v u l.acked x.messages) line (line-from g v n queue w due u low))
+
 -- ---- acknowledgements, one after the other
 
-record AcksRun (g : Game) (put : Packet → Type 0) (v : ℕ) (n : Node) (acks : List (ℕ × ℕ)) (queue : List Sealed) (w : Waiting) : Type 0 where
+-- the run of those that were taken, after which this waits
+record AcksRun (g : Game) (put : Packet → Type 0) (v : ℕ) (n : Node) (taken : List (ℕ × ℕ)) (queue : List Sealed) (w : Waiting) : Type 0 where
   sending : SendSide
-  run : NodeRun g put v n (map (event_of v) acks) nothing (record n { sending = sending })
-  due : IsDueOf g v (record n { sending = sending }) (with_turns v queue (record w { lines = after_acks acks w.lines }))
+  run : NodeRun g put v n (map (event_of v) taken) nothing (record n { sending = sending })
+  due : IsDueOf g v (record n { sending = sending }) (with_turns v queue w)
   sent : HasSent g v (record n { sending = sending })
   rises : (u : ℕ) → slice_index n.sending.acked u ≤ slice_index sending.acked u
   emitted : sending.emitted ≡ n.sending.emitted
 
 module _ (g : Game) (put : Packet → Type 0) (v : ℕ) where
-  no-further : (n : Node) (queue : List Sealed) (w : Waiting) (a : ℕ × ℕ) → IsDueOf g v n (with_turns v queue w) → a.0 < g.nodes → (b : ℕ × ℕ) → b.1 ≤ handed_to w b.0 → b.1 ≤ handed_to (with_ack a w) b.0
-  no-further n queue w a due low b known =
-      let l : Unacked = line_of w.lines a.0 in
-      let new : Unacked = acked_by a.1 l in
-      let long = long_enough g v n queue w due in
-      let inside : a.0 < length w.lines = omega (arith, low, long) in
-      let line : line_of (with_turns v queue w).lines a.0 ≡ record l { messages = l.messages ++ queued_to v a.0 queue } = with_turns-line v queue w a.0 inside in
-      let from : AreFrom v a.0 l.acked l.messages = from-front v a.0 l.acked l.messages (queued_to v a.0 queue) (subst (λ (x : Unacked). AreFrom v a.0 l.acked x.messages) line (line-from g v n queue w due a.0 low)) in
-      ⊎_elim
-      (λ (same : b.0 ≡ a.0).
-      let here : line_of (slice_set w.lines a.0 new) b.0 ≡ new = ap (λ (k : ℕ). get_or (slice_set w.lines a.0 new) k no_line) same ∙ get_or-set_same w.lines a.0 new no_line inside in
-      let far = acked-far v a.0 a.1 l from in
-      let was : b.1 ≤ l.acked + length l.messages = subst (λ (k : ℕ). b.1 ≤ handed_to w k) same known in
-      subst (λ (x : Unacked). b.1 ≤ x.acked + length x.messages) (sym here) (omega (arith, far, was)))
-      (λ (other : b.0 ≢ a.0). subst (λ (x : Unacked). b.1 ≤ x.acked + length x.messages) (sym (get_or-set_other w.lines a.0 b.0 new no_line other)) known)
-      (cases_eq b.0 a.0)
-
-  acks-run : (n : Node) (acks : List (ℕ × ℕ)) (queue : List Sealed) (w : Waiting) → IsDueOf g v n (with_turns v queue w) → HasSent g v n → AllByRecursion (IsAckTo g.nodes put v) acks → GoNoFurther w acks → AcksRun g put v n acks queue w
-  acks-run n [] queue w due sent each known = record { sending = n.sending; run = (refl, refl); due = due; sent = record { acked = sent.acked; emitted = sent.emitted }; rises = λ u. omega arith; emitted = refl }
-  acks-run n (a ∷ acks) queue w due sent each known =
-      let mid : Node = acked_node a.0 a.1 n in
+  acks-run : (n : Node) (acks : List (ℕ × ℕ)) (queue : List Sealed) (w : Waiting) → IsDueOf g v n (with_turns v queue w) → HasSent g v n → AllByRecursion (IsAckTo g.nodes put v) acks
+      → AcksRun g put v n (acks_taken acks w.lines) queue (record w { lines = after_acks acks w.lines })
+  acks-run n [] queue w due sent each = record { sending = n.sending; run = (refl, refl); due = due; sent = record { acked = sent.acked; emitted = sent.emitted }; rises = λ u. omega arith; emitted = refl }
+  acks-run n (a ∷ acks) queue w due sent each =
+      kept
+      (λ goes.
+      let known : a.1 ≤ handed_to w a.0 = leb-true a.1 (handed_to w a.0) goes in
       let most = handed-sent g v n queue w due a.0 each.0.0 sent in
-      let first = known.0 in
-      let rest = acks-run mid acks queue (with_ack a w) (one-due g v n queue w due a each.0.0 known.0) (one-sent g v n a sent (omega (arith, most, first))) each.1
-      (all_by (λ (b : ℕ × ℕ). b.1 ≤ handed_to w b.0) (λ (b : ℕ × ℕ). b.1 ≤ handed_to (with_ack a w) b.0) (no-further n queue w a due each.0.0) acks known.1) in
-      record {
+      acks-run (acked_node a.0 a.1 n) acks queue (with_ack a w) (one-due g v n queue w due a each.0.0 known) (one-sent g v n a sent (omega (arith, most, known))) each.1)
+      (acks-run n acks queue w due sent each.1)
+      (goes_no_further w.lines a) refl
+    where
+      kept : (goes_no_further w.lines a ≡ true → AcksRun g put v (acked_node a.0 a.1 n) (acks_taken acks (with_ack a w).lines) queue (record w { lines = after_acks acks (with_ack a w).lines }))
+          → AcksRun g put v n (acks_taken acks w.lines) queue (record w { lines = after_acks acks w.lines })
+          → (b : Bool) → goes_no_further w.lines a ≡ b
+          → AcksRun g put v n (cond b (a ∷ acks_taken acks (cond b (with_ack a w).lines w.lines)) (acks_taken acks w.lines)) queue (record w { lines = after_acks acks (cond b (with_ack a w).lines w.lines) })
+      kept taken still true e = let rest = taken e in record {
         sending = rest.sending;
-        run = (mid, (nothing, (refl, (due.up, each.0.0, each.0.1, refl), refl, rest.run)));
+        run = (acked_node a.0 a.1 n, (nothing, (refl, (due.up, each.0.0, each.0.1, refl), refl, rest.run)));
         due = rest.due;
         sent = record { acked = rest.sent.acked; emitted = rest.sent.emitted };
         rises = λ u. let now = one-rises n a u in let later = rest.rises u in omega (arith, now, later);
         emitted = rest.emitted;
       }
+      kept taken still false e = still
 
 -- two lists of numbers are the same or not
 same-or-not : (xs ys : List ℕ) → (xs ≡ ys) ⊎ (xs ≢ ys)
@@ -181,7 +171,7 @@ reached-now g v n queue w due = record {
 
 module _ {D : Type 0} (told : D → Option Story) (size : D → ℕ) where
   pub acks_keep_whole : {N : Type 0} (given_between : N → N → List (List ℕ) → Type 0) → AcksKeepWhole told size given_between
-  acks_keep_whole given_between g v n t p s s2 net net2 nones nones2 whole same sealed heard tells known =
+  acks_keep_whole given_between g v n t p s s2 net net2 nones nones2 whole same sealed heard tells =
       let w = whole.workers in
       let d = w.sends in
       let packets : List (List ℕ) = heard.packets in
@@ -189,20 +179,32 @@ module _ {D : Type 0} (told : D → Option Story) (size : D → ℕ) where
       let mine : acks_in s.backlog.node s.nodes packets ≡ acks_in v g.nodes packets = ap (λ (k : ℕ). acks_in k s.nodes packets) w.of_run.sender ∙ ap (λ (k : ℕ). acks_in v k packets) w.of_run.receivers in
       let taken : (part_of s2).due ≡ record (part_of s).due { lines = after_acks (acks_in v g.nodes packets) (part_of s).due.lines } =
       heard.taken ∙ ap (λ (acks : List (ℕ × ℕ)). record (part_of s).due { lines = after_acks acks (part_of s).due.lines }) mine in
-      let run = acks-run g given v n (acks_in v g.nodes packets) d.queue (part_of s).due d.due d.sent (acks_given v g.nodes packets given (λ x there. there)) known in
+      let run = acks-run g given v n (acks_in v g.nodes packets) d.queue (part_of s).due d.due d.sent (acks_given v g.nodes packets given (λ x there. there)) in
       let after : Node = record n { sending = run.sending } in
       let due : IsDueOf g v after (with_turns v d.queue (part_of s2).due) = subst (λ (x : Waiting). IsDueOf g v after (with_turns v d.queue x)) (sym taken) run.due in
-      let before : WereTold (HasReached g after) (pushed s.told) (popped t.progress) t.told.progress =
-      told-by (HasReached g n) (HasReached g after) (pushed s.told) (popped t.progress) t.told.progress
+      let before : WereTold progress_told (HasReached g after) (pushed s.told) (popped t.progress) t.told.progress =
+      told-by progress_told (HasReached g n) (HasReached g after) (pushed s.told) (popped t.progress) t.told.progress
       (λ x is. record { acked = λ u low. let old = is.acked u low in let more = run.rises u in omega (arith, old, more); emitted = let old = is.emitted in let number = run.emitted in omega (arith, old, number) }) w.progress in
-      let now : WereTold (HasReached g after) (pushed s2.told) (popped t.progress) t.told.progress =
+      let now : WereTold progress_told (HasReached g after) (pushed s2.told) (popped t.progress) t.told.progress =
       ⊎_elim
-      (λ (quiet : acked_in (part_of s2).due.lines ≡ acked_in (part_of s).due.lines). subst (λ (xs : List Progress). WereTold (HasReached g after) xs (popped t.progress) t.told.progress) (sym (tells.same_not_told quiet)) before)
+      (λ (quiet : acked_in (part_of s2).due.lines ≡ acked_in (part_of s).due.lines). subst (λ (xs : List Told). WereTold progress_told (HasReached g after) xs (popped t.progress) t.told.progress) (sym (tells.same_not_told quiet)) before)
       (λ (risen : acked_in (part_of s2).due.lines ≢ acked_in (part_of s).due.lines).
-      told-last (HasReached g after) (pushed s.told) (pushed s2.told) (popped t.progress) t.told.progress (progress_in (part_of s2).due) (tells.risen_told risen) before (reached-now g v after d.queue (part_of s2).due due))
+      told-last progress_told (HasReached g after) (pushed s.told) (pushed s2.told) (popped t.progress) t.told.progress (told_in (part_of s2).handed (part_of s2).due) (tells.risen_told risen) before (reached-now g v after d.queue (part_of s2).due due))
       (same-or-not (acked_in (part_of s2).due.lines) (acked_in (part_of s).due.lines)) in
+      let acks : List (ℕ × ℕ) = acks_in v g.nodes packets in
+      let lines : List Unacked = (part_of s).due.lines in
+      let now_whole = whole-sender told size g v n t p s s2 run.sending whole same (record { queue = d.queue; ring = d.ring ∙ ap (λ x. popped x ++ d.queue) (sym sealed); due = due; sent = run.sent }) now in
       record {
-        after = after;
-        call = record { events = map (event_of v) (acks_in v g.nodes packets); run = run.run; which = all_taken v g.nodes packets };
-        whole = whole-sender told size g v n t p s s2 run.sending whole same (record { queue = d.queue; ring = d.ring ∙ ap (λ x. popped x ++ d.queue) (sym sealed); due = due; sent = run.sent }) now;
+        some = record {
+          after = after;
+          call = record { events = map (event_of v) (acks_taken acks lines); run = run.run; which = refl };
+          whole = now_whole;
+        };
+        all = λ far.
+            let taken_all = takes_all v g.nodes acks lines (lines-numbered g v n d.queue (part_of s).due d.due) (long_enough g v n d.queue (part_of s).due d.due) (acks_known v g.nodes packets) far in
+            record {
+              after = after;
+              call = record { events = map (event_of v) (acks_taken acks lines); run = run.run; which = ap (map (event_of v)) taken_all ∙ all_taken v g.nodes packets };
+              whole = now_whole;
+            };
       }

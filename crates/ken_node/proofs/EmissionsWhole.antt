@@ -16,15 +16,16 @@ use Rattle.ken_ship.specs.declared.emit.Emit.{Emit}
 use Rattle.ken_ship.specs.declared.emit.Emit.TheVariants.{Done, Refused, Nothing}
 use Rattle.ken_ship.specs.declared.faults.NodeFault.{NodeFault}
 use Rattle.ken_ship.specs.declared.faults.NodeFault.TheVariants.{Disk, Damaged, Outlet, Memory}
-use Rattle.ken_ship.specs.declared.items.Progress.{Progress}
+use Rattle.ken_ship.specs.declared.items.Told.{Told}
 use Rattle.ken_ship.specs.declared.items.Sealed.{Sealed}
 use Rattle.ken_ship.specs.declared.worker.SendWorker.{SendWorker}
 use Rattle.ken_ship.specs.Emitting.{Emitted, after_emission}
-use Rattle.ken_ship.specs.Handing.{progress_in, with_turns}
+use Rattle.ken_ship.specs.Handing.{told_in, with_turns}
 use Rattle.ken_ship.specs.Laws.{IsDueOf}
 use Rattle.ken_ship.specs.Parts.{Part, part_of}
 use Rattle.ken_ship.specs.Parts.{IsSameWorker as IsSameSender}
 use Rattle.ken_ship.proofs.Emissions.{emission_is_event}
+use Rattle.ken_node.specs.News.{progress_told}
 use Rattle.ken_node.specs.declared.patcher.PatchWorker.{PatchWorker}
 use Rattle.ken_node.specs.declared.worker.TurnWorker.{TurnWorker}
 use Rattle.ken_node.specs.Whole.{HasReached, IsWhole, WereTold}
@@ -45,7 +46,7 @@ module _ {D : Type 0} (told : D → Option Story) (size : D → ℕ) where
         due = subst (λ (x : Part). IsDueOf g v n (with_turns v d.queue x.due)) (sym part) d.due;
         sent = record { acked = d.sent.acked; emitted = d.sent.emitted };
       })
-      (subst (λ (x : Part). WereTold (HasReached g n) x.told (popped t.progress) t.told.progress) (sym part) whole.workers.progress)
+      (subst (λ (x : Part). WereTold progress_told (HasReached g n) x.told (popped t.progress) t.told.progress) (sym part) whole.workers.progress)
 
   module _ (g : Game) (v : ℕ) (n : Node) (t : TurnWorker D) (p : PatchWorker D) (s s2 : SendWorker) (whole : IsWhole told size g v n t p s) (same : IsSameSender s s2) (sealed : s2.sealed ≡ s.sealed) where
     -- nothing was emitted
@@ -62,7 +63,7 @@ module _ {D : Type 0} (told : D → Option Story) (size : D → ℕ) where
                 due = subst (λ (x : Waiting). IsDueOf g v n (with_turns v d.queue x)) (sym due) d.due;
                 sent = record { acked = d.sent.acked; emitted = d.sent.emitted };
               })
-              (subst (λ (xs : List Progress). WereTold (HasReached g n) xs (popped t.progress) t.told.progress) (sym tells) whole.workers.progress);
+              (subst (λ (xs : List Told). WereTold progress_told (HasReached g n) xs (popped t.progress) t.told.progress) (sym tells) whole.workers.progress);
         }
 
     one-emitted : (out : Out) (rest : List Out) → (part_of s).due.outs ≡ out ∷ rest → part_of s2 ≡ after_emission s.backlog.node out rest (part_of s) → LeadsTo told size g v [] (IsEmit v) n (record { puts = []; outs = out ∷ [] }) t p s2
@@ -77,9 +78,9 @@ module _ {D : Type 0} (told : D → Option Story) (size : D → ℕ) where
         subst (IsDueOf g v after) (sym (ap (with_turns v d.queue) new ∙ with_turns-emission v d.queue due out.number rest)) event.due in
         let left : length (drop n.sending.emitted (outs_of n.turning.turns)) ≡ length (out ∷ (rest ++ queued_outs d.queue)) = ap length (sym d.due.outs ∙ all) in
         let count = length-drop n.sending.emitted (outs_of n.turning.turns) in
-        let before : WereTold (HasReached g after) (pushed s.told) (popped t.progress) t.told.progress =
-        told-by (HasReached g n) (HasReached g after) (pushed s.told) (popped t.progress) t.told.progress (λ x is. record { acked = is.acked; emitted = let old = is.emitted in omega (arith, old) }) whole.workers.progress in
-        let tells : pushed s2.told ≡ pushed s.told ++ progress_in (part_of s2).due ∷ [] = ap (λ (x : Part). x.told) now ∙ ap (λ (x : Waiting). pushed s.told ++ progress_in x ∷ []) (sym new) in
+        let before : WereTold progress_told (HasReached g after) (pushed s.told) (popped t.progress) t.told.progress =
+        told-by progress_told (HasReached g n) (HasReached g after) (pushed s.told) (popped t.progress) t.told.progress (λ x is. record { acked = is.acked; emitted = let old = is.emitted in omega (arith, old) }) whole.workers.progress in
+        let tells : pushed s2.told ≡ pushed s.told ++ told_in (part_of s).handed (part_of s2).due ∷ [] = ap (λ (x : Part). x.told) now ∙ ap (λ (x : Waiting). pushed s.told ++ told_in (part_of s).handed x ∷ []) (sym new) in
         record {
           after = after;
           call = event.call;
@@ -90,7 +91,7 @@ module _ {D : Type 0} (told : D → Option Story) (size : D → ℕ) where
                 due = due2;
                 sent = record { acked = d.sent.acked; emitted = omega (arith, left, count) };
               })
-              (told-last (HasReached g after) (pushed s.told) (pushed s2.told) (popped t.progress) t.told.progress (progress_in (part_of s2).due) tells before (reached-now g v after d.queue (part_of s2).due due2));
+              (told-last progress_told (HasReached g after) (pushed s.told) (pushed s2.told) (popped t.progress) t.told.progress (told_in (part_of s).handed (part_of s2).due) tells before (reached-now g v after d.queue (part_of s2).due due2));
         }
 
     emitted-by : (result : Result Emit NodeFault) → Emitted s.backlog.node result (part_of s) (part_of s2) → EmitsBy told size result g v n t p s s2

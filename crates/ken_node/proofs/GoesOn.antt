@@ -70,6 +70,7 @@ module _ {D : Type 0} where
         sender = ap (λ (w : SendWorker). w.backlog.node) over.sends ∙ ready.sender;
         receivers = ap (λ (w : SendWorker). w.nodes) over.sends ∙ ready.receivers;
         due = ap (λ (w : SendWorker). (part_of w).due) over.sends ∙ resumes.due;
+        handed = ap (λ (w : SendWorker). (part_of w).handed) over.sends ∙ resumes.handed;
         joined = record { pages = pages.0; sealed = sealed.0; settled = settled.0; progress = progress.0 };
         empty = record { pages = pages.1; sealed = sealed.1; settled = settled.1; progress = progress.1 };
       }

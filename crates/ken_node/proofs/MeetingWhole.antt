@@ -7,13 +7,14 @@ use Rattle.ken_links.specs.Rings.{pushed, popped}
 use Rattle.ken_store.specs.Apart.{Apart, hand_all}
 use Rattle.ken_store.specs.Turning.{turn_pages}
 use Rattle.ken_store.specs.declared.turning.TurnSide.{TurnSide}
-use Rattle.ken_ship.specs.declared.items.Progress.{Progress}
+use Rattle.ken_ship.specs.declared.items.Told.{Told}
 use Rattle.ken_ship.specs.declared.items.Sealed.{Sealed}
 use Rattle.ken_ship.specs.declared.worker.SendWorker.{SendWorker}
 use Rattle.ken_ship.specs.Handing.{with_turns}
 use Rattle.ken_ship.specs.Laws.{IsDueOf}
 use Rattle.ken_ship.specs.Parts.{Part, part_of}
 use Rattle.ken_ship.specs.Parts.{IsSameWorker as IsSameSender}
+use Rattle.ken_node.specs.declared.items.Settled.{Settled}
 use Rattle.ken_node.specs.declared.items.Frozen.{Frozen}
 use Rattle.ken_node.specs.declared.patcher.PatchWorker.{PatchWorker}
 use Rattle.ken_node.specs.declared.worker.TurnWorker.{TurnWorker}
@@ -21,7 +22,7 @@ use Rattle.ken_node.specs.Meeting.{AreFronts, AreJoined}
 use Rattle.ken_node.specs.Patches.{waits_of}
 use Rattle.ken_node.specs.Whole.{HasDue, HasReached, HasTurns, HavePages, IsSettledAt, IsWhole, TellsState, WereTold}
 use Rattle.ken_node.specs.WholeLaws.{MeetingKeepsWhole}
-use Rattle.ken_node.specs.Workers.{Working}
+use Rattle.ken_node.specs.Workers.{Working, progress_told, turn_settled}
 use Rattle.ken_node.proofs.Handed.{handed_apart, handed_same}
 use Rattle.ken_node.proofs.Queued.{with_turns-append}
 use Rattle.ken_node.proofs.Rings.{queue-moved}
@@ -31,7 +32,7 @@ module _ {D : Type 0} (told : D → Option Story) (size : D → ℕ) (g : Game) 
   -- only the rings' ends and what was told may have changed at the handler
   pub whole-handler : (t t2 : TurnWorker D) (p p2 : PatchWorker D) (s s2 : SendWorker) → IsWhole told size g v n t p s
       → t2 ≡ record t { told = t2.told; pages = t2.pages; sealed = t2.sealed; settled = t2.settled; progress = t2.progress; news = t2.news; room = t2.room } → IsSameSender s s2 → AreJoined t2 p2 s2
-      → WereTold (IsSettledAt n) (pushed p2.settled) (popped t2.settled) t2.told.settled → WereTold (HasReached g n) (pushed s2.told) (popped t2.progress) t2.told.progress
+      → WereTold turn_settled (IsSettledAt n) (pushed p2.settled) (popped t2.settled) t2.told.settled → WereTold progress_told (HasReached g n) (pushed s2.told) (popped t2.progress) t2.told.progress
       → HasDue g v n t2 s2 → HavePages told size n t2 p2 → IsWhole told size g v n t2 p2 s2
   whole-handler t t2 p p2 s s2 whole rest same joined settled progress due pages =
       let w = whole.workers in
@@ -85,10 +86,10 @@ module _ {D : Type 0} (told : D → Option Story) (size : D → ℕ) where
       let told_same : pushed s2.told ≡ pushed s.told = ap (λ (x : Part). x.told) met.rest in
       let apart = handed_apart told size t.side p.side p2.side met.patches.turns rest pages.image (subst (λ (q : List Frozen). Apart told size t.side p.side (waits_of q) pages.image) parts pages.apart) met.patches.handed in
       whole-handler told size g v n t t2 p p2 s s2 whole met.handler same joined
-      (told-heard-by (IsSettledAt n) (pushed p2.settled) (popped t.settled) (popped t2.settled) t.told.settled t2.told.settled
-      (subst (λ (xs : List ℕ). WereTold (IsSettledAt n) xs (popped t.settled) t.told.settled) (sym met.settles) w.settled) met.settled fronts.settled)
-      (told-heard-by (HasReached g n) (pushed s2.told) (popped t.progress) (popped t2.progress) t.told.progress t2.told.progress
-      (subst (λ (xs : List Progress). WereTold (HasReached g n) xs (popped t.progress) t.told.progress) (sym told_same) w.progress) met.progress fronts.progress)
+      (told-heard-by turn_settled (IsSettledAt n) (pushed p2.settled) (popped t.settled) (popped t2.settled) t.told.settled t2.told.settled
+      (subst (λ (xs : List Settled). WereTold turn_settled (IsSettledAt n) xs (popped t.settled) t.told.settled) (sym met.settles) w.settled) met.settled fronts.settled)
+      (told-heard-by progress_told (HasReached g n) (pushed s2.told) (popped t.progress) (popped t2.progress) t.told.progress t2.told.progress
+      (subst (λ (xs : List Told). WereTold progress_told (HasReached g n) xs (popped t.progress) t.told.progress) (sym told_same) w.progress) met.progress fronts.progress)
       (record { queue = late; ring = fronts.sealed.1; due = subst (IsDueOf g v n) due d.due; sent = d.sent })
       (record {
         queue = rest;

@@ -27,6 +27,7 @@ use Rattle.ken_ship.specs.Laws.{HasSent, IsDueOf, IsStateOf}
 use Rattle.ken_ship.specs.Parts.{Part}
 use Rattle.ken_ship.proofs.Emissions.{nothing_is_due_first}
 use Rattle.ken_ship.proofs.Numbered.{drop_nothing}
+use Rattle.ken_node.specs.News.{progress_told, turn_settled}
 use Rattle.ken_node.specs.declared.items.Feedback.{Feedback}
 use Rattle.ken_node.specs.Created.{nothing_told, owner_of}
 use Rattle.ken_node.specs.NewLaws.{NewAreWhole}
@@ -50,8 +51,8 @@ none-counted v = record {
   outputs = refl;
 }
 
-none-told : {A : Type 0} (P : A → Type 0) (pushed popped : List A) (known first : A) → pushed ≡ [] → popped ≡ [] → known ≡ first → P first → WereTold P pushed popped known
-none-told {A} P pushed popped known first no_push no_pop is holds = record { queue = []; ring = no_push ∙ sym (ap (λ (xs : List A). xs ++ []) no_pop); each = (subst P (sym is) holds, tt) }
+none-told : {A B : Type 0} (says : A → B) (P : B → Type 0) (pushed popped : List A) (known first : B) → pushed ≡ [] → popped ≡ [] → known ≡ first → P first → WereTold says P pushed popped known
+none-told {A} says P pushed popped known first no_push no_pop is holds = record { queue = []; ring = no_push ∙ sym (ap (λ (xs : List A). xs ++ []) no_pop); holds = subst P (sym is) holds; each = tt }
 
 -- a heap of a run has pages, and not too many
 pub heap-sized : (g : Game) → IsWithinLimits g → (0 < heap_pages g) × (heap_pages g ≤ 4096) × (g.size ≡ 256 * heap_pages g)
@@ -116,8 +117,8 @@ module _ {D : Type 0} (told : D → Option Story) (size : D → ℕ) where
             due = subst (λ (x : Part). IsDueOf g v n x.due) (sym new.part) (nothing_is_due_first g v limits.few_nodes);
             sent = record { acked = λ u low. let zero_is = zero-at g.nodes u in omega (arith, zero_is); emitted = omega arith };
           };
-          settled = none-told (IsSettledAt n) (pushed p.settled) (popped t.settled) t.told.settled 0 new.settled.none_pushed new.settled.none_popped (ap (λ (x : Feedback). x.settled) new.told_is) settled;
-          progress = none-told (HasReached g n) (pushed s.told) (popped t.progress) t.told.progress nothing_told.progress new.progress.none_pushed new.progress.none_popped (ap (λ (x : Feedback). x.progress) new.told_is)
+          settled = none-told turn_settled (IsSettledAt n) (pushed p.settled) (popped t.settled) t.told.settled 0 new.settled.none_pushed new.settled.none_popped (ap (λ (x : Feedback). x.settled) new.told_is) settled;
+          progress = none-told progress_told (HasReached g n) (pushed s.told) (popped t.progress) t.told.progress nothing_told.progress new.progress.none_pushed new.progress.none_popped (ap (λ (x : Feedback). x.progress) new.told_is)
               (record { acked = λ u low. let zero_is = zero-at 8 u in omega (arith, zero_is); emitted = omega arith });
         };
         pages = record {

@@ -13,6 +13,7 @@ use Rattle.ken_store.specs.declared.disks.Disks.{Disks}
 use Rattle.ken_store.specs.Apart.{disks_apart}
 use Rattle.ken_ship.specs.declared.worker.SendWorker.{SendWorker}
 use Rattle.ken_ship.specs.Parts.{IsSameWorker as IsSameSender}
+use Rattle.ken_node.specs.declared.items.Settled.{Settled}
 use Rattle.ken_node.specs.declared.items.Frozen.{Frozen}
 use Rattle.ken_node.specs.declared.parts.Parts.{Parts}
 use Rattle.ken_node.specs.declared.patcher.PatchWorker.{PatchWorker}
@@ -67,7 +68,7 @@ parts-ready {D} g v t p s x limits run joined empty parts =
       given = are_given g v x limits node inputs;
       room = (subst (λ (k : ℕ). 64 ≤ k) (sym parts.news.0) t.room.0, parts.news.1 ∙ t.room.1);
       pages = bare_at t.pages x.pages.0 p.pages x.pages.1 (ap (λ (q : PushEnd Frozen × PopEnd Frozen). q.0) parts.pages) (ap (λ (q : PushEnd Frozen × PopEnd Frozen). q.1) parts.pages) (joined.pages, empty.pages);
-      settled = bare_at p.settled x.settled.0 t.settled x.settled.1 (ap (λ (q : PushEnd ℕ × PopEnd ℕ). q.0) parts.settled) (ap (λ (q : PushEnd ℕ × PopEnd ℕ). q.1) parts.settled) (joined.settled, empty.settled);
+      settled = bare_at p.settled x.settled.0 t.settled x.settled.1 (ap (λ (q : PushEnd Settled × PopEnd Settled). q.0) parts.settled) (ap (λ (q : PushEnd Settled × PopEnd Settled). q.1) parts.settled) (joined.settled, empty.settled);
       sealed = bare_at t.sealed x.sealed s.sealed x.sends.sealed parts.sealed (ap (λ (w : SendWorker). w.sealed) parts.sends) (joined.sealed, empty.sealed);
       progress = bare_at s.told x.sends.told t.progress x.progress (ap (λ (w : SendWorker). w.told) parts.sends) parts.progress (joined.progress, empty.progress);
       sender = ap (λ (w : SendWorker). w.backlog.node) parts.sends ∙ run.sender;

@@ -24,11 +24,13 @@ use Rattle.ken_store.proofs.ApartLaws.{patch_keeps_apart, room_keeps_apart, sync
 use Rattle.ken_store.proofs.ApartPages.{hand_all-patched}
 use Rattle.ken_ship.specs.declared.worker.SendWorker.{SendWorker}
 use Rattle.ken_ship.proofs.Emissions.{others_keep_due}
+use Rattle.ken_node.specs.News.{progress_told, turn_settled}
+use Rattle.ken_node.specs.declared.items.Settled.{Settled}
 use Rattle.ken_node.specs.declared.items.Frozen.{Frozen}
 use Rattle.ken_node.specs.declared.patcher.PatchWorker.{PatchWorker}
 use Rattle.ken_node.specs.declared.worker.TurnWorker.{TurnWorker}
 use Rattle.ken_node.specs.Meeting.{AreFronts, AreJoined}
-use Rattle.ken_node.specs.Patches.{IsSamePatcher, Patches, PatchesOnce, SettlesOnce, TakesNone, TakesOver, waits_of, went, no_room}
+use Rattle.ken_node.specs.Patches.{IsSamePatcher, Patches, PatchesOnce, SettlesOnce, TakesNone, TakesOver, settled_of, waits_of, went, no_room}
 use Rattle.ken_node.specs.Whole.{AreWorkersOf, HasReached, HavePages, IsSettledAt, IsWhole, WereTold}
 use Rattle.ken_node.specs.WholeLaws.{LeadsTo, PatchedBy, PatchKeepsWhole, SyncedBy, SyncKeepsWhole}
 use Rattle.ken_node.proofs.Handed.{handed_apart, handed_same, synced_same}
@@ -38,7 +40,7 @@ use Rattle.ken_node.proofs.Told.{told-by, told-last}
 module _ {D : Type 0} (told : D → Option Story) (size : D → ℕ) (g : Game) (v : ℕ) where
   -- where only the pages of the image change
   pub workers-patched : (n : Node) (t : TurnWorker D) (p p2 : PatchWorker D) (s : SendWorker) (image : ImagePages) → AreWorkersOf told size g v n t p s → AreJoined t p2 s
-      → WereTold (IsSettledAt (record n { patching = image })) (pushed p2.settled) (popped t.settled) t.told.settled → AreWorkersOf told size g v (record n { patching = image }) t p2 s
+      → WereTold turn_settled (IsSettledAt (record n { patching = image })) (pushed p2.settled) (popped t.settled) t.told.settled → AreWorkersOf told size g v (record n { patching = image }) t p2 s
   workers-patched n t p p2 s image w joined settled =
       let n2 : Node = record n { patching = image } in
       let tells = w.log.state in
@@ -60,7 +62,7 @@ module _ {D : Type 0} (told : D → Option Story) (size : D → ℕ) (g : Game) 
           sent = record { acked = w.sends.sent.acked; emitted = w.sends.sent.emitted };
         };
         settled = settled;
-        progress = told-by (HasReached g n) (HasReached g n2) (pushed s.told) (popped t.progress) t.told.progress (λ x is. record { acked = is.acked; emitted = is.emitted }) w.progress;
+        progress = told-by progress_told (HasReached g n) (HasReached g n2) (pushed s.told) (popped t.progress) t.told.progress (λ x is. record { acked = is.acked; emitted = is.emitted }) w.progress;
       }
 
   pub joined-patcher : (t : TurnWorker D) (p p2 : PatchWorker D) (s : SendWorker) → AreJoined t p s → IsSamePatcher p p2 → AreJoined t p2 s
@@ -122,10 +124,10 @@ module _ {D : Type 0} (told : D → Option Story) (size : D → ℕ) (g : Game) 
 
   -- the patcher's other end stays as it is
   settled-kept : (n : Node) (t : TurnWorker D) (p p2 : PatchWorker D) (image : ImagePages) → p2.settled ≡ p.settled → ((settled : ℕ) → IsSettledAt n settled → IsSettledAt (record n { patching = image }) settled)
-      → WereTold (IsSettledAt n) (pushed p.settled) (popped t.settled) t.told.settled → WereTold (IsSettledAt (record n { patching = image })) (pushed p2.settled) (popped t.settled) t.told.settled
+      → WereTold turn_settled (IsSettledAt n) (pushed p.settled) (popped t.settled) t.told.settled → WereTold turn_settled (IsSettledAt (record n { patching = image })) (pushed p2.settled) (popped t.settled) t.told.settled
   settled-kept n t p p2 image same by were =
       let n2 : Node = record n { patching = image } in
-      subst (λ (xs : List ℕ). WereTold (IsSettledAt n2) xs (popped t.settled) t.told.settled) (sym (ap pushed same)) (told-by (IsSettledAt n) (IsSettledAt n2) (pushed p.settled) (popped t.settled) t.told.settled by were)
+      subst (λ (xs : List Settled). WereTold turn_settled (IsSettledAt n2) xs (popped t.settled) t.told.settled) (sym (ap pushed same)) (told-by turn_settled (IsSettledAt n) (IsSettledAt n2) (pushed p.settled) (popped t.settled) t.told.settled by were)
 
   pub covers-node : (n : Node) (t : TurnWorker D) (p : PatchWorker D) → 256 * t.side.owner.pages ≡ g.size → HavePages told size n t p → Covers (heap_pages g) true n.turning.pages n.patching
   covers-node n t p sized pages =
@@ -191,7 +193,7 @@ module _ {D : Type 0} (told : D → Option Story) (size : D → ℕ) (g : Game) 
 
   -- the image was synced
   synced : (n : Node) (t : TurnWorker D) (p p2 : PatchWorker D) (s : SendWorker) → IsWhole told size g v n t p s → IsSamePatcher p p2 → p2.pages ≡ p.pages → ((i : ImagePages) → Patching told size p.side i → Patching told size p2.side (synced_pages i))
-      → p2.side.image.pages ≡ p.side.image.pages → p2.side.known ≡ p.side.known → pushed p2.settled ≡ pushed p.settled ++ settled_turn p.side.known p.side.ahead.items ∷ [] → LeadsTo told size g v [] (IsSync v) n nothing t p2 s
+      → p2.side.image.pages ≡ p.side.image.pages → p2.side.known ≡ p.side.known → pushed p2.settled ≡ pushed p.settled ++ settled_of p.side ∷ [] → LeadsTo told size g v [] (IsSync v) n nothing t p2 s
   synced n t p p2 s whole same ring stands count known tells =
       let pages = whole.pages in
       let waits : List (ℕ × List Page) = waits_of pages.queue in
@@ -205,13 +207,13 @@ module _ {D : Type 0} (told : D → Option Story) (size : D → ℕ) (g : Game) 
         made = omega (arith, turns, sealed);
         clean = subst (λ (x : TurnPages). MayLeaveOut turn x n2.patching) (sym pages.turning) (subst (MayLeaveOut turn (turn_pages t.side)) (sym all) (told_is_settled told size t.side p.side waits pages.image pages.apart));
       } in
-      let before : WereTold (IsSettledAt n2) (pushed p.settled) (popped t.settled) t.told.settled =
-      told-by (IsSettledAt n) (IsSettledAt n2) (pushed p.settled) (popped t.settled) t.told.settled (λ x is. record { made = is.made; clean = sync_keeps_settled (heap_pages g) x n.turning.pages n.patching covers is.clean }) whole.workers.settled in
+      let before : WereTold turn_settled (IsSettledAt n2) (pushed p.settled) (popped t.settled) t.told.settled =
+      told-by turn_settled (IsSettledAt n) (IsSettledAt n2) (pushed p.settled) (popped t.settled) t.told.settled (λ x is. record { made = is.made; clean = sync_keeps_settled (heap_pages g) x n.turning.pages n.patching covers is.clean }) whole.workers.settled in
       record {
         after = n2;
         call = record { events = SyncImage v ∷ []; run = (n2, (nothing, (refl, (whole.workers.sends.due.up, refl), refl, (refl, refl)))); which = refl };
         whole = record {
-          workers = workers-patched n t p p2 s n2.patching whole.workers (joined-patcher t p p2 s whole.workers.joined same) (told-last (IsSettledAt n2) (pushed p.settled) (pushed p2.settled) (popped t.settled) t.told.settled turn tells before now);
+          workers = workers-patched n t p p2 s n2.patching whole.workers (joined-patcher t p p2 s whole.workers.joined same) (told-last turn_settled (IsSettledAt n2) (pushed p.settled) (pushed p2.settled) (popped t.settled) t.told.settled (settled_of p.side) tells before now);
           pages = record {
             queue = pages.queue;
             ring = pages.ring ∙ ap (λ (x : PopEnd Frozen). popped x ++ pages.queue) (sym ring);

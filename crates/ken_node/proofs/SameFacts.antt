@@ -4,6 +4,7 @@ use Rattle.std.proofs.Props.{props}
 use Rattle.ken_links.specs.declared.pop_end.PopEnd.{PopEnd}
 use Rattle.ken_links.specs.declared.push_end.PushEnd.{PushEnd}
 use Rattle.ken_ship.specs.declared.items.Sealed.{Sealed}
+use Rattle.ken_node.specs.declared.items.Settled.{Settled}
 use Rattle.ken_node.specs.declared.items.Frozen.{Frozen}
 use Rattle.ken_node.specs.declared.worker.TurnWorker.{TurnWorker}
 use Rattle.ken_node.specs.News.{AreInputs}
@@ -25,7 +26,7 @@ module _ {D : Type 0} where
       ∙ ap (λ (x : AreInputs a.node a.inputs.items). record a { given = x }) (given_prop given a.given)
 
   -- a handler that was told of progress, and whose rings were emptied
-  pub handler_met : (t heard : TurnWorker D) {settled : PopEnd ℕ} (pages : PushEnd Frozen) (sealed : PushEnd Sealed) {few : t.nodes ≤ 8} {most : t.cap ≤ 100000} {given : AreInputs t.node t.inputs.items}
+  pub handler_met : (t heard : TurnWorker D) {settled : PopEnd Settled} (pages : PushEnd Frozen) (sealed : PushEnd Sealed) {few : t.nodes ≤ 8} {most : t.cap ≤ 100000} {given : AreInputs t.node t.inputs.items}
       {few2 : heard.nodes ≤ 8} {most2 : heard.cap ≤ 100000} {room2 : HasRoom heard} {given2 : AreInputs heard.node heard.inputs.items}
       → heard ≡ record t { told = heard.told; settled = settled; progress = heard.progress; news = heard.news; few = few; most = most; room = heard.room; given = given }
       → record heard { pages = pages; sealed = sealed; few = few2; most = most2; room = room2; given = given2 }
@@ -36,4 +37,4 @@ module _ {D : Type 0} where
       facts_same emptied few2 most2 room2 given2
       ∙ ap (λ (w : TurnWorker D). record w { pages = pages; sealed = sealed }) rest
       ∙ facts_same known few most heard.room given
-      ∙ ap (λ (x : PopEnd ℕ). record known { settled = x }) (ap (λ (w : TurnWorker D). w.settled) (sym rest))
+      ∙ ap (λ (x : PopEnd Settled). record known { settled = x }) (ap (λ (w : TurnWorker D). w.settled) (sym rest))

@@ -55,7 +55,7 @@ use Rattle.ken_node.specs.Patches.{waits_of}
 use Rattle.ken_node.specs.Sealing.{coming_pages, coming_turn}
 use Rattle.ken_node.specs.TurnLaws.{turn_made}
 use Rattle.ken_node.specs.Whole.{AreNumbersOf, HasReached, IsSettledAt, IsWhole, WereTold}
-use Rattle.ken_node.specs.Workers.{Working}
+use Rattle.ken_node.specs.Workers.{Working, progress_told, turn_settled}
 use Rattle.ken_node.proofs.NumbersAfter.{numbers-after, outs-push}
 use Rattle.ken_node.proofs.Paced.{paced-sealed}
 use Rattle.ken_node.proofs.Queued.{with_turns-append}
@@ -345,10 +345,10 @@ module _ {D : Type 0} (told : D → Option Story) (size : D → ℕ) (g : Game) 
               due = due-after;
               sent = record { acked = λ u low. let old = w.sends.sent.acked u low in let more = more-mails u in omega (arith, old, more); emitted = let old = w.sends.sent.emitted in let more = more-outs in omega (arith, old, more) };
             };
-            settled = subst (λ (x : TurnWorker D). WereTold (IsSettledAt after) (pushed p.settled) (popped x.settled) x.told.settled) (sym rest)
-                (told-by (IsSettledAt n) (IsSettledAt after) (pushed p.settled) (popped t.settled) t.told.settled settled-after w.settled);
-            progress = subst (λ (x : TurnWorker D). WereTold (HasReached g after) (pushed s.told) (popped x.progress) x.told.progress) (sym rest)
-                (told-by (HasReached g n) (HasReached g after) (pushed s.told) (popped t.progress) t.told.progress (λ x at. record { acked = at.acked; emitted = at.emitted }) w.progress);
+            settled = subst (λ (x : TurnWorker D). WereTold turn_settled (IsSettledAt after) (pushed p.settled) (popped x.settled) x.told.settled) (sym rest)
+                (told-by turn_settled (IsSettledAt n) (IsSettledAt after) (pushed p.settled) (popped t.settled) t.told.settled settled-after w.settled);
+            progress = subst (λ (x : TurnWorker D). WereTold progress_told (HasReached g after) (pushed s.told) (popped x.progress) x.told.progress) (sym rest)
+                (told-by progress_told (HasReached g n) (HasReached g after) (pushed s.told) (popped t.progress) t.told.progress (λ x at. record { acked = at.acked; emitted = at.emitted }) w.progress);
           };
           pages = record {
             queue = h.queue ++ kept.frozen ∷ [];

@@ -16,7 +16,7 @@ use Rattle.ken_core.specs.Packets.{Packet, mail_out, one_after_other, unacked}
 use Rattle.ken_core.specs.Runs.{NodeRun}
 use Rattle.ken_core.specs.Turns.{mails_to}
 use Rattle.ken_links.specs.Rings.{pushed, popped}
-use Rattle.ken_ship.specs.declared.items.Progress.{Progress}
+use Rattle.ken_ship.specs.declared.items.Told.{Told}
 use Rattle.ken_ship.specs.declared.items.Sealed.{Sealed}
 use Rattle.ken_ship.specs.declared.sending.TheConstants.{MOST_DUE}
 use Rattle.ken_ship.specs.declared.worker.SendWorker.{SendWorker}
@@ -27,6 +27,7 @@ use Rattle.ken_ship.specs.Parts.{IsSameWorker as IsSameSender}
 use Rattle.ken_ship.specs.Sending.{ArePut, all_due, due_to, mail_put}
 use Rattle.ken_ship.proofs.Dues.{sends_are_events}
 use Rattle.ken_ship.proofs.Numbered.{AreFrom, drop_from, get_drop, get_take, mails_are_from}
+use Rattle.ken_node.specs.News.{progress_told, turn_settled}
 use Rattle.ken_node.specs.declared.patcher.PatchWorker.{PatchWorker}
 use Rattle.ken_node.specs.declared.worker.TurnWorker.{TurnWorker}
 use Rattle.ken_node.specs.Meeting.{AreJoined}
@@ -48,7 +49,7 @@ module _ {D : Type 0} (told : D → Option Story) (size : D → ℕ) (g : Game) 
   }
 
   pub whole-sender : (n : Node) (t : TurnWorker D) (p : PatchWorker D) (s s2 : SendWorker) (sending : SendSide) → IsWhole told size g v n t p s → IsSameSender s s2 → HasDue g v (record n { sending = sending }) t s2
-      → WereTold (HasReached g (record n { sending = sending })) (pushed s2.told) (popped t.progress) t.told.progress → IsWhole told size g v (record n { sending = sending }) t p s2
+      → WereTold progress_told (HasReached g (record n { sending = sending })) (pushed s2.told) (popped t.progress) t.told.progress → IsWhole told size g v (record n { sending = sending }) t p s2
   whole-sender n t p s s2 sending whole same due progress =
       let w = whole.workers in
       let n2 : Node = record n { sending = sending } in
@@ -60,7 +61,7 @@ module _ {D : Type 0} (told : D → Option Story) (size : D → ℕ) (g : Game) 
           turns = record { kept = w.turns.kept; counted = w.turns.counted; reads = w.turns.reads };
           log = record { state = w.log.state; sent = w.log.sent; width = w.log.width; paced = w.log.paced };
           sends = due;
-          settled = told-by (IsSettledAt n) (IsSettledAt n2) (pushed p.settled) (popped t.settled) t.told.settled (λ x is. record { made = is.made; clean = is.clean }) w.settled;
+          settled = told-by turn_settled (IsSettledAt n) (IsSettledAt n2) (pushed p.settled) (popped t.settled) t.told.settled (λ x is. record { made = is.made; clean = is.clean }) w.settled;
           progress = progress;
         };
         pages = record { queue = whole.pages.queue; ring = whole.pages.ring; image = whole.pages.image; apart = whole.pages.apart; turning = whole.pages.turning; patching = whole.pages.patching };
@@ -223,7 +224,7 @@ module _ {D : Type 0} (told : D → Option Story) (size : D → ℕ) where
       let front = put-parts result (all_due g.nodes (part_of s2).due.lines) sent.puts are in
       record {
         whole = whole-sender told size g v n t p s s2 n.sending whole same (record { queue = rest; ring = fronts.sealed.1; due = due; sent = record { acked = d.sent.acked; emitted = d.sent.emitted } })
-            (subst (λ (xs : List Progress). WereTold (HasReached g n) xs (popped t.progress) t.told.progress) (sym (ap pushed progress)) w.progress);
+            (subst (λ (xs : List Told). WereTold progress_told (HasReached g n) xs (popped t.progress) t.told.progress) (sym (ap pushed progress)) w.progress);
         some = record { puts = sent.puts; were_put = sent.were_put; sending = front-sent g v n rest (part_of s2).due due sent.puts front.0 front.1 };
         all = λ none. all-sent-ok result rest (empty-rest none) due are;
       }

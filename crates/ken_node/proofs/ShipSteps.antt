@@ -30,7 +30,7 @@ use Rattle.ken_ship.specs.declared.worker.SendWorker.{SendWorker}
 use Rattle.ken_ship.specs.Emitting.{Emitted, emitted_of}
 use Rattle.ken_ship.specs.Fits.{AreMails, IsMailFrom, IsMailTo}
 use Rattle.ken_ship.specs.Handing.{HandedOver, mails_of, with_turn, with_turns}
-use Rattle.ken_ship.specs.Laws.{IsDueOf, line_of, mails_out, packet_from, packets_from}
+use Rattle.ken_ship.specs.Laws.{GoNoFurther, IsDueOf, handed_to, line_of, mails_out, packet_from, packets_from}
 use Rattle.ken_ship.specs.Parts.{Part, part_of}
 use Rattle.ken_ship.specs.Parts.{IsSameWorker as IsSameSender}
 use Rattle.ken_ship.specs.Sending.{SentDue, all_due, due_to, mail_put}
@@ -43,7 +43,7 @@ use Rattle.ken_node.specs.declared.stage.Stage.TheVariants.{Created}
 use Rattle.ken_node.specs.declared.worker.TurnWorker.{TurnWorker}
 use Rattle.ken_node.specs.Meeting.{AreEmpty, AreFronts, AreJoined, HaveMet}
 use Rattle.ken_node.specs.NodeCalls.{AreSpelled, EmitStepsBy, EmitsNone, GoesNoFurther, HearSteps, IsSpelled, SendSteps}
-use Rattle.ken_node.specs.WholeLaws.{GoNoFurther, LeadsTo, handed_to}
+use Rattle.ken_node.specs.WholeLaws.{LeadsTo}
 use Rattle.ken_node.proofs.AcksWhole.{acks_keep_whole}
 use Rattle.ken_node.proofs.EmissionsWhole.{emission_keeps_whole}
 use Rattle.ken_node.proofs.Rings.{queue-moved}
@@ -202,7 +202,7 @@ module _ {D : Type 0} (told : D → Option Story) (size : D → ℕ) (g : Game) 
     most = heard.most;
     until = heard.until;
     steps = λ within.
-        let law = acks_keep_whole told size given_between g v n t p s s1 net net2 nones nones2 up.whole first sealed heard tells (acks-go g v n (part_of s).due all-handed heard.packets within) in
+        let law = (acks_keep_whole told size given_between g v n t p s s1 net net2 nones nones2 up.whole first sealed heard tells).all (acks-go g v n (part_of s).due all-handed heard.packets within) in
         record {
           after = law.after;
           call = law.call;

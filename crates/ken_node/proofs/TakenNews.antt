@@ -1,34 +1,61 @@
 -- News that is taken item by item.
-use Rattle.std.proofs.Common.{◌≡◌, ℕ, suc, ◌+◌, ◌-◌, List, [], ◌∷◌, ◌++◌, length, refl, sym, ap, ◌∙◌, subst, append_assoc, append-nil, arith}
+use Rattle.std.proofs.Common.{◌≡◌, ℕ, suc, ◌+◌, ◌-◌, ◌<◌, ◌≤◌, ◌⊎◌, inl, inr, List, [], ◌∷◌, ◌++◌, length, refl, sym, ap, ◌∙◌, subst, append_assoc, append-nil, arith}
 use Rattle.std.specs.Prelude.{slice_get, Some}
+use Rattle.std.specs.List.{AllByRecursion}
 use Rattle.std.proofs.lemmas.List.{length_push}
-use Rattle.ken_node.specs.News.{latest}
+use Rattle.ken_links.specs.Counts.{Rose}
+use Rattle.ken_links.specs.Rings.{popped, nones, known as in_ring}
+use Rattle.ken_links.specs.declared.pop_end.PopEnd.{PopEnd}
+use Rattle.ken_node.specs.News.{AreRipe, IsFromFurther, TakesNews, latest}
 
-pub latest_push : {A : Type 0} (old : A) (xs : List A) (x : A) → latest old (xs ++ x ∷ []) ≡ x
-latest_push old [] x = refl
-latest_push old (y ∷ ys) x = latest_push y ys x
+pub latest_push : {A B : Type 0} (says : A → B) (old : B) (xs : List A) (x : A) → latest says old (xs ++ x ∷ []) ≡ says x
+latest_push says old [] x = refl
+latest_push says old (y ∷ ys) x = latest_push says (says y) ys x
+
+ripe_push : {A : Type 0} (by : A → ℕ) (made : ℕ) (xs : List A) (x : A) → AreRipe by made xs → by x ≤ made → AreRipe by made (xs ++ x ∷ [])
+ripe_push by made [] x ripe one = (one, tt)
+ripe_push by made (y ∷ xs) x ripe one = (ripe.0, ripe_push by made xs x ripe.1 one)
 
 -- so many were told so far
-pub record ToldSoFar {A : Type 0} (count : ℕ) (popped popped2 : List A) (old new : A) : Type 0 where
+pub record ToldSoFar {A B : Type 0} (by : A → ℕ) (says : A → B) (made count : ℕ) (popped popped2 : List A) (old new : B) : Type 0 where
   pub items : List A
   pub popped_are : popped2 ≡ popped ++ items
   pub counted : length items ≡ count
-  pub known : new ≡ latest old items
+  pub ripe : AreRipe by made items
+  pub known : new ≡ latest says old items
 
-pub none_told : {A : Type 0} (popped popped2 : List A) (old new : A) → popped2 ≡ popped → new ≡ old → ToldSoFar 0 popped popped2 old new
-none_told popped popped2 old new same still = record { items = []; popped_are = same ∙ sym (append-nil popped); counted = refl; known = still }
+pub none_told : {A B : Type 0} (by : A → ℕ) (says : A → B) (made : ℕ) (popped : List A) (old : B) → ToldSoFar by says made 0 popped popped old old
+none_told by says made popped old = record { items = []; popped_are = sym (append-nil popped); counted = refl; ripe = tt; known = refl }
 
-pub told_more : {A : Type 0} (count : ℕ) (popped popped2 popped3 : List A) (old mid x : A) → ToldSoFar count popped popped2 old mid → popped3 ≡ popped2 ++ x ∷ [] → ToldSoFar (count + 1) popped popped3 old x
-told_more count popped popped2 popped3 old mid x so_far pop = record {
+pub told_more : {A B : Type 0} (by : A → ℕ) (says : A → B) (made count : ℕ) (popped popped2 popped3 : List A) (old mid new : B) (x : A) → ToldSoFar by says made count popped popped2 old mid → popped3 ≡ popped2 ++ x ∷ [] → by x ≤ made → new ≡ says x
+    → ToldSoFar by says made (count + 1) popped popped3 old new
+told_more by says made count popped popped2 popped3 old mid new x so_far pop ripe said = record {
   items = so_far.items ++ x ∷ [];
   popped_are = pop ∙ ap (λ (xs : List _). xs ++ x ∷ []) so_far.popped_are ∙ append_assoc popped so_far.items (x ∷ []);
   counted = length_push so_far.items x ∙ ap (λ (n : ℕ). n + 1) so_far.counted;
-  known = sym (latest_push old so_far.items x);
+  ripe = ripe_push by made so_far.items x so_far.ripe ripe;
+  known = said ∙ sym (latest_push says old so_far.items x);
 }
 
-pub latest_last : {A : Type 0} (old : A) (xs : List A) (x : A) → slice_get xs (length xs - 1) ≡ Some x → latest old xs ≡ x
-latest_last old [] x is = absurd cc
-latest_last old (y ∷ []) x is = cc
-latest_last {A = A} old (y ∷ (z ∷ zs)) x is =
+-- no more are, for one of three causes
+pub told_until : {A B : Type 0} (by : A → ℕ) (says : A → B) (made count : ℕ) (ring mid ring2 : PopEnd A) (old new : B) → ToldSoFar by says made count (popped ring) (popped mid) old new → popped ring2 ≡ popped mid → count ≤ 64
+    → (count ≡ 64) ⊎ (Rose (nones ring) (nones ring2) ⊎ IsFromFurther by made (in_ring ring2)) → TakesNews by says made ring ring2 old new
+told_until by says made count ring mid ring2 old new so_far still few until = record {
+  items = so_far.items;
+  popped_are = still ∙ so_far.popped_are;
+  most = omega (arith, few, so_far.counted);
+  ripe = so_far.ripe;
+  until = subst (λ (n : ℕ). (n ≡ 64) ⊎ (Rose (nones ring) (nones ring2) ⊎ IsFromFurther by made (in_ring ring2))) (sym so_far.counted) until;
+  known = so_far.known;
+}
+
+-- the first of a list, by a front of it
+pub from_further : {A : Type 0} (by : A → ℕ) (made : ℕ) (x : A) (xs rest : List A) → x ∷ rest ≡ xs → made < by x → IsFromFurther by made xs
+from_further by made x xs rest is far = subst (IsFromFurther by made) is far
+
+pub latest_last : {A B : Type 0} (says : A → B) (old : B) (xs : List A) (x : A) → slice_get xs (length xs - 1) ≡ Some x → latest says old xs ≡ says x
+latest_last says old [] x is = absurd cc
+latest_last says old (y ∷ []) x is = cc
+latest_last {A = A} says old (y ∷ (z ∷ zs)) x is =
     let place : length (y ∷ (z ∷ zs)) - 1 ≡ suc (length (z ∷ zs) - 1) = omega arith in
-    latest_last y (z ∷ zs) x (subst (λ (k : ℕ). slice_get (y ∷ (z ∷ zs)) k ≡ Some x) place is)
+    latest_last says (says y) (z ∷ zs) x (subst (λ (k : ℕ). slice_get (y ∷ (z ∷ zs)) k ≡ Some x) place is)

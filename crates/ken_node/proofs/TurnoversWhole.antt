@@ -39,7 +39,7 @@ use Rattle.ken_node.specs.Patches.{waits_of}
 use Rattle.ken_node.specs.TurnLaws.{told_of}
 use Rattle.ken_node.specs.Sealing.{is_full}
 use Rattle.ken_node.specs.Whole.{AreNumbersOf, AreOfRun, AreWorkersOf, HasReached, HasTurns, HavePages, IsSettledAt, IsWhole, TellsState, WereTold}
-use Rattle.ken_node.specs.Workers.{Working}
+use Rattle.ken_node.specs.Workers.{Working, progress_told, turn_settled}
 use Rattle.ken_node.proofs.StateAfter.{outs-left, waiting-left}
 use Rattle.ken_node.proofs.Paced.{paced-still, paced-turned}
 use Rattle.ken_node.proofs.Told.{told-by}
@@ -91,9 +91,9 @@ module _ {D : Type 0} (told : D → Option Story) (size : D → ℕ) (g : Game) 
               emitted = let old = w.sends.sent.emitted in let outs = ap (λ es. length (outs_of es)) same_turns in omega (arith, old, emits, outs);
             };
           };
-          settled = subst (λ (x : TurnWorker D). WereTold (IsSettledAt n2) (pushed p.settled) (popped x.settled) x.told.settled) (sym rest) (told-by (IsSettledAt n) (IsSettledAt n2) (pushed p.settled) (popped t.settled) t.told.settled settled w.settled);
-          progress = subst (λ (x : TurnWorker D). WereTold (HasReached g n2) (pushed s.told) (popped x.progress) x.told.progress) (sym rest)
-              (told-by (HasReached g n) (HasReached g n2) (pushed s.told) (popped t.progress) t.told.progress
+          settled = subst (λ (x : TurnWorker D). WereTold turn_settled (IsSettledAt n2) (pushed p.settled) (popped x.settled) x.told.settled) (sym rest) (told-by turn_settled (IsSettledAt n) (IsSettledAt n2) (pushed p.settled) (popped t.settled) t.told.settled settled w.settled);
+          progress = subst (λ (x : TurnWorker D). WereTold progress_told (HasReached g n2) (pushed s.told) (popped x.progress) x.told.progress) (sym rest)
+              (told-by progress_told (HasReached g n) (HasReached g n2) (pushed s.told) (popped t.progress) t.told.progress
               (λ x is. record { acked = λ u low. let old = is.acked u low in let number = ap (λ (ns : List ℕ). slice_index ns u) acks in omega (arith, old, number); emitted = let old = is.emitted in omega (arith, old, emits) }) w.progress);
         }
 
@@ -153,11 +153,11 @@ module _ {D : Type 0} (told : D → Option Story) (size : D → ℕ) (g : Game) 
         width = long;
         acked = λ u.
             ⊎_elim
-            (λ (low : u < g.nodes). let here = told-at t u low in let most = w.progress.each.0.acked u low in omega (arith, here, most))
+            (λ (low : u < g.nodes). let here = told-at t u low in let most = w.progress.holds.acked u low in omega (arith, here, most))
             (λ (high : g.nodes ≤ u). let none : slice_index (told_of g t).acked u ≡ 0 = get_or_past (told_of g t).acked u 0 (omega (arith, long, high)) in omega (arith, none))
             (cases_lt u g.nodes);
-        emitted = w.progress.each.0.emitted;
-        clean = w.settled.each.0.clean;
+        emitted = w.progress.holds.emitted;
+        clean = w.settled.holds.clean;
       }
 
   module _ (n : Node) (t t2 : TurnWorker D) (p : PatchWorker D) (s : SendWorker) (whole : IsWhole told size g v n t p s) where
@@ -197,10 +197,10 @@ module _ {D : Type 0} (told : D → Option Story) (size : D → ℕ) (g : Game) 
           acked = λ u low.
               let at = retired-at u low in
               let old = w.log.sent.acked u low in
-              let reached = w.progress.each.0.acked u low in
+              let reached = w.progress.holds.acked u low in
               let most = w.sends.sent.acked u low in
               omega (arith, at, old, reached, most);
-          emitted = let old = w.log.sent.emitted in let reached = w.progress.each.0.emitted in let most = w.sends.sent.emitted in omega (arith, old, reached, most);
+          emitted = let old = w.log.sent.emitted in let reached = w.progress.holds.emitted in let most = w.sends.sent.emitted in omega (arith, old, reached, most);
         }
 
     pub whole-turned : is_full t.side ≡ true → t2 ≡ record t { side = t2.side; turns = t2.turns } → t2.turns.items ≡ t.turns.items → IsTurned t.told.settled t.told.progress.acked t.told.progress.emitted t.side t2.side → Working told size g.handler t2 → IsWhole told size g v turned t2 p s
@@ -215,7 +215,7 @@ module _ {D : Type 0} (told : D → Option Story) (size : D → ℕ) (g : Game) 
         ∙ ap (λ (k : ℕ). turned_pages (heap_pages g) t.told.settled k (turn_pages t.side)) turns
         ∙ ap (turned_pages (heap_pages g) t.told.settled (length n.turning.turns)) (sym h.turning) in
         let clean : MayLeaveOut t.told.settled (turn_pages t.side) (hand_all (waits_of h.queue) h.image) =
-        subst (λ (x : TurnPages). MayLeaveOut t.told.settled x (hand_all (waits_of h.queue) h.image)) h.turning (subst (MayLeaveOut t.told.settled n.turning.pages) h.patching w.settled.each.0.clean) in
+        subst (λ (x : TurnPages). MayLeaveOut t.told.settled x (hand_all (waits_of h.queue) h.image)) h.turning (subst (MayLeaveOut t.told.settled n.turning.pages) h.patching w.settled.holds.clean) in
         record {
           workers = workers-side t t2 rest n turned p s w is.owner working w.sends.due.up refl refl
               (record {

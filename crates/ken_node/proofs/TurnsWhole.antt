@@ -49,7 +49,7 @@ use Rattle.ken_node.specs.Patches.{waits_of}
 use Rattle.ken_node.specs.Sealing.{Renews, RenewsBy, coming_pages, is_full}
 use Rattle.ken_node.specs.TurnLaws.{DoubtsSeal, Drew, HandlerLeadsTo, TookBy, TurnKeepsWhole, acks_out, told_of, turn_made}
 use Rattle.ken_node.specs.Whole.{HasReached, IsSettledAt, IsWhole, WereTold}
-use Rattle.ken_node.specs.Workers.{HearsNews, IsSameWorker, Working}
+use Rattle.ken_node.specs.Workers.{HearsNews, IsSameWorker, Working, progress_told, turn_settled}
 use Rattle.ken_node.proofs.MeetingWhole.{whole-handler}
 use Rattle.ken_node.proofs.NextMails.{AreAgain, WasConsumed, all-again, front-again, mail-given, next-mail}
 use Rattle.ken_node.proofs.NumbersAfter.{consumed-push}
@@ -124,10 +124,10 @@ module _ {D : Type 0} (told : D → Option Story) (size count : D → ℕ) (fate
         settled = ring-popped p.settled t.settled mid.settled w.joined.settled news.same.settled;
         progress = ring-popped s.told t.progress mid.progress w.joined.progress news.same.progress;
       })
-      (subst (WereTold (IsSettledAt n) (pushed p.settled) (popped mid.settled)) (sym news.settled.known)
-      (told-heard (IsSettledAt n) (pushed p.settled) (popped t.settled) (popped mid.settled) news.settled.items t.told.settled news.settled.popped_are fronts.settled w.settled))
-      (subst (WereTold (HasReached g n) (pushed s.told) (popped mid.progress)) (sym news.progress.known)
-      (told-heard (HasReached g n) (pushed s.told) (popped t.progress) (popped mid.progress) news.progress.items t.told.progress news.progress.popped_are fronts.progress w.progress))
+      (subst (WereTold turn_settled (IsSettledAt n) (pushed p.settled) (popped mid.settled)) (sym news.settled.known)
+      (told-heard turn_settled (IsSettledAt n) (pushed p.settled) (popped t.settled) (popped mid.settled) news.settled.items t.told.settled news.settled.popped_are fronts.settled w.settled))
+      (subst (WereTold progress_told (HasReached g n) (pushed s.told) (popped mid.progress)) (sym news.progress.known)
+      (told-heard progress_told (HasReached g n) (pushed s.told) (popped t.progress) (popped mid.progress) news.progress.items t.told.progress news.progress.popped_are fronts.progress w.progress))
       (record { queue = d.queue; ring = sealed_ring ∙ d.ring; due = d.due; sent = d.sent })
       (record {
         queue = h.queue;

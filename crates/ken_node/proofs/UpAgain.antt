@@ -62,7 +62,7 @@ use Rattle.ken_node.specs.Paced.{IsPaced}
 use Rattle.ken_node.specs.Restarts.{AreOfRestart, GoOnFrom, kept_turns}
 use Rattle.ken_node.specs.Whole.{AreNumbersOf, HasReached, IsSettledAt, IsWhole, WereTold}
 use Rattle.ken_app.specs.Limits.{ComesTo}
-use Rattle.ken_node.specs.Workers.{Working}
+use Rattle.ken_node.specs.Workers.{Working, progress_told, turn_settled}
 use Rattle.ken_node.proofs.Creation.{size_is}
 use Rattle.ken_node.proofs.FoundAgain.{HasLog, log-is-found, whole-has-log}
 use Rattle.ken_node.proofs.NewWhole.{zero-at}
@@ -113,8 +113,8 @@ one-or-other Second Second = inl refl
 ring-empty : {A : Type 0} (push : PushEnd A) (pop : PopEnd A) → IsEmptied push pop → pushed push ≡ popped pop ++ []
 ring-empty push pop empty = sym empty.all ∙ sym (append-nil (popped pop))
 
-none-on-way : {A : Type 0} (P : A → Type 0) (push : PushEnd A) (pop : PopEnd A) (known : A) → IsEmptied push pop → P known → WereTold P (pushed push) (popped pop) known
-none-on-way P push pop known empty holds = record { queue = []; ring = ring-empty push pop empty; each = (holds, tt) }
+none-on-way : {A B : Type 0} (says : A → B) (P : B → Type 0) (push : PushEnd A) (pop : PopEnd A) (known : B) → IsEmptied push pop → P known → WereTold says P (pushed push) (popped pop) known
+none-on-way says P push pop known empty holds = record { queue = []; ring = ring-empty push pop empty; holds = holds; each = tt }
 
 -- ---- a node that goes on
 
@@ -327,9 +327,9 @@ module _ {D : Type 0} (told : D → Option Story) (size : D → ℕ) (g : Game) 
             due = subst (IsDueOf g v after) (sym go.due) (resumed_is_due g v after state left.sound.own limits.few_nodes refl left.sound.turns left.tells.width has-sent tells-state);
             sent = has-sent;
           };
-          settled = none-on-way (IsSettledAt after) p.settled t.settled t.told.settled go.empty.settled
+          settled = none-on-way turn_settled (IsSettledAt after) p.settled t.settled t.told.settled go.empty.settled
               (subst (λ (x : Feedback). IsSettledAt after x.settled) (sym go.told_is) (record { made = omega arith; clean = λ page c is gone. absurd cc }));
-          progress = none-on-way (HasReached g after) sender.told t.progress t.told.progress go.empty.progress
+          progress = none-on-way progress_told (HasReached g after) sender.told t.progress t.told.progress go.empty.progress
               (subst (λ (x : Feedback). HasReached g after x.progress) (sym go.told_is) (record { acked = λ u low. let none = zero-at 8 u in omega (arith, none); emitted = omega arith }));
         };
         pages = record {

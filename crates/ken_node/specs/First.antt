@@ -19,7 +19,7 @@ pub record IsNewRing {T : Type 0} (push : PushEnd T) (pop : PopEnd T) : Type 0 w
 
 -- an externaliser that was handed nothing
 abbrev pub first_part : Part
-first_part = record { due = nothing 8; emissions = []; refusals = 0; told = [] }
+first_part = record { due = nothing 8; emissions = []; refusals = 0; told = []; handed = 0 }
 
 -- what the workers of node v of a run are made of: its inputs, no turn, and new rings
 pub record AreFirst (g : Game) (v : ℕ) (x : Parts) : Type 0 where

@@ -19,6 +19,7 @@ use Rattle.ken_store.specs.PatchLaws.{IsAheadOf}
 use Rattle.ken_store.specs.Patching.{GoesOnBy, MayBePatched, PatchSuffers, Patching, PatchesBy, SettlesBy, TakesPatches, disk_answer, patch_calls, settled_turn}
 use Rattle.ken_ship.specs.Handing.{GaveAll}
 use Rattle.ken_node.specs.declared.items.Frozen.{Frozen}
+use Rattle.ken_node.specs.declared.items.Settled.{Settled}
 use Rattle.ken_node.specs.declared.patcher.PatchWorker.{PatchWorker}
 use Rattle.ken_node.specs.Making.{frozen_pages_of}
 
@@ -64,6 +65,10 @@ pub record TakesNone {D : Type 0} (told : D → Option Story) (size : D → ℕ)
   pub settled : new.settled ≡ old.settled
   pub handed : IsHandedOver told size [] old.side new.side
 
+-- what a patcher tells after a sync: the settled turn, with the last turn that it knows
+abbrev pub settled_of : {D : Type 0} → PatchSide D → Settled
+settled_of side = record { by = side.known; turn = settled_turn side.known side.ahead.items }
+
 module _ {D : Type 0} (told : D → Option Story) (size count : D → ℕ) (fate : D → Option Fate) where
   -- the next page of the oldest record to patch was written, or none is to be, by the answer
   pub record Patches (result : Result Bool StoreFault) (old new : PatchSide D) : Type 0 where
@@ -100,6 +105,6 @@ module _ {D : Type 0} (told : D → Option Story) (size count : D → ℕ) (fate
     pub count_is : new.side.image.pages ≡ old.side.image.pages
     pub cause : HasCause (count old.side.image.disk) (count new.side.image.disk) (disk_answer result)
     pub fate_of : Follows (Suffers (disk_answer result)) (fate old.side.image.disk) (fate new.side.image.disk)
-    pub tells : OnOk result (pushed new.settled ≡ pushed old.settled ++ settled_turn old.side.known old.side.ahead.items ∷ [])
+    pub tells : OnOk result (pushed new.settled ≡ pushed old.settled ++ settled_of old.side ∷ [])
     pub slot : OnOk result (free old.settled ≡ free new.settled + 1)
     pub untold : OnErr result (new.settled ≡ old.settled)

@@ -108,6 +108,7 @@ pub record AreUnchanged (old new : Parts) : Type 0 where
 pub record HaveResumed (state : State) (records : List Record) (old new : Parts) : Type 0 where
   pub turns : new.turns.items ≡ kept_turns old.turns.items state.turns records
   pub due : (part_of new.sends).due ≡ resumed 8 state
+  pub handed : (part_of new.sends).handed ≡ state.turns
 
 -- the node is created, and its workers go on
 pub record GoesOn {D : Type 0} (g : Game) (v : ℕ) (turns : List Effects) (store : Store D) (state : State) (records : List Record) (stage : Stage D) : Type 0 where

@@ -56,6 +56,7 @@ pub record GoOnFrom {D : Type 0} (g : Game) (v : ℕ) (turns : List Effects) (st
   pub sender : s.backlog.node ≡ v
   pub receivers : s.nodes ≡ g.nodes
   pub due : (part_of s).due ≡ resumed 8 state
+  pub handed : (part_of s).handed ≡ state.turns
   pub joined : AreJoined t p s
   pub empty : AreEmpty t p s
 

@@ -28,7 +28,7 @@ use Rattle.ken_node.specs.declared.worker.TurnWorker.{TurnWorker}
 use Rattle.ken_node.specs.Meeting.{AreJoined}
 use Rattle.ken_node.specs.Paced.{IsPaced}
 use Rattle.ken_node.specs.Patches.{waits_of}
-use Rattle.ken_node.specs.Workers.{Working}
+use Rattle.ken_node.specs.Workers.{Working, progress_told, turn_settled}
 
 -- a handler and an externaliser are those of node v of a run
 pub record AreOfRun {D : Type 0} (g : Game) (v : ℕ) (t : TurnWorker D) (s : SendWorker) : Type 0 where
@@ -81,11 +81,12 @@ pub record HasDue {D : Type 0} (g : Game) (v : ℕ) (n : Node) (t : TurnWorker D
   pub due : IsDueOf g v n (with_turns v queue (part_of s).due)
   pub sent : HasSent g v n
 
--- a fact of what a worker was told, and of all that is on its way to it
-pub record WereTold {A : Type 0} (P : A → Type 0) (pushed popped : List A) (known : A) : Type 0 where
+-- a fact of what a worker was told, and of what all says that is on its way to it
+pub record WereTold {A B : Type 0} (says : A → B) (P : B → Type 0) (pushed popped : List A) (known : B) : Type 0 where
   pub queue : List A
   pub ring : pushed ≡ popped ++ queue
-  pub each : AllByRecursion P (known ∷ queue)
+  pub holds : P known
+  pub each : AllByRecursion (λ (x : A). P (says x)) queue
 
 -- a base may leave out the pages that last changed in this turn or before
 pub record IsSettledAt (n : Node) (settled : ℕ) : Type 0 where
@@ -105,8 +106,8 @@ pub record AreWorkersOf {D : Type 0} (told : D → Option Story) (size : D → �
   pub turns : HasTurns v n t
   pub log : TellsState g v n t
   pub sends : HasDue g v n t s
-  pub settled : WereTold (IsSettledAt n) (pushed p.settled) (popped t.settled) t.told.settled
-  pub progress : WereTold (HasReached g n) (pushed s.told) (popped t.progress) t.told.progress
+  pub settled : WereTold turn_settled (IsSettledAt n) (pushed p.settled) (popped t.settled) t.told.settled
+  pub progress : WereTold progress_told (HasReached g n) (pushed s.told) (popped t.progress) t.told.progress
 
 -- the workers stand for node v of a run, which is up
 pub record IsWhole {D : Type 0} (told : D → Option Story) (size : D → ℕ) (g : Game) (v : ℕ) (n : Node) (t : TurnWorker D) (p : PatchWorker D) (s : SendWorker) : Type 0 where

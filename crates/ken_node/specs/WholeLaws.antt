@@ -1,6 +1,5 @@
 -- What the calls of a node's workers are as events of the node, and that the workers stand for it after each.
-use Rattle.std.specs.Prelude.{◌≡◌, ℕ, ◌+◌, ◌≤◌, List, [], ◌∷◌, length, Option, Bool, true, false, Result, Ok, Err, OnOk}
-use Rattle.std.specs.List.{AllByRecursion}
+use Rattle.std.specs.Prelude.{◌≡◌, ℕ, List, [], ◌∷◌, Option, Bool, true, false, Result, Ok, Err, OnOk}
 use Rattle.std.specs.declared.alloc.AllocError.{AllocError}
 use Rattle.ken_disk.specs.Fates.{Fate}
 use Rattle.ken_disk.specs.Story.{Story, Tells}
@@ -21,11 +20,11 @@ use Rattle.ken_ship.specs.declared.faults.NodeFault.{NodeFault}
 use Rattle.ken_ship.specs.declared.worker.SendWorker.{SendWorker}
 use Rattle.ken_ship.specs.Emitting.{Emitted}
 use Rattle.ken_ship.specs.Handing.{HandedOver}
-use Rattle.ken_ship.specs.Laws.{IsSending, line_of, packets_from}
+use Rattle.ken_ship.specs.Laws.{GoNoFurther, IsSending, TakeThese, packets_from}
 use Rattle.ken_ship.specs.Parts.{part_of}
 use Rattle.ken_ship.specs.Parts.{IsSameWorker as IsSameSender}
 use Rattle.ken_ship.specs.Sending.{SentDue, all_due}
-use Rattle.ken_ship.specs.Taking.{Heard, TellsRisen, acks_in}
+use Rattle.ken_ship.specs.Taking.{Heard, TellsRisen, acks_in, acks_taken}
 use Rattle.ken_node.specs.declared.patcher.PatchWorker.{PatchWorker}
 use Rattle.ken_node.specs.declared.worker.TurnWorker.{TurnWorker}
 use Rattle.ken_node.specs.Meeting.{AreFronts, AreJoined, HaveMet}
@@ -37,14 +36,6 @@ pub record SendsMail (g : Game) (v : ℕ) (n : Node) (says : List Event → Type
   pub puts : List Put
   pub were_put : put puts
   pub sending : IsSending g v n says puts
-
--- how far the messages to a node go that an externaliser was handed
-abbrev pub handed_to : Waiting → ℕ → ℕ
-handed_to w u = (line_of w.lines u).acked + length (line_of w.lines u).messages
-
--- acknowledgements, each by its sender and how far it goes: they go no further than that
-abbrev pub GoNoFurther : Waiting → List (ℕ × ℕ) → Type 0
-GoNoFurther w acks = AllByRecursion (λ (a : ℕ × ℕ). a.1 ≤ handed_to w a.0) acks
 
 module _ {D : Type 0} (told : D → Option Story) (size : D → ℕ) where
   -- a call of node v, which was given these packets: its events lead to a node that the workers stand for
@@ -92,12 +83,17 @@ module _ {D : Type 0} (told : D → Option Story) (size : D → ℕ) where
       → IsSameSender s s2 → s2.told ≡ s.told → HandedOver result s.backlog.node (popped s.sealed) (popped s2.sealed) nones nones2 (part_of s).due (part_of s2).due → SentDue result (put_between net net2) (all_due s.nodes (part_of s2).due.lines)
       → AreFronts t p s2 → Sends result g v n (put_between net net2) t p s2
 
-  -- acknowledgements are taken from one, none of which goes further than what the externaliser was handed
+  -- those acknowledgements were taken that go no further than what the externaliser was handed: all, where none goes further
+  pub record Takes (g : Game) (v : ℕ) (n : Node) (given : List (List ℕ)) (w : Waiting) (t : TurnWorker D) (p : PatchWorker D) (s : SendWorker) : Type 0 where
+    pub some : LeadsTo g v (packets_from g.nodes given) (TakeThese v (acks_taken (acks_in v g.nodes given) w.lines)) n nothing t p s
+    pub all : GoNoFurther w (acks_in v g.nodes given) → LeadsTo g v (packets_from g.nodes given) (AreTaken v (packets_from g.nodes given)) n nothing t p s
+
+  -- acknowledgements are taken from one
   abbrev pub AcksKeepWhole : {N : Type 0} → (N → N → List (List ℕ) → Type 0) → Type 0
   AcksKeepWhole {N} given_between =
       (g : Game) (v : ℕ) (n : Node) (t : TurnWorker D) (p : PatchWorker D) (s s2 : SendWorker) (net net2 : N) (nones nones2 : ℕ) → IsWhole told size g v n t p s
-      → IsSameSender s s2 → s2.sealed ≡ s.sealed → (heard : Heard s.backlog.node s.nodes (given_between net net2) nones nones2 (part_of s).due (part_of s2).due) → TellsRisen (part_of s) (part_of s2) → GoNoFurther (part_of s).due (acks_in v g.nodes heard.packets)
-      → LeadsTo g v (packets_from g.nodes heard.packets) (AreTaken v (packets_from g.nodes heard.packets)) n nothing t p s2
+      → IsSameSender s s2 → s2.sealed ≡ s.sealed → (heard : Heard s.backlog.node s.nodes (given_between net net2) nones nones2 (part_of s).due (part_of s2).due) → TellsRisen (part_of s) (part_of s2)
+      → Takes g v n heard.packets (part_of s).due t p s2
 
   -- the oldest output was emitted
   pub record EmitsOldest (number : ℕ) (g : Game) (v : ℕ) (n : Node) (t : TurnWorker D) (p : PatchWorker D) (s s2 : SendWorker) : Type 0 where

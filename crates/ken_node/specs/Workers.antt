@@ -3,10 +3,10 @@ use Rattle.std.specs.Prelude.{◌≡◌, ℕ, ◌*◌, length, Option, None}
 use Rattle.ken_disk.specs.Story.{Story}
 use Rattle.ken_model.specs.Handler.{Handler}
 use Rattle.ken_app.specs.Limits.{ComesTo}
-use Rattle.ken_links.specs.Rings.{popped, nones, SamePushEnd, SamePopEnd}
+use Rattle.ken_links.specs.Rings.{SamePushEnd, SamePopEnd}
 use Rattle.ken_store.specs.Turning.{Turning}
 use Rattle.ken_node.specs.declared.worker.TurnWorker.{TurnWorker}
-pub use Rattle.ken_node.specs.News.{IsInput, AreInputs, latest, TakesNews}
+pub use Rattle.ken_node.specs.News.{IsInput, AreInputs, latest, progress_told, settled_by, told_by, turn_settled, TakesNews}
 
 -- a worker that takes calls, with no turn begun: it goes on from the numbers of its log, and its heap is one that the handler comes to
 pub record Working {D : Type 0} (told : D → Option Story) (size : D → ℕ) (h : Handler) (w : TurnWorker D) : Type 0 where
@@ -29,9 +29,9 @@ pub record IsSameWorker {D : Type 0} (a b : TurnWorker D) : Type 0 where
   pub settled : SamePopEnd a.settled b.settled
   pub progress : SamePopEnd a.progress b.progress
 
--- the worker knows what it was told, and nothing else of it changed
+-- the worker knows what it was told, but for what stands with more turns than it has made, and nothing else of it changed
 pub record HearsNews {D : Type 0} (old new : TurnWorker D) : Type 0 where
   pub same : IsSameWorker old new
   pub rest : new ≡ record old { told = new.told; settled = new.settled; progress = new.progress }
-  pub settled : TakesNews (popped old.settled) (popped new.settled) (nones old.settled) (nones new.settled) old.told.settled new.told.settled
-  pub progress : TakesNews (popped old.progress) (popped new.progress) (nones old.progress) (nones new.progress) old.told.progress new.told.progress
+  pub settled : TakesNews settled_by turn_settled (length old.turns.items) old.settled new.settled old.told.settled new.told.settled
+  pub progress : TakesNews told_by progress_told (length old.turns.items) old.progress new.progress old.told.progress new.told.progress

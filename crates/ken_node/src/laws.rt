@@ -26,7 +26,7 @@ pub fn sends_keep_the_whole<D: Disk, N: Net>()
     ensures { SendsKeepWhole D.told D.size N.put_between }
 {}
 
-/// What it takes are acknowledgements of the node, where none goes further than what it was handed.
+/// What it takes are acknowledgements of the node: all that are given to it, where none goes further than what it was handed.
 pub fn acks_keep_the_whole<D: Disk, N: Net>()
     ensures { AcksKeepWhole D.told D.size N.given_between }
 {}

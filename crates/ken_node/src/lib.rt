@@ -27,7 +27,7 @@ mod took;
 mod watched;
 mod worker;
 
-pub use items::Frozen;
+pub use items::{Frozen, Settled};
 pub use laws::{
     a_failed_creation_goes_down, a_failed_turn_goes_down, a_meeting_keeps_the_whole,
     a_meeting_stays_down, a_node_has_synced, a_patch_keeps_the_whole, a_seal_in_doubt_goes_down,

@@ -6,6 +6,7 @@ ghost use Rattle.ken_node.specs.Meeting.{AreEmpty, AreJoined, HaveMet, IsEmptied
 ghost use Rattle.ken_node.specs.Patches.{IsSamePatcher};
 ghost use Rattle.ken_node.specs.Workers.{IsSameWorker};
 
+use crate::items::News;
 use crate::patcher::PatchWorker;
 use crate::worker::TurnWorker;
 use ken_disk::Disk;
@@ -13,17 +14,17 @@ use ken_links::{PopEnd, PushEnd, beside};
 use ken_ship::SendWorker;
 use std::alloc::AllocError;
 
-// Takes all that a ring holds; the last of it is known then. Takes no memory.
-fn tell_all<A: Copy>(push: &mut PushEnd<A>, pop: &mut PopEnd<A>, known: &mut A)
+// Takes all that a ring holds; what the last one says is known then. Takes no memory.
+fn tell_all<A: News>(push: &mut PushEnd<A>, pop: &mut PopEnd<A>, known: &mut A::Fact)
     requires { IsRing push.old pop.old }
     ensures ends { SamePushEnd push.old push.new × SamePopEnd pop.old pop.new × IsRing push.new pop.new }
     ensures same { (pushed push.new ≡ pushed push.old) × (nones pop.new ≡ nones pop.old) }
-    ensures told { WasTold (popped pop.old) (popped pop.new) known.old known.new }
+    ensures told { WasTold A.says (popped pop.old) (popped pop.new) known.old known.new }
     ensures emptied { IsEmptied push.new pop.new }
 {
     beside(push, pop);
     for _item in 0..pop.known() {
-        *known = pop.pop_known();
+        *known = pop.pop_known().fact();
     }
     beside(push, pop);
 }

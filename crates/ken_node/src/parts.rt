@@ -14,7 +14,7 @@ ghost use Rattle.ken_store.specs.Apart.{disks_apart};
 
 use crate::effects::effects_of;
 use crate::inputs::inputs_for;
-use crate::items::{Feedback, Frozen};
+use crate::items::{Feedback, Frozen, Settled};
 use crate::patcher::PatchWorker;
 use crate::worker::TurnWorker;
 use ken_disk::Disk;
@@ -22,7 +22,7 @@ use ken_links::{PopEnd, PushEnd, SLOTS, ring};
 use ken_model::{Facts, MAX_NODES, Message, PAGE, State};
 use ken_order::Order;
 use ken_record::{Effects, Record};
-use ken_ship::{Progress, Sealed, SendWorker};
+use ken_ship::{Progress, Sealed, SendWorker, Told};
 use ken_store::{Disks, Store};
 use std::alloc::{AllocError, Global};
 
@@ -38,11 +38,11 @@ pub(crate) struct Parts {
     pub cap: u64,
     pub inputs: Vec<Message>,
     pub turns: Vec<Effects>,
-    pub news: Vec<Progress>,
+    pub news: Vec<Told>,
     pub pages: (PushEnd<Frozen>, PopEnd<Frozen>),
-    pub settled: (PushEnd<u64>, PopEnd<u64>),
+    pub settled: (PushEnd<Settled>, PopEnd<Settled>),
     pub sealed: PushEnd<Sealed>,
-    pub progress: PopEnd<Progress>,
+    pub progress: PopEnd<Told>,
     pub sends: SendWorker,
 }
 

@@ -10,7 +10,7 @@ ghost use Rattle.ken_node.specs.Faults.{IsFaultOfWorker, store_answer};
 ghost use Rattle.ken_node.specs.Patches.{IsHandedOver, IsSamePatcher, PatchesOnce, Received, SettlesOnce, TakesNone, TakesOver};
 
 use crate::faults::answered;
-use crate::items::Frozen;
+use crate::items::{Frozen, Settled};
 use ken_disk::Disk;
 use ken_frame::{FRAME, Frame};
 use ken_links::{PopEnd, PushEnd, SLOTS, beside};
@@ -24,7 +24,7 @@ use std::sync::Arc;
 pub struct PatchWorker<D> {
     pub(crate) side: PatchSide<D>,
     pub(crate) pages: PopEnd<Frozen>,
-    pub(crate) settled: PushEnd<u64>,
+    pub(crate) settled: PushEnd<Settled>,
 }
 
 // Whether this is a whole page of a heap of so many.
@@ -93,8 +93,8 @@ impl<D: Disk> PatchWorker<D> {
 
     /// Syncs the image, by one call of its disk, and tells the handler through which turn all pages are safe there: the last turn
     /// before the oldest record that is to patch, 0 where that is a base, and the last turn that it knows where nothing is to
-    /// patch. A slot of the ring must be known to be free. After an error nothing more is safe than before, and nothing is
-    /// told; after `Disk` no call may follow but a restart.
+    /// patch. With it the last turn that it knows is told. A slot of the ring must be known to be free. After an error nothing more
+    /// is safe than before, and nothing is told; after `Disk` no call may follow but a restart.
     pub fn settle(&mut self) -> Result<(), NodeFault>
         requires takes { TakesPatches D.told D.size self.old.side }
         requires slot { 0 < free self.old.settled }
@@ -102,8 +102,11 @@ impl<D: Disk> PatchWorker<D> {
         ensures settles { SettlesOnce D.told D.size D.faults D.fate (store_answer result) self.old self.new }
         ensures sound { IsFaultOfWorker result }
     {
-        let settled = answered(self.side.settle())?;
-        self.settled.push(settled);
+        let turn = answered(self.side.settle())?;
+        self.settled.push(Settled {
+            by: self.side.known(),
+            turn,
+        });
         Ok(())
     }
 

@@ -1,14 +1,14 @@
 // A node's handler.
 ghost use Rattle.std.specs.Prelude.{◌≡◌, ◌≤◌, vec_capacity, vec_len};
-ghost use Rattle.ken_links.specs.Rings.{nones, popped, SamePopEnd};
+ghost use Rattle.ken_links.specs.Rings.{popped, SamePopEnd};
 ghost use Rattle.ken_node.specs.News.{AreInputs, TakesNews, latest};
 
-use crate::items::{Feedback, Frozen};
+use crate::items::{Feedback, Frozen, News, Settled};
 use ken_links::{PopEnd, PushEnd, SLOTS};
 use ken_model::Message;
 use ken_order::Order;
 use ken_record::Effects;
-use ken_ship::{Progress, Sealed, SendWorker};
+use ken_ship::{Sealed, SendWorker, Told};
 use ken_store::TurnSide;
 use std::alloc::Global;
 
@@ -30,35 +30,39 @@ pub struct TurnWorker<D> {
     pub(crate) told: Feedback,
     pub(crate) pages: PushEnd<Frozen>,
     pub(crate) sealed: PushEnd<Sealed>,
-    pub(crate) settled: PopEnd<u64>,
-    pub(crate) progress: PopEnd<Progress>,
+    pub(crate) settled: PopEnd<Settled>,
+    pub(crate) progress: PopEnd<Told>,
     // Room for what the externaliser tells at a meeting, and else empty.
-    pub(crate) news: Vec<Progress>,
+    pub(crate) news: Vec<Told>,
     ghost few: { nodes ≤ 8 },
     ghost most: { cap ≤ 100000 },
     ghost room: { (64 ≤ vec_capacity news) × (vec_len news ≡ 0) },
     ghost given: { AreInputs node inputs.items },
 }
 
-// Pops what a ring gives until it gives none, or 64 were given; the last of it is known then.
-fn take_news<A: Copy>(ring: &mut PopEnd<A>, known: &mut A)
+// Takes what a ring gives until it gives none, or 64 were given, or the next stands with more turns than were made: that stays
+// in the ring. What the last one says is known then.
+fn take_news<A: News>(ring: &mut PopEnd<A>, made: u64, known: &mut A::Fact)
     ensures ring { SamePopEnd ring.old ring.new }
-    ensures news { TakesNews (popped ring.old) (popped ring.new) (nones ring.old) (nones ring.new) known.old known.new }
+    ensures news { TakesNews A.stands_with A.says made ring.old ring.new known.old known.new }
 {
     for _given in 0..SLOTS {
-        match ring.pop() {
-            Some(news) => *known = news,
-            None => return,
+        if !ring.look() {
+            return;
         }
+        if ring.first_known().by() > made {
+            return;
+        }
+        *known = ring.pop_known().fact();
     }
 }
 
-// The last of what was told is known then, where there is one.
-fn take_last<A: Copy>(told: &[A], known: &mut A)
-    ensures { known.new ≡ latest known.old told.now }
+// What the last one says of what was told is known then, where there is one.
+fn take_last<A: News>(told: &[A], known: &mut A::Fact)
+    ensures { known.new ≡ latest A.says known.old told.now }
 {
     if let Some(last) = told.last() {
-        *known = *last;
+        *known = last.fact();
     }
 }
 
@@ -68,6 +72,7 @@ impl<D> TurnWorker<D> {
     ghost use Rattle.ken_ship.specs.Parts.{part_of};
     ghost use Rattle.ken_ship.specs.Parts.{IsSameWorker as IsSameSender};
     ghost use Rattle.ken_node.specs.Meeting.{IsEmptied, WasTold};
+    ghost use Rattle.ken_node.specs.News.{progress_told};
     ghost use Rattle.ken_node.specs.Workers.{HearsNews};
 
     /// All sealed turns of the node, oldest first.
@@ -86,7 +91,7 @@ impl<D> TurnWorker<D> {
         ensures part { part_of sends.new ≡ part_of sends.old }
         ensures sealed { sends.new.sealed ≡ sends.old.sealed }
         ensures ends { SamePopEnd self.old.progress self.new.progress × IsRing sends.new.told self.new.progress }
-        ensures told { WasTold (popped self.old.progress) (popped self.new.progress) self.old.told.progress self.new.told.progress }
+        ensures told { WasTold progress_told (popped self.old.progress) (popped self.new.progress) self.old.told.progress self.new.told.progress }
         ensures emptied { IsEmptied sends.new.told self.new.progress }
     {
         let told = sends.tell(&mut self.progress, &mut self.news);
@@ -95,11 +100,12 @@ impl<D> TurnWorker<D> {
         self.news.clear();
     }
 
-    // Takes what it was told from its rings.
+    // Takes what it was told from its rings, but for what stands with more turns than it has made.
     pub(crate) fn hear_news(&mut self)
         ensures { HearsNews self.old self.new }
     {
-        take_news(&mut self.settled, &mut self.told.settled);
-        take_news(&mut self.progress, &mut self.told.progress);
+        let made = self.turns.len() as u64;
+        take_news(&mut self.settled, made, &mut self.told.settled);
+        take_news(&mut self.progress, made, &mut self.told.progress);
     }
 }

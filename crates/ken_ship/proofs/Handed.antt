@@ -1,11 +1,11 @@
 -- Turns that are handed over one by one.
 use Rattle.std.proofs.Common.{◌≡◌, ℕ, ◌+◌, ◌≤◌, ◌⊎◌, List, [], ◌∷◌, ◌++◌, length, Ok, Err, refl, sym, ap, ◌∙◌, subst, append_assoc, append-nil, arith}
-use Rattle.std.proofs.lemmas.List.{length_push}
+use Rattle.std.proofs.lemmas.List.{append_cancel_left, length_push}
 use Rattle.ken_links.specs.declared.push_end.TheConstants.{SLOTS}
 use Rattle.ken_links.specs.Counts.{Rose}
 use Rattle.ken_outbox.specs.Waiting.{Waiting}
 use Rattle.ken_ship.specs.declared.items.Sealed.{Sealed}
-use Rattle.ken_ship.specs.Handing.{with_turn, with_turns, HandedOver, Received}
+use Rattle.ken_ship.specs.Handing.{last_turn, with_turn, with_turns, CountsTurns, HandedOver, Received}
 
 pub with_turns-append : (v : ℕ) (ss ts : List Sealed) (w : Waiting) → with_turns v (ss ++ ts) w ≡ with_turns v ts (with_turns v ss w)
 with_turns-append v [] ts w = refl
@@ -49,6 +49,22 @@ handed_until x v count nones nones2 popped popped2 old new so_far few until = re
 
 pub none_handed : {T E : Type 0} → (e : E) (v nones nones2 : ℕ) (popped popped2 : List Sealed) (old new : Waiting) → popped2 ≡ popped → new ≡ old → HandedOver {T = T} {E = E} (Err e) v popped popped2 nones nones2 old new
 none_handed e v nones nones2 popped popped2 old new same still = record { turns = []; popped_are = same ∙ sym (append-nil popped); most = omega arith; until = tt; waits = still }
+
+-- the number of the last turn, where none left the ring, and where one more did
+pub none_counted : (popped popped2 : List Sealed) (n : ℕ) → popped2 ≡ popped → CountsTurns popped popped2 n n
+none_counted popped popped2 n same turns now =
+    let none : turns ≡ [] = append_cancel_left popped turns [] (sym now ∙ same ∙ sym (append-nil popped)) in
+    ap (last_turn n) (sym none)
+
+last_turn-push : (n : ℕ) (ss : List Sealed) (s : Sealed) → last_turn n (ss ++ s ∷ []) ≡ s.turn
+last_turn-push n [] s = refl
+last_turn-push n (x ∷ ss) s = last_turn-push x.turn ss s
+
+pub one_counted : (popped popped2 popped3 before : List Sealed) (n : ℕ) (t : Sealed) → popped2 ≡ popped ++ before → popped3 ≡ popped2 ++ t ∷ [] → CountsTurns popped popped3 n t.turn
+one_counted popped popped2 popped3 before n t so_far pop turns now =
+    let all : popped3 ≡ popped ++ (before ++ t ∷ []) = pop ∙ ap (λ (ts : List Sealed). ts ++ t ∷ []) so_far ∙ append_assoc popped before (t ∷ []) in
+    let are : turns ≡ before ++ t ∷ [] = append_cancel_left popped turns (before ++ t ∷ []) (sym now ∙ all) in
+    sym (ap (last_turn n) are ∙ last_turn-push n before t)
 
 -- turns that are moved, none and one more
 pub none_received : (v : ℕ) (popped : List Sealed) (old : Waiting) → Received v popped popped old old

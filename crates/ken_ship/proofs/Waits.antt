@@ -1,5 +1,5 @@
 -- Where what waits comes from.
-use Rattle.std.proofs.Common.{◌≡◌, ◌≢◌, ℕ, ◌+◌, ◌<◌, ◌≤◌, ◌⊎◌, inl, inr, max, List, [], ◌∷◌, ◌++◌, length, true, ◌==◌, get_or, slice_set, refl, sym, ap, ◌∙◌, subst, ⊎_elim, arith}
+use Rattle.std.proofs.Common.{◌≡◌, ◌≢◌, ℕ, ◌+◌, ◌<◌, ◌≤◌, ◌⊎◌, inl, inr, max, Bool, cond, false, List, [], ◌∷◌, ◌++◌, length, true, ◌==◌, get_or, slice_set, refl, sym, ap, ◌∙◌, subst, ⊎_elim, arith}
 use Rattle.std.specs.List.{Contains}
 use Rattle.std.proofs.lemmas.Bool.{cases_eq, cases_lt, eqb-true}
 use Rattle.std.proofs.lemmas.List.{get_or_past, get_or-set_same, get_or-set_other, set_past}
@@ -8,21 +8,17 @@ use Rattle.ken_model.specs.declared.messages.Message.{Message}
 use Rattle.ken_outbox.specs.Waiting.{Unacked, Waiting, no_line, sent_to, with_sends, acked_by}
 use Rattle.ken_ship.specs.declared.items.Sealed.{Sealed}
 use Rattle.ken_ship.specs.Handing.{mails_of, with_turn, with_turns}
-use Rattle.ken_ship.specs.Taking.{after_acks}
+use Rattle.ken_ship.specs.Taking.{after_ack, after_acks, goes_no_further}
 use Rattle.ken_ship.specs.Laws.{line_of, WasSentBy}
 use Rattle.ken_ship.proofs.Lines.{line_of_sends, sends_long, acked_number, all_acked}
 
--- the lines after one acknowledgement
-abbrev after_one : ℕ × ℕ → List Unacked → List Unacked
-after_one a lines = slice_set lines a.0 (acked_by a.1 (get_or lines a.0 no_line))
-
 -- a line stays, or it is the one that is acknowledged
-data StaysOr (a : ℕ × ℕ) (lines : List Unacked) (u : ℕ) : Type 0 where
-  stays : line_of (after_one a lines) u ≡ line_of lines u → StaysOr a lines u
-  is_acked : u ≡ a.0 → line_of (after_one a lines) u ≡ acked_by a.1 (line_of lines u) → StaysOr a lines u
+data StaysOr (a : ℕ × ℕ) (lines lines2 : List Unacked) (u : ℕ) : Type 0 where
+  stays : line_of lines2 u ≡ line_of lines u → StaysOr a lines lines2 u
+  is_acked : u ≡ a.0 → line_of lines2 u ≡ acked_by a.1 (line_of lines u) → StaysOr a lines lines2 u
 
-one_line : (a : ℕ × ℕ) (lines : List Unacked) (u : ℕ) → StaysOr a lines u
-one_line a lines u =
+set_line : (a : ℕ × ℕ) (lines : List Unacked) (u : ℕ) → StaysOr a lines (slice_set lines a.0 (acked_by a.1 (line_of lines a.0))) u
+set_line a lines u =
     let new : Unacked = acked_by a.1 (get_or lines a.0 no_line) in
     ⊎_elim
     (λ (same : u ≡ a.0). ⊎_elim
@@ -33,22 +29,29 @@ one_line a lines u =
     (λ (other : u ≢ a.0). stays (get_or-set_other lines a.0 u new no_line other))
     (cases_eq u a.0)
 
-one_rises : (a : ℕ × ℕ) (lines : List Unacked) (u : ℕ) → StaysOr a lines u → (line_of lines u).acked ≤ (line_of (after_one a lines) u).acked
+one_line : (a : ℕ × ℕ) (lines : List Unacked) (u : ℕ) → StaysOr a lines (after_ack a lines) u
+one_line a lines u = kept (goes_no_further lines a)
+  where
+    kept : (b : Bool) → StaysOr a lines (cond b (slice_set lines a.0 (acked_by a.1 (line_of lines a.0))) lines) u
+    kept true = set_line a lines u
+    kept false = stays refl
+
+one_rises : (a : ℕ × ℕ) (lines : List Unacked) (u : ℕ) → StaysOr a lines (after_ack a lines) u → (line_of lines u).acked ≤ (line_of (after_ack a lines) u).acked
 one_rises a lines u (stays same) = let number = ap (λ (l : Unacked). l.acked) same in omega (arith, number)
 one_rises a lines u (is_acked same is) = let number = ap (λ (l : Unacked). l.acked) is ∙ acked_number a.1 (line_of lines u) in omega (arith, number)
 
 pub numbers_rise : (acks : List (ℕ × ℕ)) (lines : List Unacked) (u : ℕ) → (line_of lines u).acked ≤ (line_of (after_acks acks lines) u).acked
 numbers_rise [] lines u = omega arith
-numbers_rise (a ∷ acks) lines u = let first = one_rises a lines u (one_line a lines u) in let rest = numbers_rise acks (after_one a lines) u in omega (arith, first, rest)
+numbers_rise (a ∷ acks) lines u = let first = one_rises a lines u (one_line a lines u) in let rest = numbers_rise acks (after_ack a lines) u in omega (arith, first, rest)
 
 -- the number of one line after one acknowledgement: what it was, or what that says
-one_told : (a : ℕ × ℕ) (lines : List Unacked) (u : ℕ) → StaysOr a lines u → ((line_of (after_one a lines) u).acked ≡ (line_of lines u).acked) ⊎ (a ≡ (u, (line_of (after_one a lines) u).acked))
+one_told : (a : ℕ × ℕ) (lines : List Unacked) (u : ℕ) → StaysOr a lines (after_ack a lines) u → ((line_of (after_ack a lines) u).acked ≡ (line_of lines u).acked) ⊎ (a ≡ (u, (line_of (after_ack a lines) u).acked))
 one_told a lines u (stays same) = inl (ap (λ (l : Unacked). l.acked) same)
 one_told a lines u (is_acked same is) =
-    let number : (line_of (after_one a lines) u).acked ≡ max (line_of lines u).acked a.1 = ap (λ (l : Unacked). l.acked) is ∙ acked_number a.1 (line_of lines u) in
+    let number : (line_of (after_ack a lines) u).acked ≡ max (line_of lines u).acked a.1 = ap (λ (l : Unacked). l.acked) is ∙ acked_number a.1 (line_of lines u) in
     ⊎_elim
     (λ (less : (line_of lines u).acked < a.1).
-    let now : a.1 ≡ (line_of (after_one a lines) u).acked = omega (arith, number, less) in
+    let now : a.1 ≡ (line_of (after_ack a lines) u).acked = omega (arith, number, less) in
     inr (ap (λ (k : ℕ). (k, a.1)) (sym same) ∙ ap (λ (k : ℕ). (u, k)) now))
     (λ (more : a.1 ≤ (line_of lines u).acked). inl (omega (arith, number, more)))
     (cases_lt (line_of lines u).acked a.1)
@@ -56,16 +59,16 @@ one_told a lines u (is_acked same is) =
 pub numbers_were_told : (acks : List (ℕ × ℕ)) (lines : List Unacked) (u : ℕ) → ((line_of (after_acks acks lines) u).acked ≡ (line_of lines u).acked) ⊎ Contains acks (u, (line_of (after_acks acks lines) u).acked)
 numbers_were_told [] lines u = inl refl
 numbers_were_told (a ∷ acks) lines u =
-    let last : ℕ = (line_of (after_acks acks (after_one a lines)) u).acked in
+    let last : ℕ = (line_of (after_acks acks (after_ack a lines)) u).acked in
     ⊎_elim
-    (λ (same : last ≡ (line_of (after_one a lines) u).acked). ⊎_elim
-    (λ (still : (line_of (after_one a lines) u).acked ≡ (line_of lines u).acked). inl (same ∙ still))
-    (λ (is : a ≡ (u, (line_of (after_one a lines) u).acked)). inr (Contains-append_left (a ∷ []) acks (u, last) (0, omega arith, is ∙ ap (λ (k : ℕ). (u, k)) (sym same))))
+    (λ (same : last ≡ (line_of (after_ack a lines) u).acked). ⊎_elim
+    (λ (still : (line_of (after_ack a lines) u).acked ≡ (line_of lines u).acked). inl (same ∙ still))
+    (λ (is : a ≡ (u, (line_of (after_ack a lines) u).acked)). inr (Contains-append_left (a ∷ []) acks (u, last) (0, omega arith, is ∙ ap (λ (k : ℕ). (u, k)) (sym same))))
     (one_told a lines u (one_line a lines u)))
     (λ (there : Contains acks (u, last)). inr (Contains-append_right (a ∷ []) acks (u, last) there))
-    (numbers_were_told acks (after_one a lines) u)
+    (numbers_were_told acks (after_ack a lines) u)
 
-one_waited : (a : ℕ × ℕ) (lines : List Unacked) (u : ℕ) (m : Message) → StaysOr a lines u → Contains (line_of (after_one a lines) u).messages m → Contains (line_of lines u).messages m
+one_waited : (a : ℕ × ℕ) (lines : List Unacked) (u : ℕ) (m : Message) → StaysOr a lines (after_ack a lines) u → Contains (line_of (after_ack a lines) u).messages m → Contains (line_of lines u).messages m
 one_waited a lines u m (stays same) there = subst (λ (l : Unacked). Contains l.messages m) same there
 one_waited a lines u m (is_acked same is) there =
     let were : List Message = (line_of lines u).messages in
@@ -73,7 +76,7 @@ one_waited a lines u m (is_acked same is) there =
 
 pub waited_before : (acks : List (ℕ × ℕ)) (lines : List Unacked) (u : ℕ) (m : Message) → Contains (line_of (after_acks acks lines) u).messages m → Contains (line_of lines u).messages m
 waited_before [] lines u m there = there
-waited_before (a ∷ acks) lines u m there = one_waited a lines u m (one_line a lines u) (waited_before acks (after_one a lines) u m there)
+waited_before (a ∷ acks) lines u m there = one_waited a lines u m (one_line a lines u) (waited_before acks (after_ack a lines) u m there)
 
 -- a message to one node is one of the list, and goes there
 to_one : (u : ℕ) (ms : List Message) (m : Message) → Contains (sent_to u ms) m → Contains ms m × (m.to ≡ u)

@@ -8,7 +8,7 @@ use Rattle.ken_ship.specs.declared.faults.NodeFault.TheVariants.{Disk, Damaged, 
 use Rattle.ken_ship.specs.declared.worker.TheConstants.{MOST_REFUSALS}
 use Rattle.ken_ship.specs.declared.emit.Emit.{Emit}
 use Rattle.ken_ship.specs.declared.emit.Emit.TheVariants.{Done, Refused, Nothing}
-use Rattle.ken_ship.specs.Handing.{progress_in}
+use Rattle.ken_ship.specs.Handing.{told_in}
 use Rattle.ken_ship.specs.Parts.{Part}
 
 -- the oldest output was emitted, and the others wait; the handler is told so
@@ -17,7 +17,8 @@ after_emission v out rest p = record {
   due = record p.due { emitted = out.number; outs = rest };
   emissions = p.emissions ++ record { node = v; out = out } ∷ [];
   refusals = 0;
-  told = p.told ++ progress_in (record p.due { emitted = out.number; outs = rest }) ∷ [];
+  told = p.told ++ told_in p.handed (record p.due { emitted = out.number; outs = rest }) ∷ [];
+  handed = p.handed;
 }
 
 -- the part before and after a call of node v's externaliser, by its answer

@@ -1,6 +1,6 @@
 -- What the calls of an externaliser are as events of its node.
 use Rattle.std.specs.Prelude.{◌≡◌, ℕ, ◌<◌, ◌≤◌, ◌⊎◌, nat_lt, if◌then◌else◌, List, [], ◌∷◌, ◌++◌, map, drop, length, slice_index, slice_index_or, Option, Some, None, IsTrue}
-use Rattle.std.specs.List.{Contains, flat_map}
+use Rattle.std.specs.List.{AllByRecursion, Contains, flat_map}
 use Rattle.ken_model.specs.declared.messages.Message.{Message}
 use Rattle.ken_model.specs.declared.messages.Out.{Out}
 use Rattle.ken_model.specs.declared.states.State.{State}
@@ -13,6 +13,7 @@ use Rattle.ken_packet.specs.Reading.{packet_of}
 use Rattle.ken_net.specs.Puts.{Put}
 use Rattle.ken_outbox.specs.Waiting.{Unacked, Waiting, no_line, sent_to, resumed, nothing as nothing_waits}
 use Rattle.ken_core.specs.declared.events.Event.{Event}
+use Rattle.ken_core.specs.declared.events.Event.TheVariants.{TakeAck}
 use Rattle.ken_core.specs.Turns.{mails_to, outs_of, sealed}
 use Rattle.ken_core.specs.Nodes.{Node, first_node}
 use Rattle.ken_core.specs.Packets.{Packet, Mail, Answer, Outgoing, put_by, nothing}
@@ -21,7 +22,7 @@ use Rattle.ken_core.specs.Calls.{Call, AreSends, AreSomeSends, AreTaken, IsEmit}
 use Rattle.ken_ship.specs.declared.items.Sealed.{Sealed}
 use Rattle.ken_ship.specs.Handing.{mails_of, with_turn, with_turns}
 use Rattle.ken_ship.specs.Sending.{mail_put, all_due}
-use Rattle.ken_ship.specs.Taking.{acks_in, after_acks}
+use Rattle.ken_ship.specs.Taking.{acks_in, acks_taken, after_acks, handed_by}
 
 -- a line has what v sent past a number
 pub record IsPast (acked : ℕ) (sent : List Message) (l : Unacked) : Type 0 where
@@ -67,16 +68,33 @@ packet_from nodes None = []
 abbrev pub packets_from : ℕ → List (List ℕ) → List Packet
 packets_from nodes given = flat_map (λ (bytes : List ℕ). packet_from nodes (packet_of bytes)) given
 
--- the run of acknowledgements that were taken, which changes nothing but the acknowledged numbers
+-- node v takes these acknowledgements, one after the other
+abbrev pub TakeThese : ℕ → List (ℕ × ℕ) → List Event → Type 0
+TakeThese v acks es = es ≡ map (λ (a : ℕ × ℕ). TakeAck v a.0 a.1) acks
+
+-- the run of those acknowledgements that were taken, which changes nothing but the acknowledged numbers
 pub record IsTaking (g : Game) (v : ℕ) (n : Node) (given : List (List ℕ)) (w : Waiting) : Type 0 where
   pub after : Node
-  pub call : Call g v (packets_from g.nodes given) (AreTaken v (packets_from g.nodes given)) n nothing after
+  pub call : Call g v (packets_from g.nodes given) (TakeThese v (acks_taken (acks_in v g.nodes given) w.lines)) n nothing after
   pub acked : List ℕ
   pub changes : after ≡ record n { sending = record n.sending { acked = acked } }
-  pub due : IsDueOf g v after w
+  pub due : IsDueOf g v after (record w { lines = after_acks (acks_in v g.nodes given) w.lines })
 
 abbrev pub AcksAreEvents : Type 0
-AcksAreEvents = (g : Game) (v : ℕ) (n : Node) (w : Waiting) (given : List (List ℕ)) → IsDueOf g v n w → IsTaking g v n given (record w { lines = after_acks (acks_in v g.nodes given) w.lines })
+AcksAreEvents = (g : Game) (v : ℕ) (n : Node) (w : Waiting) (given : List (List ℕ)) → IsDueOf g v n w → IsTaking g v n given w
+
+-- how far the messages to a node go that an externaliser was handed
+abbrev pub handed_to : Waiting → ℕ → ℕ
+handed_to w u = handed_by (slice_index_or w.lines u no_line)
+
+-- acknowledgements, each by its sender and how far it goes: they go no further than that
+abbrev pub GoNoFurther : Waiting → List (ℕ × ℕ) → Type 0
+GoNoFurther w acks = AllByRecursion (λ (a : ℕ × ℕ). a.1 ≤ handed_to w a.0) acks
+
+-- where none of those that were given goes further, all are taken
+abbrev pub AllAreTaken : Type 0
+AllAreTaken = (g : Game) (v : ℕ) (n : Node) (w : Waiting) (given : List (List ℕ)) → IsDueOf g v n w → GoNoFurther w (acks_in v g.nodes given)
+    → (es : List Event) → TakeThese v (acks_taken (acks_in v g.nodes given) w.lines) es → AreTaken v (packets_from g.nodes given) es
 
 -- an emission, which changes nothing but the emitted number
 pub record IsEmitting (g : Game) (v : ℕ) (n : Node) (out : Out) (w : Waiting) : Type 0 where

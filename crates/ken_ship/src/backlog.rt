@@ -13,11 +13,13 @@ use ken_outbox::Outbox;
 use std::alloc::{AllocError, Global};
 use std::collections::VecDeque;
 
-// The outbox has a line for each of the nodes that there may be, and `turns` are those that aren't in it yet.
+// The outbox has a line for each of the nodes that there may be, and `turns` are those that aren't in it yet. `handed` is the number
+// of the last turn of all that it was handed.
 #[derive(Drop)]
 pub(crate) struct Backlog {
     alloc: Global,
     pub node: u8,
+    pub handed: u64,
     outbox: Outbox,
     turns: VecDeque<Sealed>,
     progress: Progress,
@@ -59,21 +61,23 @@ fn retired(state: &State) -> Progress
 }
 
 impl Backlog {
-    ghost use Rattle.std.specs.Prelude.{◌≡◌, ◌+◌, ◌<◌, ◌≤◌, [], ◌++◌, drop, IfOk, OnOk, OnErr, MatchOption, option_copied, Some, slice_get, slice_index_or, slice_set};
+    ghost use Rattle.std.specs.Prelude.{◌≡◌, ◌+◌, ◌<◌, ◌≤◌, [], ◌++◌, nat_le, if◌then◌else◌, drop, IfOk, OnOk, OnErr, MatchOption, option_copied, Some, slice_get, slice_index_or, slice_set};
     ghost use Rattle.std.specs.VecDeque.{deque_len, deque_capacity};
     ghost use Rattle.ken_links.specs.Rings.{pushed, free, popped, known, nones, IsRing, SamePushEnd, SamePopEnd};
-    ghost use Rattle.ken_outbox.specs.Waiting.{nothing, no_line, acked_by, next_number};
+    ghost use Rattle.ken_outbox.specs.Waiting.{nothing, no_line, next_number};
     ghost use Rattle.ken_ship.specs.Fits.{IsMailFrom, IsMailTo};
-    ghost use Rattle.ken_ship.specs.Handing.{HandedOver, Received};
+    ghost use Rattle.ken_ship.specs.Handing.{CountsTurns, HandedOver, Received};
     ghost use Rattle.ken_ship.specs.Parts.{due_in};
+    ghost use Rattle.ken_ship.specs.Taking.{after_ack, handed_by};
 
     pub(crate) fn new(alloc: Global, node: u8) -> Result<Self, AllocError>
         requires { node < 8 }
-        ensures { IfOk result (λ b. (b.node ≡ node) × (due_in b ≡ nothing 8)) }
+        ensures { IfOk result (λ b. (b.node ≡ node) × (b.handed ≡ 0) × (due_in b ≡ nothing 8)) }
     {
         Ok(Backlog {
             alloc,
             node,
+            handed: 0,
             outbox: Outbox::new(alloc, MAX_NODES)?,
             turns: VecDeque::new(alloc),
             progress: Progress {
@@ -90,11 +94,13 @@ impl Backlog {
         requires sent { length state.now.sent ≡ 8 }
         requires mails { All (IsMailFrom node) state.now.messages }
         ensures node { IfOk result (λ b. b.node ≡ node) }
+        ensures handed { IfOk result (λ b. b.handed ≡ state.now.turns) }
         ensures due { IfOk result (λ b. due_in b ≡ resumed 8 state.now) }
     {
         Ok(Backlog {
             alloc,
             node,
+            handed: state.turns,
             outbox: Outbox::resume(alloc, MAX_NODES, state)?,
             turns: VecDeque::new(alloc),
             progress: retired(state),
@@ -105,6 +111,7 @@ impl Backlog {
     fn add_oldest(&mut self) -> Result<(), AllocError>
         requires { 0 < length self.old.turns.items }
         ensures node { self.new.node ≡ self.old.node }
+        ensures handed { self.new.handed ≡ self.old.handed }
         ensures due { due_in self.new ≡ due_in self.old }
         ensures turns { OnOk result (self.new.turns.items ≡ drop 1 self.old.turns.items) }
     {
@@ -118,6 +125,7 @@ impl Backlog {
     // Adds each turn that isn't in the outbox, oldest first. After an error some are in it, and the others wait still.
     pub(crate) fn add_all(&mut self) -> Result<(), AllocError>
         ensures node { self.new.node ≡ self.old.node }
+        ensures handed { self.new.handed ≡ self.old.handed }
         ensures due { due_in self.new ≡ due_in self.old }
         ensures turns { OnOk result (self.new.turns.items ≡ []) }
     {
@@ -132,11 +140,15 @@ impl Backlog {
         ensures node { self.new.node ≡ self.old.node }
         ensures ring { SamePopEnd ring.old ring.new }
         ensures handed { HandedOver result self.old.node (popped ring.old) (popped ring.new) (nones ring.old) (nones ring.new) (due_in self.old) (due_in self.new) }
+        ensures number { CountsTurns (popped ring.old) (popped ring.new) self.old.handed self.new.handed }
     {
         self.turns.reserve(SLOTS)?;
         for _given in 0..SLOTS {
             match ring.pop() {
-                Some(turn) => self.turns.push_back_reserved(turn),
+                Some(turn) => {
+                    self.handed = turn.turn;
+                    self.turns.push_back_reserved(turn);
+                }
                 None => return Ok(()),
             }
         }
@@ -155,9 +167,10 @@ impl Backlog {
         ensures ends { SamePushEnd push.old push.new × SamePopEnd ring.old ring.new × IsRing push.new ring.new }
         ensures same { (pushed push.new ≡ pushed push.old) × (nones ring.new ≡ nones ring.old) }
         ensures received { Received self.old.node (popped ring.old) (popped ring.new) (due_in self.old) (due_in self.new) }
+        ensures number { CountsTurns (popped ring.old) (popped ring.new) self.old.handed self.new.handed }
         ensures queued { popped ring.new ++ known ring.new ≡ pushed push.new }
         ensures ok { OnOk result ((popped ring.new ≡ pushed push.new) × (64 ≤ free push.new)) }
-        ensures err { OnErr result ((popped ring.new ≡ popped ring.old) × (due_in self.new ≡ due_in self.old)) }
+        ensures err { OnErr result ((popped ring.new ≡ popped ring.old) × (due_in self.new ≡ due_in self.old) × (self.new.handed ≡ self.old.handed)) }
     {
         beside(push, ring);
         self.turns.reserve(ring.known())?;
@@ -172,10 +185,13 @@ impl Backlog {
         ensures node { self.new.node ≡ self.old.node }
         ensures end { SamePopEnd ring.old ring.new × (nones ring.new ≡ nones ring.old) }
         ensures received { Received self.old.node (popped ring.old) (popped ring.new) (due_in self.old) (due_in self.new) }
+        ensures number { CountsTurns (popped ring.old) (popped ring.new) self.old.handed self.new.handed }
         ensures all { popped ring.new ≡ popped ring.old ++ known ring.old }
     {
         for _moved in 0..ring.known() {
-            self.turns.push_back_reserved(ring.pop_known());
+            let turn = ring.pop_known();
+            self.handed = turn.turn;
+            self.turns.push_back_reserved(turn);
         }
     }
 
@@ -203,16 +219,30 @@ impl Backlog {
         }
     }
 
-    // A node has consumed the messages to it up to a number. One that isn't larger than each before changes nothing.
+    // Whether a number goes no further than the messages to a node that were handed over.
+    fn was_handed(&self, to: u8, through: u64) -> bool
+        requires to { to < 8 }
+        requires turns { self.now.turns.items ≡ [] }
+        ensures { result ≡ nat_le through (handed_by (slice_index_or (due_in self.now).lines to no_line)) }
+    {
+        let acked = self.progress.acked[usize::from(to)];
+        through <= acked || self.due(to, (through - acked - 1) as usize).is_some()
+    }
+
+    // A node tells that it has consumed the messages to it up to a number. One that isn't larger than each before changes nothing,
+    // and one that goes further than what was handed over is let go.
     pub(crate) fn acknowledge(&mut self, from: u8, through: u64)
         requires from { from < 8 }
         requires turns { self.old.turns.items ≡ [] }
         ensures node { self.new.node ≡ self.old.node }
+        ensures handed { self.new.handed ≡ self.old.handed }
         ensures turns { self.new.turns.items ≡ [] }
-        ensures due { due_in self.new ≡ record (due_in self.old) { lines = slice_set (due_in self.old).lines from (acked_by through (slice_index_or (due_in self.old).lines from no_line)) } }
+        ensures due { due_in self.new ≡ record (due_in self.old) { lines = after_ack (from, through) (due_in self.old).lines } }
     {
-        self.outbox.acked(from, through);
-        self.progress.raise(from, through);
+        if self.was_handed(from, through) {
+            self.outbox.acked(from, through);
+            self.progress.raise(from, through);
+        }
     }
 
     // The oldest output, which has this number, was emitted.
@@ -220,6 +250,7 @@ impl Backlog {
         requires number { next_number (due_in self.old).outs ≡ Some number }
         requires turns { self.old.turns.items ≡ [] }
         ensures node { self.new.node ≡ self.old.node }
+        ensures handed { self.new.handed ≡ self.old.handed }
         ensures turns { self.new.turns.items ≡ [] }
         ensures due { due_in self.new ≡ record (due_in self.old) { emitted = number; outs = drop 1 (due_in self.old).outs } }
     {

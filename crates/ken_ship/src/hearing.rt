@@ -30,6 +30,7 @@ fn hear(alloc: Global, backlog: &mut Backlog, nodes: u8, bytes: &[u8])
     requires nodes { nodes ≤ 8 }
     requires turns { backlog.old.turns.items ≡ [] }
     ensures node { backlog.new.node ≡ backlog.old.node }
+    ensures handed { backlog.new.handed ≡ backlog.old.handed }
     ensures turns { backlog.new.turns.items ≡ [] }
     ensures due { due_in backlog.new ≡ record (due_in backlog.old) { lines = after_acks (ack_in backlog.old.node nodes (packet_of bytes.now)) (due_in backlog.old).lines } }
 {
@@ -43,6 +44,7 @@ pub(crate) fn hear_all<N: Net>(alloc: Global, backlog: &mut Backlog, nodes: u8, 
     requires nodes { nodes ≤ 8 }
     requires turns { backlog.old.turns.items ≡ [] }
     ensures node { backlog.new.node ≡ backlog.old.node }
+    ensures handed { backlog.new.handed ≡ backlog.old.handed }
     ensures turns { backlog.new.turns.items ≡ [] }
     ensures heard { Heard backlog.old.node nodes (N.given_between net.old net.new) (N.nones net.old) (N.nones net.new) (due_in backlog.old) (due_in backlog.new) }
     ensures end { (N.node net.new ≡ N.node net.old) × (N.nodes net.new ≡ N.nodes net.old) }

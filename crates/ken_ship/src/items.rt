@@ -17,13 +17,22 @@ pub struct Sealed {
     ghost fits: { AreSent stamp sends },
 }
 
-/// What a node's externaliser tells its handler.
+/// How far a node's messages and outputs came.
 #[derive(Clone, Copy, Debug, Drop, PartialEq, Eq)]
 pub struct Progress {
     /// For each of the nodes 0 to 7 the number through which it acknowledged the messages to it.
     pub acked: [u64; MAX_NODES as usize],
     /// The number through which the outputs were emitted.
     pub emitted: u64,
+}
+
+/// What a node's externaliser tells its handler, and when.
+#[derive(Clone, Copy, Debug, Drop, PartialEq, Eq)]
+pub struct Told {
+    /// How many turns it had been handed by then: the number of the last one.
+    pub by: u64,
+    /// How far its messages and outputs came.
+    pub progress: Progress,
 }
 
 impl Progress {

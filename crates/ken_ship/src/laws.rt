@@ -3,6 +3,7 @@ ghost use Rattle.ken_ship.specs.Laws.{
   SendsAreEvents,
   SomeSendsAreEvents,
   AcksAreEvents,
+  AllAreTaken,
   EmissionIsEvent,
   NothingIsDueFirst,
   OthersKeepDue,
@@ -22,9 +23,10 @@ pub fn sends_are_events()
 {}
 
 /// Where it takes acknowledgements, this is the node's run of events that takes them, and what waits is again what the node
-/// has.
+/// has. Where none goes further than what it was handed, it takes all of them.
 pub fn acks_are_events()
-    ensures { AcksAreEvents }
+    ensures taken { AcksAreEvents }
+    ensures all { AllAreTaken }
 {}
 
 /// Where it emits an output, this is the node's event that emits it, and what waits is again what the node has.

@@ -15,7 +15,7 @@ mod worker;
 pub use emit::Emit;
 pub use faults::{NodeFault, OutFault};
 pub use hearing::MOST_TAKEN;
-pub use items::{Progress, Sealed};
+pub use items::{Progress, Sealed, Told};
 pub use laws::{
     acks_are_events, an_emission_is_an_event, sends_are_events, what_is_handed_over_is_due,
     what_waits_was_handed_over,

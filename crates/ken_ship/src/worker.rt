@@ -3,7 +3,7 @@ ghost use Rattle.ken_ship.specs.Last.{last_of};
 
 use crate::backlog::Backlog;
 use crate::hearing::hear_all;
-use crate::items::{Progress, Sealed};
+use crate::items::{Sealed, Told};
 use crate::sending::send_all;
 use crate::{Emit, NodeFault, OutFault, Outlet};
 use ken_links::{PopEnd, PushEnd, empty};
@@ -24,7 +24,7 @@ pub struct SendWorker {
     last_emitted: u64,
     refusals: u8,
     sealed: PopEnd<Sealed>,
-    told: PushEnd<Progress>,
+    told: PushEnd<Told>,
     ghost few: { nodes ≤ 8 },
     ghost counted: { refusals ≤ 64 },
     ghost last: { last_emitted ≡ last_of emissions.items },
@@ -36,7 +36,7 @@ impl SendWorker {
     ghost use Rattle.ken_outbox.specs.Waiting.{nothing, resumed};
     ghost use Rattle.ken_ship.specs.Causes.{HasCause};
     ghost use Rattle.ken_ship.specs.Fates.{Suffers, Follows};
-    ghost use Rattle.ken_ship.specs.Handing.{HandedOver, Received};
+    ghost use Rattle.ken_ship.specs.Handing.{CountsTurns, HandedOver, Received};
     ghost use Rattle.std.specs.List.{All};
     ghost use Rattle.ken_ship.specs.Fits.{IsMailFrom};
     ghost use Rattle.ken_ship.specs.Outlets.{also_took};
@@ -52,11 +52,11 @@ impl SendWorker {
         node: u8,
         nodes: u8,
         sealed: PopEnd<Sealed>,
-        told: PushEnd<Progress>,
+        told: PushEnd<Told>,
     ) -> Result<Self, AllocError>
         requires node { node < nodes }
         requires nodes { nodes ≤ 8 }
-        ensures part { IfOk result (λ w. part_of w ≡ record { due = nothing 8; emissions = []; refusals = 0; told = pushed told }) }
+        ensures part { IfOk result (λ w. part_of w ≡ record { due = nothing 8; emissions = []; refusals = 0; told = pushed told; handed = 0 }) }
         ensures node { IfOk result (λ w. (w.backlog.node ≡ node) × (w.nodes ≡ nodes)) }
         ensures ends { IfOk result (λ w. (w.sealed ≡ sealed) × (w.told ≡ told)) }
     {
@@ -73,14 +73,14 @@ impl SendWorker {
     }
 
     /// Goes on after a restart of its node, with the messages and outputs of a state. Of those that the state counts, the
-    /// ones that it doesn't hold count as acknowledged and emitted; what it was handed before is forgotten, and an output has
-    /// not been refused. What it emitted is kept. After an error, which is want of memory, nothing has changed.
+    /// ones that it doesn't hold count as acknowledged and emitted; what it was handed before is forgotten, the last turn that it was
+    /// handed counts as the state's last, and an output has not been refused. What it emitted is kept. After an error, which is want of memory, nothing has changed.
     pub fn resume(&mut self, state: &State) -> Result<(), AllocError>
         requires sent { length state.now.sent ≡ 8 }
         requires mails { All (IsMailFrom self.old.backlog.node) state.now.messages }
         ensures worker { IsSameWorker self.old self.new }
         ensures ends { (self.new.sealed ≡ self.old.sealed) × (self.new.told ≡ self.old.told) }
-        ensures ok { OnOk result (part_of self.new ≡ record (part_of self.old) { due = resumed 8 state.now; refusals = 0 }) }
+        ensures ok { OnOk result (part_of self.new ≡ record (part_of self.old) { due = resumed 8 state.now; refusals = 0; handed = state.now.turns }) }
         ensures err { OnErr result (part_of self.new ≡ part_of self.old) }
     {
         self.backlog = Backlog::resume(self.alloc, self.backlog.node, state)?;
@@ -111,8 +111,9 @@ impl SendWorker {
         ensures ends { SamePushEnd ring.old ring.new × IsRing ring.new self.new.sealed }
         ensures same { (pushed ring.new ≡ pushed ring.old) × (nones self.new.sealed ≡ nones self.old.sealed) }
         ensures told { self.new.told ≡ self.old.told }
-        ensures part { part_of self.new ≡ record (part_of self.old) { due = (part_of self.new).due } }
+        ensures part { part_of self.new ≡ record (part_of self.old) { due = (part_of self.new).due; handed = (part_of self.new).handed } }
         ensures received { Received self.old.backlog.node (popped self.old.sealed) (popped self.new.sealed) (part_of self.old).due (part_of self.new).due }
+        ensures number { CountsTurns (popped self.old.sealed) (popped self.new.sealed) (part_of self.old).handed (part_of self.new).handed }
         ensures queued { popped self.new.sealed ++ known self.new.sealed ≡ pushed ring.new }
         ensures ok { OnOk result ((popped self.new.sealed ≡ pushed ring.new) × (64 ≤ free ring.new)) }
         ensures err { OnErr result ((popped self.new.sealed ≡ popped self.old.sealed) × (part_of self.new ≡ part_of self.old)) }
@@ -123,11 +124,7 @@ impl SendWorker {
     /// Moves all that it told its handler to the end of a list, oldest first, from the end of the ring at which the handler
     /// pops: then 64 slots are known to be free. The error, which is want of memory, comes only where the list has no room for
     /// 64 more items; then nothing has moved. The list's capacity never shrinks.
-    pub fn tell(
-        &mut self,
-        ring: &mut PopEnd<Progress>,
-        into: &mut Vec<Progress>,
-    ) -> Result<(), AllocError>
+    pub fn tell(&mut self, ring: &mut PopEnd<Told>, into: &mut Vec<Told>) -> Result<(), AllocError>
         requires { IsRing self.old.told ring.old }
         ensures worker { IsSameWorker self.old self.new }
         ensures ends { SamePopEnd ring.old ring.new × IsRing self.new.told ring.new }
@@ -154,7 +151,8 @@ impl SendWorker {
         ensures told { self.new.told ≡ self.old.told }
         ensures handed { HandedOver result self.old.backlog.node (popped self.old.sealed) (popped self.new.sealed)
             (nones self.old.sealed) (nones self.new.sealed) (part_of self.old).due (part_of self.new).due }
-        ensures part { part_of self.new ≡ record (part_of self.old) { due = (part_of self.new).due } }
+        ensures number { CountsTurns (popped self.old.sealed) (popped self.new.sealed) (part_of self.old).handed (part_of self.new).handed }
+        ensures part { part_of self.new ≡ record (part_of self.old) { due = (part_of self.new).due; handed = (part_of self.new).handed } }
         ensures put { SentDue result (N.put_between net.old net.new) (all_due self.old.nodes (part_of self.new).due.lines) }
         ensures given { N.given_between net.old net.new [] }
         ensures end { (N.node net.new ≡ N.node net.old) × (N.nodes net.new ≡ N.nodes net.old) }
@@ -166,8 +164,8 @@ impl SendWorker {
     }
 
     /// Takes packets until the net gives none, or 4,096 were given, and takes note of the acknowledgements to this node from
-    /// nodes of the run; all else is let go. An acknowledged number never falls. Where one rose, the handler is told: a slot
-    /// must be known to be free. After an error, which is want of memory, nothing has changed, and nothing was taken.
+    /// nodes of the run; all else is let go, and so is an acknowledgement that goes further than what was handed over. An acknowledged
+    /// number never falls. Where one rose, the handler is told: a slot must be known to be free. After an error, which is want of memory, nothing has changed, and nothing was taken.
     pub fn take_acks<N: Net>(&mut self, net: &mut N) -> Result<(), AllocError>
         requires { 0 < free self.old.told }
         ensures worker { IsSameWorker self.old self.new }
@@ -185,7 +183,10 @@ impl SendWorker {
         hear_all(self.alloc, &mut self.backlog, self.nodes, net);
         let now = self.backlog.progress();
         if now.acked != before.acked {
-            self.told.push(now);
+            self.told.push(Told {
+                by: self.backlog.handed,
+                progress: now,
+            });
         }
         Ok(())
     }
@@ -236,7 +237,10 @@ impl SendWorker {
         self.emissions.push_reserved(Emission { node, out });
         self.last_emitted = self.last_emitted.max(number);
         self.refusals = 0;
-        self.told.push(self.backlog.progress());
+        self.told.push(Told {
+            by: self.backlog.handed,
+            progress: self.backlog.progress(),
+        });
         Emit::Done(number)
     }
 

@@ -6,7 +6,7 @@ ghost use Rattle.ken_links.specs.Rings.{free, IsRing};
 use ken_links::{PopEnd, PushEnd, ring};
 use ken_model::{Items, Octets, Out};
 use ken_record::Sent;
-use ken_ship::{Progress, Sealed, SendWorker};
+use ken_ship::{Sealed, SendWorker, Told};
 use std::alloc::{AllocError, Global};
 
 // The externaliser of node 0 of a run of so many nodes, with the ends of its rings that its handler holds.
@@ -14,7 +14,7 @@ use std::alloc::{AllocError, Global};
 pub(crate) struct Desk {
     pub worker: SendWorker,
     pub sealed: PushEnd<Sealed>,
-    pub told: PopEnd<Progress>,
+    pub told: PopEnd<Told>,
 }
 
 pub(crate) fn new_desk(alloc: Global, nodes: u8) -> Result<Desk, AllocError>

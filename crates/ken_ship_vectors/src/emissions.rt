@@ -77,7 +77,7 @@ fn told(desk: &mut Desk, alloc: Global) -> Result<(u64, usize), AllocError>
     let mut told = Vec::new(alloc);
     desk.worker.tell(&mut desk.told, &mut told)?;
     match told.last() {
-        Some(last) => Ok((last.emitted, told.len())),
+        Some(last) => Ok((last.progress.emitted, told.len())),
         None => Ok((0, 0)),
     }
 }

@@ -141,7 +141,7 @@ fn told(desk: &mut Desk, alloc: Global) -> Result<(u64, u64), AllocError>
     desk.worker.tell(&mut desk.told, &mut told)?;
     match told.as_slice() {
         [] => Ok((0, 0)),
-        [one] => Ok((one.acked[1], one.acked[2])),
+        [one] => Ok((one.progress.acked[1], one.progress.acked[2])),
         _ => Ok((99, 99)),
     }
 }
@@ -202,9 +202,25 @@ fn acknowledgements_to_another_node_are_let_go(rt: HostRuntime) -> Result<(), Fa
 fn acknowledgements_of_no_node_of_the_run_are_let_go(rt: HostRuntime) -> Result<(), Fail> {
     let alloc = rt.alloc();
     let mut desk = new_desk(alloc, 2)?;
+    desk.sealed.push(sending(alloc, 1, 1, 8)?);
+    desk.sealed.push(sending(alloc, 2, 1, 2)?);
+    desk.worker.receive(&mut desk.sealed)?;
     let boxes = (Inboxes::new(alloc, 3)?, Inboxes::new(alloc, 3)?);
     let boxes = acknowledge(alloc, boxes, 2, 0, 1)?;
     heard(alloc, &mut desk, 0, acknowledge(alloc, boxes, 1, 0, 7)?)?;
     assert_eq!(rt; told(&mut desk, alloc)?, (7, 0));
+    Ok(())
+}
+
+#[test]
+fn acknowledgements_past_what_was_handed_over_are_let_go(rt: HostRuntime) -> Result<(), Fail> {
+    let alloc = rt.alloc();
+    let mut desk = sealed(alloc)?;
+    let boxes = sent(&mut desk, end(alloc)?)?;
+    let boxes = acknowledge(alloc, boxes, 1, 0, 18)?;
+    let boxes = acknowledge(alloc, boxes, 2, 0, 2)?;
+    let boxes = acknowledge(alloc, boxes, 1, 0, 17)?;
+    heard(alloc, &mut desk, 0, boxes)?;
+    assert_eq!(rt; told(&mut desk, alloc)?, (17, 0));
     Ok(())
 }

@@ -11,7 +11,7 @@ loop-item-preserved g c =
     record {
       end = search (rules, inv.end, pop.ensures.ring);
       count = pop.ensures.nones ∙ inv.count;
-      told = told_more (popped c.args.pop.now) (popped c.loop-item.pop) (popped pop.new.self) c.args.known.now c.loop-item.known pop.result inv.told pop.ensures.popped;
+      told = told_more g.A.News.says (popped c.args.pop.now) (popped c.loop-item.pop) (popped pop.new.self) c.args.known.now c.loop-item.known c.fact.result pop.result inv.told pop.ensures.popped c.fact.ensures;
       all = ap (λ (xs : List g.row.A.Denot). xs ++ known pop.new.self) pop.ensures.popped ∙ append_assoc (popped c.loop-item.pop) (pop.result ∷ []) (known pop.new.self)
           ∙ ap (λ (xs : List g.row.A.Denot). popped c.loop-item.pop ++ xs) (sym pop.ensures.known) ∙ inv.all;
       left = omega (arith, inv.left, one);

@@ -3,4 +3,4 @@ use Rattle.ken_node.proofs.TakenNews.{latest_last}
 use Rattle.ken_node.proofs.worker.take_last.Goals as goal
 
 pub returns-in-Some : goal.returns-in-Some
-returns-in-Some g c = sym (latest_last c.args.known.now c.args.told.now c.in-Some.last.now (sym c.in-Some.ensures.value))
+returns-in-Some g c = sym (latest_last g.A.News.says c.args.known.now c.args.told.now c.in-Some.last.now (sym c.in-Some.ensures.value))

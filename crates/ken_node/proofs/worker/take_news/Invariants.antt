@@ -7,5 +7,5 @@ abbrev pub invariant-loop-given : goal.invariant-loop-given
 invariant-loop-given g l = record {
   ring : SamePopEnd l.fn.ring l.ring;
   count : nones l.ring ≡ nones l.fn.ring;
-  told : ToldSoFar l._given (popped l.fn.ring) (popped l.ring) l.fn.known l.known;
+  told : ToldSoFar g.A.News.stands_with g.A.News.says l.made l._given (popped l.fn.ring) (popped l.ring) l.fn.known l.known;
 }

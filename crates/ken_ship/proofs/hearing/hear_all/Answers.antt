@@ -12,6 +12,7 @@ loop-taken-preserved g c =
     let bytes : List ℕ = c.in-Some.bytes in
     record {
       node = c.hear.ensures.node ∙ inv.node;
+      handed = c.hear.ensures.handed ∙ inv.handed;
       turns = c.hear.ensures.turns;
       heard = heard_more c.args.backlog.now.node c.loop-taken.backlog.node c.args.nodes c.loop-taken._taken (g.N.Net.given_between c.args.net.now c.loop-taken.net) (g.N.Net.given_between c.args.net.now c.take.new.self) bytes c.as_slice.result.now old mid (due_in c.hear.new.backlog) inv.heard
           (λ packets so. g.met.N.Net.given_joins c.args.net.now c.loop-taken.net c.take.new.self packets (bytes ∷ []) so c.in-Some.ensures.given) inv.node c.as_slice.ensures c.hear.ensures.due;

@@ -6,6 +6,7 @@ use Rattle.ken_ship.proofs.hearing.hear_all.Given as goal
 abbrev pub invariant-loop-taken : goal.invariant-loop-taken
 invariant-loop-taken g l = record {
   node : l.backlog.node ≡ l.fn.backlog.node;
+  handed : l.backlog.handed ≡ l.fn.backlog.handed;
   turns : l.backlog.turns.items ≡ [];
   heard : HeardSoFar l.fn.backlog.node l.nodes l._taken (g.N.Net.given_between l.fn.net l.net) (due_in l.fn.backlog) (due_in l.backlog);
   count : g.N.Net.nones l.net ≡ g.N.Net.nones l.fn.net;

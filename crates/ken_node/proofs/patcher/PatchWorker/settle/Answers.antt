@@ -17,8 +17,8 @@ returns-clause-settles g c =
     let told = g.D.Disk.told in
     let old = c.args.self.now in
     let new = c.settle.new.self in
-    let is : c.settle.result ≡ Ok c.in_ok-settled.settled = was_ok c.settle.result c.in_ok-settled.settled (sym c.answered.ensures ∙ c.in_ok-settled.was) in
-    let turn : c.in_ok-settled.settled ≡ settled_turn old.side.known old.side.ahead.items = subst (λ (r : Result ℕ StoreFault). IfOk r (λ t. t ≡ settled_turn old.side.known old.side.ahead.items)) is e.told in
+    let is : c.settle.result ≡ Ok c.in_ok-turn.turn = was_ok c.settle.result c.in_ok-turn.turn (sym c.answered.ensures ∙ c.in_ok-turn.was) in
+    let turn : c.in_ok-turn.turn ≡ settled_turn old.side.known old.side.ahead.items = subst (λ (r : Result ℕ StoreFault). IfOk r (λ t. t ≡ settled_turn old.side.known old.side.ahead.items)) is e.told in
     record {
       pages = refl;
       stands = λ i p. subst (λ (r : Result ℕ StoreFault). SettlesBy (told new.image.disk) r (Patching told g.D.Disk.size new) i) is (e.stands i p);

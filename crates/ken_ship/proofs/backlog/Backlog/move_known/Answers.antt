@@ -4,7 +4,7 @@ use Rattle.ken_outbox.specs.Waiting.{Waiting}
 use Rattle.ken_ship.specs.declared.items.Sealed.{Sealed}
 use Rattle.ken_ship.specs.Handing.{with_turns, Received}
 use Rattle.ken_ship.specs.Parts.{due_in}
-use Rattle.ken_ship.proofs.Handed.{received_more}
+use Rattle.ken_ship.proofs.Handed.{one_counted, received_more}
 use Rattle.ken_ship.proofs.backlog.Backlog.move_known.Goals as goal
 
 pub loop-moved-preserved : goal.loop-moved-preserved
@@ -30,6 +30,7 @@ loop-moved-preserved c =
       ring = search (rules, inv.ring, c.pop_known.ensures.ring);
       count = c.pop_known.ensures.nones ∙ inv.count;
       received = here;
+      number = one_counted old (popped c.loop-moved.ring) new inv.received.turns c.args.self.now.handed t inv.received.popped_are c.pop_known.ensures.popped;
       all = ap (λ (ts : List Sealed). ts ++ known c.pop_known.new.self) c.pop_known.ensures.popped ∙ append_assoc (popped c.loop-moved.ring) (t ∷ []) (known c.pop_known.new.self)
           ∙ ap (λ (ts : List Sealed). popped c.loop-moved.ring ++ ts) (sym c.pop_known.ensures.known) ∙ inv.all;
       left = omega (arith, inv.left, one);

@@ -4,7 +4,7 @@ use Rattle.ken_outbox.specs.Waiting.{Waiting}
 use Rattle.ken_ship.specs.declared.items.Sealed.{Sealed}
 use Rattle.ken_ship.specs.Handing.{with_turns}
 use Rattle.ken_ship.specs.Parts.{due_in}
-use Rattle.ken_ship.proofs.Handed.{HandedSoFar, one_more}
+use Rattle.ken_ship.proofs.Handed.{HandedSoFar, one_counted, one_more}
 use Rattle.ken_ship.proofs.backlog.Backlog.pop_from.Goals as goal
 
 pub loop-given-preserved : goal.loop-given-preserved
@@ -22,4 +22,4 @@ loop-given-preserved c =
     let here : HandedSoFar v (c.loop-given._given + 1) (popped c.args.ring.now) (popped c.pop.new.self) (due_in c.args.self.now) (with_turns c.loop-given.self.node c.push_back_reserved.new.self.items box) =
     subst (λ (u : ℕ). HandedSoFar v (c.loop-given._given + 1) (popped c.args.ring.now) (popped c.pop.new.self) (due_in c.args.self.now) (with_turns u c.push_back_reserved.new.self.items box)) back
     (subst (λ (ts : List Sealed). HandedSoFar v (c.loop-given._given + 1) (popped c.args.ring.now) (popped c.pop.new.self) (due_in c.args.self.now) (with_turns v ts box)) (sym items) more) in
-    record { node = inv.node; ring = search (rules, inv.ring, c.in-Some.ensures.ring); count = c.in-Some.ensures.counted ∙ inv.count; handed = here; room = omega (arith, inv.room) }
+    record { node = inv.node; ring = search (rules, inv.ring, c.in-Some.ensures.ring); count = c.in-Some.ensures.counted ∙ inv.count; handed = here; number = one_counted (popped c.args.ring.now) (popped c.loop-given.ring) (popped c.pop.new.self) inv.handed.turns c.args.self.now.handed t inv.handed.popped_are c.in-Some.ensures.popped; room = omega (arith, inv.room) }
