@@ -1,12 +1,9 @@
 -- News that is taken item by item.
-use Rattle.std.proofs.Common.{◌≡◌, ℕ, suc, ◌+◌, ◌-◌, ◌<◌, ◌≤◌, ◌⊎◌, inl, inr, List, [], ◌∷◌, ◌++◌, length, refl, sym, ap, ◌∙◌, subst, append_assoc, append-nil, arith}
+use Rattle.std.proofs.Common.{◌≡◌, ℕ, suc, ◌+◌, ◌-◌, ◌≤◌, List, [], ◌∷◌, ◌++◌, length, refl, sym, ap, ◌∙◌, subst, append_assoc, append-nil, arith}
 use Rattle.std.specs.Prelude.{slice_get, Some}
-use Rattle.std.specs.List.{AllByRecursion}
+use mathlib.Core.List.{IsPrefix}
 use Rattle.std.proofs.lemmas.List.{length_push}
-use Rattle.ken_links.specs.Counts.{Rose}
-use Rattle.ken_links.specs.Rings.{popped, nones, known as in_ring}
-use Rattle.ken_links.specs.declared.pop_end.PopEnd.{PopEnd}
-use Rattle.ken_node.specs.News.{AreRipe, IsFromFurther, TakesNews, latest}
+use Rattle.ken_node.specs.News.{AreRipe, latest}
 
 pub latest_push : {A B : Type 0} (says : A → B) (old : B) (xs : List A) (x : A) → latest says old (xs ++ x ∷ []) ≡ says x
 latest_push says old [] x = refl
@@ -37,21 +34,9 @@ told_more by says made count popped popped2 popped3 old mid new x so_far pop rip
   known = said ∙ sym (latest_push says old so_far.items x);
 }
 
--- no more are, for one of three causes
-pub told_until : {A B : Type 0} (by : A → ℕ) (says : A → B) (made count : ℕ) (ring mid ring2 : PopEnd A) (old new : B) → ToldSoFar by says made count (popped ring) (popped mid) old new → popped ring2 ≡ popped mid → count ≤ 64
-    → (count ≡ 64) ⊎ (Rose (nones ring) (nones ring2) ⊎ IsFromFurther by made (in_ring ring2)) → TakesNews by says made ring ring2 old new
-told_until by says made count ring mid ring2 old new so_far still few until = record {
-  items = so_far.items;
-  popped_are = still ∙ so_far.popped_are;
-  most = omega (arith, few, so_far.counted);
-  ripe = so_far.ripe;
-  until = subst (λ (n : ℕ). (n ≡ 64) ⊎ (Rose (nones ring) (nones ring2) ⊎ IsFromFurther by made (in_ring ring2))) (sym so_far.counted) until;
-  known = so_far.known;
-}
-
--- the first of a list, by a front of it
-pub from_further : {A : Type 0} (by : A → ℕ) (made : ℕ) (x : A) (xs rest : List A) → x ∷ rest ≡ xs → made < by x → IsFromFurther by made xs
-from_further by made x xs rest is far = subst (IsFromFurther by made) is far
+-- the first of a list is one thing
+pub first_is : {A : Type 0} (a b : A) (xs rest : List A) → IsPrefix (a ∷ []) xs → xs ≡ b ∷ rest → a ≡ b
+first_is a b xs rest front is = let e : a ∷ front.0 ≡ b ∷ rest = front.1 ∙ is in cc
 
 pub latest_last : {A B : Type 0} (says : A → B) (old : B) (xs : List A) (x : A) → slice_get xs (length xs - 1) ≡ Some x → latest says old xs ≡ says x
 latest_last says old [] x is = absurd cc

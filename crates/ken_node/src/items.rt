@@ -32,7 +32,7 @@ pub(crate) trait News: Copy {
 
     ghost stands_with: { Self → ℕ };
 
-    ghost says: { Self → Fact };
+    ghost says: { Self → Self.Fact };
 
     fn by(&self) -> u64
         ensures { result ≡ stands_with self.now };
