@@ -1,12 +1,12 @@
 -- What an externaliser takes of acknowledgements, of a whole node.
-use Rattle.std.proofs.Common.{◌≡◌, ◌≢◌, ℕ, ◌+◌, ◌-◌, ◌<◌, ◌≤◌, ◌⊎◌, inl, inr, max, Bool, true, false, cond, nat_lt, List, [], ◌∷◌, ◌++◌, map, length, drop, get_or, slice_set, slice_index, Option, refl, sym, ap, subst, ◌∙◌, ⊎_elim, zero-add, arith}
+use Rattle.std.proofs.Common.{◌≡◌, ◌≢◌, ℕ, ◌+◌, ◌-◌, ◌<◌, ◌≤◌, ◌⊎◌, inl, inr, max, Bool, true, false, cond, List, [], ◌∷◌, ◌++◌, map, length, drop, get_or, slice_set, slice_index, Option, refl, sym, ap, subst, ◌∙◌, ⊎_elim, zero-add, arith}
 use Rattle.std.specs.List.{AllByRecursion, Contains}
 use Rattle.std.proofs.lemmas.Bool.{cases_eq, cases_lt, leb-true}
 use Rattle.std.proofs.lemmas.List.{get_or-map, get_or-set_same, get_or-set_other, set_past, length-append, length-drop}
 use Rattle.ken_disk.specs.Story.{Story}
 use Rattle.ken_model.specs.declared.messages.Message.{Message}
 use Rattle.ken_model.specs.Game.{Game}
-use Rattle.ken_outbox.specs.Waiting.{Unacked, Waiting}
+use Rattle.ken_outbox.specs.Waiting.{Unacked, Waiting, no_line}
 use Rattle.ken_core.specs.Nodes.{Node, SendSide}
 use Rattle.ken_core.specs.Packets.{Packet, nothing}
 use Rattle.ken_core.specs.Runs.{NodeRun}

@@ -1,5 +1,5 @@
 -- A handler is known by its fields: what it says of them may have been shown in any way.
-use Rattle.std.proofs.Common.{◌≡◌, ℕ, ◌≤◌, vec_capacity, vec_len, sym, ap, ◌∙◌}
+use Rattle.std.proofs.Common.{◌≡◌, ◌≤◌, vec_capacity, vec_len, sym, ap, ◌∙◌}
 use Rattle.std.proofs.Props.{props}
 use Rattle.ken_links.specs.declared.pop_end.PopEnd.{PopEnd}
 use Rattle.ken_links.specs.declared.push_end.PushEnd.{PushEnd}

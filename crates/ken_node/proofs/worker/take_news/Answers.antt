@@ -1,4 +1,4 @@
-use Rattle.std.proofs.Common.{◌≡◌, ◌≤◌, ◌∷◌, ◌++◌, [], refl, sym, ap, ◌∙◌, subst, arith, rules}
+use Rattle.std.proofs.Common.{◌≡◌, ◌∷◌, ◌++◌, [], refl, ap, ◌∙◌, arith, rules}
 use Rattle.ken_links.specs.Rings.{popped, known}
 use Rattle.ken_node.proofs.TakenNews.{first_is, told_more}
 use Rattle.ken_node.proofs.worker.take_news.Goals as goal

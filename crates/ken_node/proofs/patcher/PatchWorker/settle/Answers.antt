@@ -33,7 +33,9 @@ returns-clause-settles g c =
       count_is = e.count;
       cause = subst (λ (r : Result ℕ StoreFault). HasCause (g.D.Disk.faults old.side.image.disk) (g.D.Disk.faults new.image.disk) (disk_answer r)) is e.cause;
       fate_of = subst (λ (r : Result ℕ StoreFault). Follows (Suffers (disk_answer r)) (g.D.Disk.fate old.side.image.disk) (g.D.Disk.fate new.image.disk)) is e.fate;
-      tells = c.push.ensures.pushed ∙ ap (λ (n : ℕ). pushed old.settled ++ n ∷ []) turn;
+      tells =
+          c.push.ensures.pushed ∙ ap (λ (n : ℕ). pushed old.settled ++ record { by = n; turn = c.in_ok-turn.turn } ∷ []) (c.known.ensures ∙ e.known)
+          ∙ ap (λ (n : ℕ). pushed old.settled ++ record { by = old.side.known; turn = n } ∷ []) turn;
       slot = c.push.ensures.free;
       untold = tt;
     }
