@@ -1,5 +1,6 @@
 //! The program `ken`: rollback recovery over a simulated group of nodes. `ken run` reads a script on standard input and
-//! writes the report of its run.
+//! writes the report of its run. `ken check LENGTH` reads a script of so many bytes and a report behind it, and says whether the
+//! report is one that a run of the script prints.
 #![tactic(auto)]
 
 use ken_drive::MemWorld;
@@ -18,7 +19,7 @@ fn main(rt: HostRuntime) -> ExitCode {
         }
         Err(status) => status,
     };
-    if status != Status::Settled {
+    if status.exit_code() != 0 {
         let _ = eprintln!(rt; "{status}");
     }
     ExitCode::from(status.exit_code())

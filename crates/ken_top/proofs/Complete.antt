@@ -25,6 +25,9 @@ complete_written program left old new l status.Read rose out failed none = absur
 complete_written program left old new l (status.Script rule index) rose out failed none = absurd out
 complete_written program left old new l (status.Damaged v disk place) rose out failed none = absurd out
 complete_written program left old new l (status.Down v) rose out failed none = absurd out
+complete_written program left old new l status.Checked rose out failed none = absurd out
+complete_written program left old new l (status.Wrong line) rose out failed none = absurd out
+complete_written program left old new l status.Long rose out failed none = absurd out
 
 -- no node is told as down there
 pub let_written : (program : Program) (left old new : Option (List ℕ)) (l : Lines) (s : Status) → IsOut old new l s → IsLet program left s
@@ -37,6 +40,9 @@ let_written program left old new l status.Read out = tt
 let_written program left old new l (status.Script rule index) out = tt
 let_written program left old new l (status.Damaged v disk place) out = tt
 let_written program left old new l (status.Down v) out = absurd out
+let_written program left old new l status.Checked out = tt
+let_written program left old new l (status.Wrong line) out = tt
+let_written program left old new l status.Long out = tt
 
 -- a script that spares its nodes lets none go down, and a text says one script
 spares : (program : Program) (left : Option (List ℕ)) (v : ℕ) → IsLetDown program left v → IsComplete program left (status.Down v)
@@ -61,3 +67,6 @@ module _ {D O U : Type 0} (program : Program) (views : Views D O U) (kept : ℕ 
   complete_refused left status.Cut rose refusal lets failed none = absurd refusal
   complete_refused left status.Write rose refusal lets failed none = absurd refusal
   complete_refused left (status.Damaged v disk place) rose refusal lets failed none = absurd refusal
+  complete_refused left status.Checked rose refusal lets failed none = absurd refusal
+  complete_refused left (status.Wrong line) rose refusal lets failed none = absurd refusal
+  complete_refused left status.Long rose refusal lets failed none = absurd refusal

@@ -1,3 +1,4 @@
 mod Reported
 mod Complete
 mod Texts
+mod Judging

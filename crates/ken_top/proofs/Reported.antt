@@ -1,14 +1,18 @@
 -- The text of a run's lines is a report.
-use Rattle.std.proofs.Common.{◌≡◌, inl, inr, ℕ, ◌+◌, List, [], Option, Some, None, Err, IfSome, take, refl, sym, ap, subst}
+use Rattle.std.proofs.Common.{◌≡◌, inl, inr, ℕ, ◌+◌, List, [], Option, Some, None, Err, IfSome, take, refl, sym, ap, subst, arith}
 use Rattle.std.proofs.KnownBytes.{Appends-nil}
 use Rattle.ken_io.specs.Transfers.{AppendsFront}
 use Rattle.ken_model.specs.declared.reports.Ending.{Ending}
+use Rattle.ken_model.specs.declared.messages.Step.{Step}
+use Rattle.ken_model.specs.declared.reports.Emission.{Emission}
 use Rattle.ken_model.specs.declared.reports.Lines.{Lines}
+use Rattle.ken_model.specs.declared.reports.RestartLine.{RestartLine}
+use Rattle.ken_model.specs.Game.{Game}
 use Rattle.ken_model.specs.Schedule.{IsLegal, play}
 use Rattle.ken_model.specs.Emissions.{AreLegalEmissions, AreByNode}
 use Rattle.ken_model.specs.Ending.{Ends}
 use Rattle.ken_model.specs.Report.{text, report}
-use Rattle.ken_model.specs.Spelling.{Spelling, spell}
+use Rattle.ken_model.specs.Spelling.{IsPrintable, Spelling, spell}
 use Rattle.ken_model.specs.Laws.{steps_of}
 use Rattle.ken_model.proofs.Spelled.{report_spells_its_run}
 use Rattle.ken_script.specs.declared.scripts.Script.{Script}
@@ -19,9 +23,14 @@ use Rattle.ken_script.specs.Service.{IsServiceFaultOf}
 use Rattle.ken_script.specs.declared.faults.ScriptFault.{ScriptFault}
 use Rattle.ken_script.specs.declared.faults.ScriptFault.TheVariants as script
 use Rattle.ken_script.proofs.Told.{kinds_language, service_language}
+use Rattle.ken_check.specs.declared.verdict.Verdict.TheVariants.{Right}
+use Rattle.ken_check.specs.Judged.{IsJudged}
+use Rattle.ken_check.specs.Right.{AreRestartsSoFar}
+use Rattle.ken_check.proofs.Reports.{reports_are_right}
 use Rattle.ken_store.specs.declared.disks.Disks.{Disks}
 use Rattle.ken_drive.specs.declared.faults.RunFault.{RunFault}
 use Rattle.ken_drive.specs.declared.faults.RunFault.TheVariants as running
+use Rattle.ken_drive.specs.Accounts.{Terms}
 use Rattle.ken_drive.specs.Driven.{DrivesBy, HasDriven, KeepsRun, Views}
 use Rattle.ken_drive.specs.Ended.{IsRunOf}
 use Rattle.ken_drive.specs.Starting.{terms_of}
@@ -84,14 +93,30 @@ told_by program (Some xs) read front =
       breaks = λ rule index h. own.breaks_by_front xs rule index (subst (λ b. BreaksTo program b rule index) front h);
     }
 
+-- restart lines of a run whose devices show it are ones that it may have
+restarts_so_far : {D O U : Type 0} (views : Views D O U) (g : Game) (terms : Terms) (kept : ℕ → Option (Disks D × O × U)) (schedule : List Step) (emissions : List Emission) (restarts : List RestartLine) → AreRestartsByNode g.nodes 0 restarts → KeepsRun views g terms schedule emissions restarts kept → AreRestartsSoFar g terms.most schedule restarts
+restarts_so_far views g terms kept schedule emissions restarts by_node keeps = record {
+  by_node = by_node;
+  few = λ v known. let node = keeps.each v known in omega (arith, node.causes.few, node.own.few);
+  rise = λ v known. (keeps.each v known).causes.rise;
+}
+
 module _ {D O U : Type 0} (program : Program) (views : Views D O U) (kept : ℕ → Option (Disks D × O × U)) where
+  -- each line of a run is right
+  right_of-run : (script : Script) (l : Lines) → IsRunOf (game_in program script) l → KeepsRun views (game_in program script) (terms_of views.scripted script) (steps_of l.turns) l.emissions l.restarts kept → IsJudged (game_in program script) script.restarts (text l) Right
+  right_of-run script l run keeps =
+      let g = game_in program script in
+      let often = restarts_so_far views g (terms_of views.scripted script) kept (steps_of l.turns) l.emissions l.restarts run.restarts keeps in
+      subst (λ (b : List ℕ). IsJudged g script.restarts b Right) (sym (ap text run.lines))
+        (reports_are_right g script.restarts (steps_of l.turns) l.emissions l.restarts l.ending run.legal run.emissions run.by_node often run.ends (subst IsPrintable run.lines run.printable))
+
   pub report_of-run : (b : List ℕ) (script : Script) (l : Lines) → SaysTo program b script → IsRunOf (game_in program script) l → KeepsRun views (game_in program script) (terms_of views.scripted script) (steps_of l.turns) l.emissions l.restarts kept → IsReport program views kept b l.ending (text l)
   report_of-run b script l says run keeps =
       let told : Spelling = record { schedule = steps_of l.turns; emissions = l.emissions; restarts = l.restarts } in
       let spelled : spell (text l) ≡ told = report_spells_its_run l run.printable in
       let of_told : IsReportOf program views kept b script l.ending (text l) told = record { text = ap text run.lines; legal = run.legal; emissions = run.emissions; by_node = run.by_node; restarts = run.restarts; ends = run.ends; keeps = keeps } in
       let of_text : IsReportOf program views kept b script l.ending (text l) (spell (text l)) = subst (IsReportOf program views kept b script l.ending (text l)) (sym spelled) of_told in
-      record { script = script; says = says; text = of_text.text; legal = of_text.legal; emissions = of_text.emissions; by_node = of_text.by_node; restarts = of_text.restarts; ends = of_text.ends; keeps = of_text.keeps }
+      record { script = script; says = says; text = of_text.text; legal = of_text.legal; emissions = of_text.emissions; by_node = of_text.by_node; restarts = of_text.restarts; ends = of_text.ends; keeps = of_text.keeps; right = right_of-run script l run keeps }
 
   -- the report of the run that a source says
   report_of-source : (left : Option (List ℕ)) (l : Lines) (run : IsRunOfSource program views kept left l) → IsReport program views kept run.read l.ending (text l)
@@ -121,6 +146,9 @@ module _ {D O U : Type 0} (program : Program) (views : Views D O U) (kept : ℕ 
   ran_refused left took status.Usage refusal = absurd refusal
   ran_refused left took status.Cut refusal = absurd refusal
   ran_refused left took status.Write refusal = absurd refusal
+  ran_refused left took status.Checked refusal = absurd refusal
+  ran_refused left took (status.Wrong line) refusal = absurd refusal
+  ran_refused left took status.Long refusal = absurd refusal
 
   -- a report that is out, as an answer of the program
   pub ran_written : (left old new : Option (List ℕ)) (l : Lines) (s : Status) → IsRunOfSource program views kept left l → IsOut old new l s → Ran program views kept left old new s
@@ -135,6 +163,9 @@ module _ {D O U : Type 0} (program : Program) (views : Views D O U) (kept : ℕ 
   ran_written left old new l (status.Script rule index) run out = absurd out
   ran_written left old new l (status.Damaged v disk place) run out = absurd out
   ran_written left old new l (status.Down v) run out = absurd out
+  ran_written left old new l status.Checked run out = absurd out
+  ran_written left old new l (status.Wrong line) run out = absurd out
+  ran_written left old new l status.Long run out = absurd out
 
   -- a refused script, as a refusal of what the source gives
   pub refusal_by : (left : Option (List ℕ)) (read : List ℕ) (fault : ScriptFault) → IsTold program left read → IsFaultTo program read fault → HasKeptNothing kept → IsRefusal program views kept left (of_script fault)
@@ -169,3 +200,6 @@ out_is_told old new l status.Read out quiet = out
 out_is_told old new l (status.Script rule index) out quiet = out
 out_is_told old new l (status.Damaged v disk place) out quiet = out
 out_is_told old new l (status.Down v) out quiet = out
+out_is_told old new l status.Checked out quiet = out
+out_is_told old new l (status.Wrong line) out quiet = out
+out_is_told old new l status.Long out quiet = out

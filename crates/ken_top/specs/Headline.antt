@@ -1,5 +1,5 @@
 -- What a whole run of a program reads and writes, and what its world keeps.
-use Rattle.std.specs.Prelude.{◌≡◌, ◌≢◌, ◌≤◌, ◌⊎◌, ℕ, List, [], ◌∷◌, ◌++◌, Bool, false, Option, Some, None, ⊤, bytes_eq, codes}
+use Rattle.std.specs.Prelude.{◌≡◌, ◌≢◌, ◌≤◌, ◌⊎◌, ℕ, List, [], ◌∷◌, ◌++◌, Option, Some, None, ⊤}
 use Rattle.std.specs.Io.KnownBytes.{Appends}
 use Rattle.ken_model.specs.declared.reports.Ending.{Ending}
 use Rattle.ken_model.specs.declared.reports.Ending.TheVariants.{Settled, Cut}
@@ -10,6 +10,8 @@ use Rattle.ken_model.specs.Report.{report, text}
 use Rattle.ken_model.specs.Schedule.{IsLegal, play}
 use Rattle.ken_model.specs.Spelling.{spell}
 use Rattle.ken_model.specs.Restarts.{AreRestartsByNode}
+use Rattle.ken_check.specs.declared.verdict.Verdict.TheVariants.{Right}
+use Rattle.ken_check.specs.Judged.{IsJudged}
 use Rattle.ken_io.specs.Transfers.{AppendsFront}
 use Rattle.ken_script.specs.declared.scripts.Script.{Script}
 use Rattle.ken_store.specs.declared.disks.Disks.{Disks}
@@ -22,11 +24,6 @@ use Rattle.ken_top.specs.Programs.{Program, SaysTo, BreaksTo, handler_in, game_i
 use Rattle.ken_top.specs.declared.status.Status.{Status}
 use Rattle.ken_top.specs.declared.status.Status.TheVariants as status
 
--- the words are the program's name and `run`
-abbrev pub are_plain : List (List ℕ) → Bool
-are_plain (name ∷ word ∷ []) = bytes_eq word (codes "run")
-are_plain _ = false
-
 -- the bytes that a source gives, where it tells them
 abbrev pub AreTold : Option (List ℕ) → List ℕ → Type 0
 AreTold None b = ⊤
@@ -35,7 +32,7 @@ AreTold (Some xs) b = b ≡ xs
 module _ {D O U : Type 0} (program : Program) (views : Views D O U) (kept : ℕ → Option (Disks D × O × U)) where
   -- w is the report of a failure-free run of what b says. The run is the one that w spells: its schedule is legal, its turns, heaps and
   -- ending are those of playing the schedule, its emissions are legal and stand node by node, and so do its restarts, which are of nodes of
-  -- the run; and the devices that are kept show it
+  -- the run; the devices that are kept show it; and each line is right, as a check judges them
   pub record IsReport (b : List ℕ) (ending : Ending) (w : List ℕ) : Type 0 where
     pub script : Script
     pub says : SaysTo program b script
@@ -46,6 +43,7 @@ module _ {D O U : Type 0} (program : Program) (views : Views D O U) (kept : ℕ 
     pub restarts : AreRestartsByNode script.facts.nodes 0 (spell w).restarts
     pub ends : Ends (game_in program script) (play (game_in program script) (spell w).schedule) (spell w).emissions ending
     pub keeps : KeepsRun views (game_in program script) (terms_of views.scripted script) (spell w).schedule (spell w).emissions (spell w).restarts kept
+    pub right : IsJudged (game_in program script) script.restarts w Right
 
   -- w is a front of such a report
   pub record IsFront (b w : List ℕ) : Type 0 where
@@ -71,6 +69,9 @@ module _ {D O U : Type 0} (program : Program) (views : Views D O U) (kept : ℕ 
   Wrote b w status.Read = (w ≡ []) × HasKeptNothing kept
   Wrote b w status.Write = IsFront b w
   Wrote b w status.Memory = ((w ≡ []) × HasKeptNothing kept) ⊎ IsFront b w
+  Wrote b w status.Checked = ⊥
+  Wrote b w (status.Wrong line) = ⊥
+  Wrote b w status.Long = ⊥
 
   -- what a run of the program had to read, what it wrote, and what its world kept
   pub record Ran (left took_old took_new : Option (List ℕ)) (status : Status) : Type 0 where
@@ -99,6 +100,9 @@ module _ {D O U : Type 0} (program : Program) (views : Views D O U) (kept : ℕ 
   IsRefusal left (status.Damaged v disk place) = ⊥
   IsRefusal left status.Usage = ⊥
   IsRefusal left status.Write = ⊥
+  IsRefusal left status.Checked = ⊥
+  IsRefusal left (status.Wrong line) = ⊥
+  IsRefusal left status.Long = ⊥
 
 -- what was read says a script that lets node v go down
 pub record IsLetDown (program : Program) (left : Option (List ℕ)) (v : ℕ) : Type 0 where
@@ -124,6 +128,9 @@ IsQuiet status.Settled = ⊥
 IsQuiet status.Cut = ⊥
 IsQuiet status.Write = ⊥
 IsQuiet status.Memory = ⊥
+IsQuiet status.Checked = ⊥
+IsQuiet (status.Wrong line) = ⊤
+IsQuiet status.Long = ⊤
 
 -- a status with which a run has ended, or memory was short
 abbrev pub IsEnd : Status → Type 0

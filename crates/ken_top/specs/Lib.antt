@@ -1,3 +1,5 @@
 pub mod Programs
+pub mod Commands
 pub mod Headline
+pub mod Checked
 pub mod Statuses

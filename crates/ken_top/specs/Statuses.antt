@@ -11,7 +11,7 @@ use Rattle.ken_report.specs.declared.faults.ReportFault.TheVariants as printing
 use Rattle.ken_script.specs.declared.faults.ScriptFault.{ScriptFault}
 use Rattle.ken_script.specs.declared.faults.ScriptFault.TheVariants as script
 use Rattle.ken_top.specs.declared.status.Status.{Status}
-use Rattle.ken_top.specs.declared.status.Status.TheVariants.{Settled, Usage, Script, Cut, Damaged, Down, Read, Write, Memory}
+use Rattle.ken_top.specs.declared.status.Status.TheVariants.{Settled, Usage, Script, Cut, Damaged, Down, Read, Write, Memory, Checked, Wrong, Long}
 
 abbrev pub exit_code_of : Status → ℕ
 exit_code_of Settled = 0
@@ -23,6 +23,9 @@ exit_code_of (Down node) = 5
 exit_code_of Read = 6
 exit_code_of Write = 7
 exit_code_of Memory = 8
+exit_code_of Checked = 0
+exit_code_of (Wrong line) = 9
+exit_code_of Long = 10
 
 -- what is said on standard error
 abbrev pub text_of : Status → List ℕ
@@ -35,6 +38,9 @@ text_of (Down node) = codes "ken: node " ++ decimal node ++ codes " is down"
 text_of Read = codes "ken: read failed"
 text_of Write = codes "ken: write failed"
 text_of Memory = codes "ken: out of memory"
+text_of Checked = []
+text_of (Wrong line) = codes "ken: line " ++ decimal line ++ codes " is wrong"
+text_of Long = codes "ken: input too long"
 
 abbrev pub of_reading : ReadFault → Status
 of_reading reading.Failed = Read

@@ -1,11 +1,14 @@
 //! The top calls: a script is read, run over the devices of a world with the handler of its kind or with one of one's own, and
-//! its report written.
+//! its report written; or a report is checked.
 #![tactic(auto)]
 
+mod checking;
+mod command;
 mod service;
 mod status;
 mod top;
 
+pub use checking::MOST_INPUT;
 pub use service::serve;
 pub use status::Status;
 pub use top::ken;

@@ -6,12 +6,12 @@ use ken_report::ReportFault;
 use ken_script::ScriptFault;
 use std::fmt;
 
-/// How the program ends. It prints as the text for standard error, which is empty for `Settled`.
+/// How the program ends. It prints as the text for standard error, which is empty for `Settled` and `Checked`.
 #[derive(Clone, Copy, Debug, PartialEq, Eq)]
 pub enum Status {
     /// The run is settled, and its report is written.
     Settled,
-    /// The command line isn't `run` alone. Nothing was read or written.
+    /// The command line is neither `run` alone nor `check` and a length. Nothing was read or written.
     Usage,
     /// The script breaks this rule and none before it, first at this index from 0. Nothing was written.
     Script { rule: u8, index: u64 },
@@ -24,10 +24,16 @@ pub enum Status {
     Down { node: u8 },
     /// The source failed. Nothing was written.
     Read,
-    /// The sink failed. A front of the report is out.
+    /// The sink failed. A front of the report, or of `yes`, is out.
     Write,
     /// There wasn't memory enough. Nothing is out, or a front of the report.
     Memory,
+    /// The report is right, and `yes` is written.
+    Checked,
+    /// This line of the report, counted from 1, is the first that is wrong. Nothing was written.
+    Wrong { line: u64 },
+    /// There are more bytes to check than 268,435,456. Nothing was written.
+    Long,
 }
 
 impl Status {
@@ -48,6 +54,9 @@ impl Status {
             Status::Read => 6,
             Status::Write => 7,
             Status::Memory => 8,
+            Status::Checked => 0,
+            Status::Wrong { .. } => 9,
+            Status::Long => 10,
         }
     }
 }
@@ -60,7 +69,7 @@ impl fmt::Display for Status {
 
     fn fmt<W: fmt::Write>(&self, f: &mut fmt::Formatter<W>) -> fmt::Result {
         match self {
-            Status::Settled => Ok(()),
+            Status::Settled | Status::Checked => Ok(()),
             Status::Usage => write!(f, "ken: usage"),
             Status::Script { rule, index } => write!(f, "ken: script: rule S{rule} at {index}"),
             Status::Cut => write!(f, "ken: cut"),
@@ -71,6 +80,8 @@ impl fmt::Display for Status {
             Status::Read => write!(f, "ken: read failed"),
             Status::Write => write!(f, "ken: write failed"),
             Status::Memory => write!(f, "ken: out of memory"),
+            Status::Wrong { line } => write!(f, "ken: line {line} is wrong"),
+            Status::Long => write!(f, "ken: input too long"),
         }
     }
 }

@@ -1,12 +1,17 @@
 // The top call.
-ghost use Rattle.std.specs.Prelude.{◌≡◌, ◌≢◌, ◌↔◌, ◌+◌, ◌≤◌, true, false, map, string_bytes, IfOk, IfErr, IsErrOf};
+ghost use Rattle.std.specs.Prelude.{◌≡◌, ◌≢◌, ◌↔◌, ◌+◌, ◌≤◌, ℕ, true, map, string_bytes, Some, None, IfOk, IfErr, IsErrOf};
 ghost use Rattle.ken_io.specs.Causes.{Rose};
 ghost use Rattle.ken_io.specs.Transfers.{TakesAtMost};
 ghost use Rattle.ken_drive.specs.Clauses.{views_of};
 ghost use Rattle.ken_drive.specs.Worlds.{HasKeptNothing};
-ghost use Rattle.ken_top.specs.Headline.{are_plain, Ran, HasCauses, IsQuiet, IsComplete, IsLet, IsRunOfSource, IsRefusal, IsOut};
+ghost use Rattle.ken_top.specs.Headline.{Ran, HasCauses, IsQuiet, IsComplete, IsLet, IsRunOfSource, IsRefusal, IsOut};
+ghost use Rattle.ken_top.specs.Checked.{Checks};
+ghost use Rattle.ken_top.specs.Commands.{command_of, most_read};
+ghost use Rattle.ken_top.specs.declared.command.Command.TheVariants.{Run, Check};
 ghost use Rattle.ken_top.specs.Programs.{kinds};
 
+use crate::checking::checked;
+use crate::command::{Command, command_in};
 use crate::status::Status;
 use ken_drive::{World, drive_kind};
 use ken_io::{Sink, Source, read_all};
@@ -15,8 +20,9 @@ use ken_report::print;
 use ken_script::LIMIT;
 use std::alloc::Global;
 
-/// Does what the program does: reads a script, runs it over the world's devices, and writes its report. `words` begins with the
-/// program's name.
+/// Does what the program does. `words` begins with the program's name. With `run` it reads a script, runs it over the world's devices, and
+/// writes its report. With `check` and a length it reads a script of so many bytes and a report behind it, and writes `yes` where the
+/// report is one that a run of the script prints.
 ///
 /// Whatever the status, a call waits for nobody and returns. `Memory` comes where memory is wanted, and else as each
 /// status says. The world keeps the devices of a run that has ended, or of which a node is down, before anything is written.
@@ -29,36 +35,54 @@ pub fn ken<R, S: Source, K: Sink, W: World>(
     world: &mut W,
 ) -> Status
     requires { HasKeptNothing (W.kept world.old) }
-    ensures usage { (result ≡ Status.Usage) ↔ (are_plain (map string_bytes words.now) ≡ false) }
-    ensures runs { Ran kinds (views_of W.Dev.Disk W.Luck.Oracle W.Out.Outlet W.scripted)
+    ensures usage { (result ≡ Status.Usage) ↔ (command_of (map string_bytes words.now) ≡ None) }
+    ensures runs { command_of (map string_bytes words.now) ≡ Some Run
+        → Ran kinds (views_of W.Dev.Disk W.Luck.Oracle W.Out.Outlet W.scripted)
         (W.kept world.new) (S.left source.old) (K.took sink.old) (K.took sink.new) result }
+    ensures checks { (size : ℕ) → command_of (map string_bytes words.now) ≡ Some (Check size)
+        → Checks size (S.left source.old) (K.took sink.old) (K.took sink.new) result }
     ensures down { W.scripted ≡ true → IsLet kinds (S.left source.old) result }
-    ensures complete { are_plain (map string_bytes words.now) ≡ true
+    ensures complete { command_of (map string_bytes words.now) ≡ Some Run
         → W.scripted ≡ true
         → (Rose (S.faults source.old) (S.faults source.new) → ⊥)
         → (Rose (K.faults sink.old) (K.faults sink.new) → ⊥)
         → IsComplete kinds (S.left source.old) result }
     ensures causes { HasCauses (S.faults source.old) (S.faults source.new) (K.faults sink.old) (K.faults sink.new) result }
-    ensures taken { TakesAtMost (LIMIT + 1) (S.left source.old) (S.left source.new) }
+    ensures taken { TakesAtMost (most_read (command_of (map string_bytes words.now)) + 1) (S.left source.old) (S.left source.new) }
     ensures unread { result ≡ Status.Usage → source.new ≡ source.old }
     ensures unwritten { IsQuiet result → sink.new ≡ sink.old }
+    ensures unused { command_of (map string_bytes words.now) ≢ Some Run → world.new ≡ world.old }
 {
-    if !is_plain(words) {
-        return Status::Usage;
-    }
-    match run(alloc, source, world) {
-        Ok(lines) => written(alloc, sink, &lines),
-        Err(status) => status,
+    match command_in(words) {
+        Some(Command::Run) => ran(alloc, source, sink, world),
+        Some(Command::Check { length }) => checked(alloc, length, source, sink),
+        None => Status::Usage,
     }
 }
 
-/// Whether the words are the program's name and `run`.
-fn is_plain(words: &[String]) -> bool
-    ensures { result ≡ are_plain (map string_bytes words.now) }
+/// Reads a script, runs it, and writes its report.
+fn ran<S: Source, K: Sink, W: World>(
+    alloc: Global,
+    source: &mut S,
+    sink: &mut K,
+    world: &mut W,
+) -> Status
+    requires { HasKeptNothing (W.kept world.old) }
+    ensures plain { result ≢ Status.Usage }
+    ensures runs { Ran kinds (views_of W.Dev.Disk W.Luck.Oracle W.Out.Outlet W.scripted)
+        (W.kept world.new) (S.left source.old) (K.took sink.old) (K.took sink.new) result }
+    ensures down { W.scripted ≡ true → IsLet kinds (S.left source.old) result }
+    ensures complete { W.scripted ≡ true
+        → (Rose (S.faults source.old) (S.faults source.new) → ⊥)
+        → (Rose (K.faults sink.old) (K.faults sink.new) → ⊥)
+        → IsComplete kinds (S.left source.old) result }
+    ensures causes { HasCauses (S.faults source.old) (S.faults source.new) (K.faults sink.old) (K.faults sink.new) result }
+    ensures taken { TakesAtMost (LIMIT + 1) (S.left source.old) (S.left source.new) }
+    ensures unwritten { IsQuiet result → sink.new ≡ sink.old }
 {
-    match words {
-        [_, word] => word.as_str() == "run",
-        _ => false,
+    match run(alloc, source, world) {
+        Ok(lines) => written(alloc, sink, &lines),
+        Err(status) => status,
     }
 }
 

@@ -6,6 +6,8 @@ mod abstract_run;
 #[cfg(test)]
 mod calls;
 #[cfg(test)]
+mod checked;
+#[cfg(test)]
 mod cuts;
 #[cfg(test)]
 mod faults;

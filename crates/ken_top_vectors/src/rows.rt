@@ -321,6 +321,9 @@ fn a_status_has_a_text_and_an_exit_code(rt: HostRuntime) -> Result<(), Fail> {
         (Status::Read, 6, "ken: read failed"),
         (Status::Write, 7, "ken: write failed"),
         (Status::Memory, 8, "ken: out of memory"),
+        (Status::Checked, 0, ""),
+        (Status::Wrong { line: 3 }, 9, "ken: line 3 is wrong"),
+        (Status::Long, 10, "ken: input too long"),
     ];
     for (status, code, text) in cases {
         assert_eq!(rt; status.exit_code(), code, "{status:?}");

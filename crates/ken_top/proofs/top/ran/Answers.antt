@@ -1,13 +1,9 @@
 use Rattle.std.proofs.Common.{Err, refl, sym, ap, subst}
 use Rattle.ken_top.specs.Headline.{IsQuiet}
 use Rattle.ken_top.proofs.Complete.{complete_written, complete_refused, let_written}
-use Rattle.ken_top.proofs.Reported.{ran_quietly, ran_refused, ran_written, out_is_told}
+use Rattle.ken_top.proofs.Reported.{ran_refused, ran_written, out_is_told}
 use Rattle.ken_top.specs.Programs.{kinds}
-use Rattle.ken_top.proofs.top.ken.Goals as goal
-
-pub returns-then-not-is_plain-clause-runs : goal.returns-then-not-is_plain-clause-runs
-returns-then-not-is_plain-clause-runs g c =
-    ran_quietly _ _ _ (g.S.Source.left c.args.source.now) (g.K.Sink.took c.args.sink.now) _ (λ b. (refl, c.requires))
+use Rattle.ken_top.proofs.top.ran.Goals as goal
 
 pub returns-in-Ok-clause-runs : goal.returns-in-Ok-clause-runs
 returns-in-Ok-clause-runs g c =
@@ -17,7 +13,7 @@ pub returns-in-Ok-clause-down : goal.returns-in-Ok-clause-down
 returns-in-Ok-clause-down g c = λ scripted. let_written kinds (g.S.Source.left c.args.source.now) (g.K.Sink.took c.args.sink.now) (g.K.Sink.took c.written.new.sink) c.in-Ok.lines c.written.result c.written.ensures.out
 
 pub returns-in-Ok-clause-complete : goal.returns-in-Ok-clause-complete
-returns-in-Ok-clause-complete g c = λ plain scripted unread unwritten. complete_written kinds (g.S.Source.left c.args.source.now) (g.K.Sink.took c.args.sink.now) (g.K.Sink.took c.written.new.sink) c.in-Ok.lines c.written.result _ c.written.ensures.out c.written.ensures.write unwritten
+returns-in-Ok-clause-complete g c = λ scripted unread unwritten. complete_written kinds (g.S.Source.left c.args.source.now) (g.K.Sink.took c.args.sink.now) (g.K.Sink.took c.written.new.sink) c.in-Ok.lines c.written.result _ c.written.ensures.out c.written.ensures.write unwritten
 
 pub returns-in-Ok-clause-causes : goal.returns-in-Ok-clause-causes
 returns-in-Ok-clause-causes g c = record {
@@ -37,5 +33,5 @@ returns-in-Err-clause-runs g c =
     ran_refused _ _ _ (g.S.Source.left c.args.source.now) (g.K.Sink.took c.args.sink.now) c.in-Err.status c.in-Err.ensures.refused
 
 pub returns-in-Err-clause-complete : goal.returns-in-Err-clause-complete
-returns-in-Err-clause-complete g c = λ plain scripted unread unwritten.
+returns-in-Err-clause-complete g c = λ scripted unread unwritten.
     complete_refused _ _ _ (g.S.Source.left c.args.source.now) c.in-Err.status _ c.in-Err.ensures.refused (c.in-Err.ensures.lets scripted) (λ is. c.in-Err.ensures.read (ap Err is)) unread
