@@ -1,0 +1,9 @@
+pub mod Seats
+pub mod Steps
+pub mod On
+pub mod Puts
+pub mod Accounts
+pub mod Calm
+pub mod GoingOn
+pub mod Beside
+pub mod Failing

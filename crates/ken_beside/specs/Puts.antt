@@ -1,0 +1,27 @@
+-- What two workers put side by side.
+use Rattle.std.specs.Prelude.{ℕ, List, [], ◌∷◌, map}
+use Rattle.ken_packet.specs.Packets.{ack_bytes}
+use Rattle.ken_net.specs.Puts.{Put, handing}
+use Rattle.ken_core.specs.Packets.{Packet, Mail, Answer}
+use Rattle.ken_core.specs.Packets as core
+use Rattle.ken_ship.specs.Sending.{mail_put}
+use Rattle.ken_node.specs.NodeCalls.{AreSpelled}
+
+-- two lists were brought into one, each in its own order
+pub data Shuffled {A : Type 0} : List A → List A → List A → Type 0 where
+  none : Shuffled [] [] []
+  first : {x : A} {xs ys all : List A} → Shuffled xs ys all → Shuffled (x ∷ xs) ys (x ∷ all)
+  second : {y : A} {xs ys all : List A} → Shuffled xs ys all → Shuffled xs (y ∷ ys) (y ∷ all)
+
+-- a packet as it is put on a network: it alone is handed in
+abbrev pub put_of : Packet → Put
+put_of (Mail m) = mail_put m
+put_of (Answer a) = handing a.to [] ((a.to, a.through) ∷ []) (ack_bytes a.from a.to a.through)
+
+abbrev pub puts_of : List core.Put → List Put
+puts_of ps = map (λ (p : core.Put). put_of p.packet) ps
+
+-- a network was given just these to put, in order
+pub record WerePut (nodes : ℕ) (put : List Put → Type 0) (ps : List core.Put) : Type 0 where
+  pub were_put : put (puts_of ps)
+  pub spelled : AreSpelled nodes (puts_of ps) ps

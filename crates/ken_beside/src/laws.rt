@@ -1,0 +1,71 @@
+// What a node's workers make side by side. Each law is the contract of a function that does nothing.
+ghost use Rattle.ken_model.specs.Handler.{Handler};
+ghost use Rattle.ken_beside.specs.Accounts.{NoDiskFails, OneDiskFails};
+ghost use Rattle.ken_beside.specs.Beside.{RunIsOver, SideBySide};
+ghost use Rattle.ken_beside.specs.Calm.{CalmEmitsInOrder};
+ghost use Rattle.ken_beside.specs.Failing.{FailureBeside};
+ghost use Rattle.ken_beside.specs.GoingOn.{HandlerGoesOn, PatcherGoesOn, SenderGoesOn};
+ghost use Rattle.ken_beside.specs.On.{MeetingIsUp, UpIsOnAlways};
+
+use crate::taking::Taking;
+use ken_app::Oracle;
+use ken_disk::Disk;
+use ken_net::Net;
+use ken_ship::Outlet;
+
+/// The steps that a node's three workers made side by side, where each knows only its own, are a run of events of the node, and leave
+/// workers that stand for the node after it.
+pub fn steps_side_by_side<D: Disk, N: Net, O: Oracle, U: Outlet>()
+    ensures { SideBySide D.Disk N.Net O.Oracle U.Outlet }
+{}
+
+/// A run over packets is one over a kind that all of them are.
+pub fn a_run_is_over_more<T: Taking>()
+    ensures { RunIsOver T.takes }
+{}
+
+/// Events without a crash or a doubt emit what wasn't emitted before, in order, each output once.
+pub fn calm_events_emit_in_order<T: Taking>()
+    ensures { CalmEmitsInOrder T.takes }
+{}
+
+/// A call of the handler in which a disk failed comes after all steps of the others: the node that they lead to goes down at it, with a
+/// turnover or a seal in doubt.
+pub fn a_failed_turn_comes_last<D: Disk, N: Net, O: Oracle, U: Outlet>()
+    ensures { FailureBeside D.Disk N.Net O.Oracle U.Outlet }
+{}
+
+/// Where all calls of the handler and of the patcher ended well, no disk of the node failed.
+pub fn no_disk_failed<D: Disk, N: Net, O: Oracle>()
+    ensures { NoDiskFails D.Disk N.Net O.Oracle }
+{}
+
+/// In a call of the patcher that failed the image's disk did, and no other.
+pub fn one_disk_failed<D: Disk>()
+    ensures { OneDiskFails D.Disk }
+{}
+
+/// After a step a handler with a handler function that keeps the limits may make another, with a slot less at most in each ring.
+pub fn a_handler_goes_on<D: Disk, N: Net, O: Oracle>()
+    ensures { (h : Handler) → HandlerGoesOn D.Disk N.Net O.Oracle h }
+{}
+
+/// So may a patcher.
+pub fn a_patcher_goes_on<D: Disk>()
+    ensures { PatcherGoesOn D.Disk }
+{}
+
+/// And an externaliser.
+pub fn a_sender_goes_on<N: Net, U: Outlet>()
+    ensures { SenderGoesOn N.Net U.Outlet }
+{}
+
+/// A node that is up is on its way, with empty rings.
+pub fn up_is_on<D: Disk>()
+    ensures { UpIsOnAlways D.told D.size }
+{}
+
+/// A node on its way is up after a meeting that empties its rings.
+pub fn a_meeting_is_up<D: Disk>()
+    ensures { MeetingIsUp D.told D.size }
+{}

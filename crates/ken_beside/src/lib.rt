@@ -1,0 +1,12 @@
+//! What a node's three workers make side by side, as events of the node: laws, which nothing runs yet.
+#![tactic(auto)]
+
+mod laws;
+mod taking;
+
+pub use laws::{
+    a_failed_turn_comes_last, a_handler_goes_on, a_meeting_is_up, a_patcher_goes_on,
+    a_run_is_over_more, a_sender_goes_on, calm_events_emit_in_order, no_disk_failed,
+    one_disk_failed, steps_side_by_side, up_is_on,
+};
+pub use taking::Taking;
