@@ -1,0 +1,89 @@
+-- A call of the handler that failed, after all that the other two made.
+use Rattle.std.proofs.Common.{◌≡◌, ℕ, List, [], ◌++◌, Option, Err, ⊎_elim, sym, ap, subst, ◌∙◌}
+use Rattle.ken_disk.specs.declared.disk.Disk as disk
+use Rattle.ken_disk.specs.Fates.{Fate}
+use Rattle.ken_disk.specs.Story.{Story}
+use Rattle.ken_app.specs.declared.oracle.Oracle as oracle
+use Rattle.ken_model.specs.Handler.{Handler}
+use Rattle.ken_net.specs.declared.net.Net as net
+use Rattle.ken_net.specs.Puts.{Put}
+use Rattle.ken_links.specs.Rings.{pushed, popped}
+use Rattle.ken_store.specs.declared.turning.TurnSide.{TurnSide}
+use Rattle.ken_store.specs.Apart.{disks_apart}
+use Rattle.ken_ship.specs.declared.faults.NodeFault.TheVariants.{Disk}
+use Rattle.ken_ship.specs.declared.outlet.Outlet as outlet
+use Rattle.ken_ship.specs.declared.worker.SendWorker.{SendWorker}
+use Rattle.ken_node.specs.declared.patcher.PatchWorker.{PatchWorker}
+use Rattle.ken_node.specs.declared.worker.TurnWorker.{TurnWorker}
+use Rattle.ken_node.specs.Calls.{IsTurnInDoubt, IsTurnoverInDoubt, TakesTurn}
+use Rattle.ken_node.specs.Down.{AreTold}
+use Rattle.ken_node.specs.Meeting.{AreFronts}
+use Rattle.ken_node.specs.Restarts.{OneHasFailed}
+use Rattle.ken_node.specs.TurnLaws.{Drew}
+use Rattle.ken_node.proofs.TurnDisks.{disk-failed}
+use Rattle.ken_node.proofs.TurnDown.{turn_goes_down}
+use Rattle.ken_weave.proofs.Lists.{front_then}
+use Rattle.ken_beside.specs.Failing.{FailureBeside}
+use Rattle.ken_beside.specs.Seats.{Handling}
+use Rattle.ken_beside.specs.Steps.{TurnsOnce}
+use Rattle.ken_beside.proofs.FailingSynced.{failed-synced}
+use Rattle.ken_beside.proofs.Together.{side_by_side}
+
+-- it pushed nothing, and popped no more news
+record IsStill {D : Type 0} (old new : TurnWorker D) : Type 0 where
+  pages : pushed new.pages ≡ pushed old.pages
+  sealed : pushed new.sealed ≡ pushed old.sealed
+  settled : new.settled ≡ old.settled
+  progress : new.progress ≡ old.progress
+
+module _ {D : Type 0} (told : D → Option Story) (size count : D → ℕ) (fate : D → Option Fate) (h : Handler) (drew : List ℕ → Type 0) (gave : List (List ℕ) → Type 0) (put : List Put → Type 0) (nones nones2 : ℕ) (old new : TurnWorker D) where
+  failed-still : TakesTurn told size count fate h drew (Err Disk) old new gave put nones nones2 → IsStill old new
+  failed-still takes =
+      ⊎_elim
+      (λ (is : IsTurnoverInDoubt told size count fate h drew old new gave put). record {
+        pages = ap (λ (w : TurnWorker D). pushed w.pages) is.rest;
+        sealed = ap (λ (w : TurnWorker D). pushed w.sealed) is.rest;
+        settled = ap (λ (w : TurnWorker D). w.settled) is.rest;
+        progress = ap (λ (w : TurnWorker D). w.progress) is.rest;
+      })
+      (λ (is : IsTurnInDoubt told size count fate h drew old new gave put nones nones2). record {
+        pages = ap (λ (w : TurnWorker D). pushed w.pages) is.doubt.quiet.rest ∙ ap (λ (w : TurnWorker D). pushed w.pages) is.came.rest;
+        sealed = ap (λ (w : TurnWorker D). pushed w.sealed) is.doubt.quiet.rest ∙ ap (λ (w : TurnWorker D). pushed w.sealed) is.came.rest;
+        settled = ap (λ (w : TurnWorker D). w.settled) is.doubt.quiet.rest ∙ ap (λ (w : TurnWorker D). w.settled) is.came.rest;
+        progress = ap (λ (w : TurnWorker D). w.progress) is.doubt.quiet.rest ∙ ap (λ (w : TurnWorker D). w.progress) is.came.rest;
+      })
+      takes
+
+module _ {D N O U : Type 0} (d : disk.Ghosts D) (e : net.Ghosts N) (o : oracle.Ghosts O) (u : outlet.Ghosts U)
+    (put_still : (a : N) → e.put_between a a []) (put_joins : (a b c : N) (ps qs : List Put) → e.put_between a b ps → e.put_between b c qs → e.put_between a c (ps ++ qs))
+    (given_still : (a : N) → e.given_between a a []) (given_joins : (a b c : N) (xs ys : List (List ℕ)) → e.given_between a b xs → e.given_between b c ys → e.given_between a c (xs ++ ys)) where
+  -- before the call only what was pushed had left the rings
+  fronts-before : (h : Handler) (t t2 : Handling D N O) (p : PatchWorker D) (s : SendWorker) → TurnsOnce d e o h (Err Disk) t t2 → AreFronts t2.worker p s → AreFronts t.worker p s
+  fronts-before h t t2 p s is fronts =
+      let still = failed-still d.told d.size d.faults d.fate h (Drew o.telling.clocks o.telling.words h t.oracle t2.oracle) (e.given_between t.net t2.net) (e.put_between t.net t2.net) (e.nones t.net) (e.nones t2.net) is.mid t2.worker is.takes in
+      let rest = is.hears.rest in
+      record {
+        pages = (fronts.pages.0, sym (still.pages ∙ ap (λ (w : TurnWorker D). pushed w.pages) rest) ∙ fronts.pages.1);
+        sealed = (fronts.sealed.0, sym (still.sealed ∙ ap (λ (w : TurnWorker D). pushed w.sealed) rest) ∙ fronts.sealed.1);
+        settled = front_then (popped t.worker.settled) (popped t2.worker.settled) (pushed p.settled) (is.hears.settled.items, ap popped still.settled ∙ is.hears.settled.popped_are) fronts.settled;
+        progress = front_then (popped t.worker.progress) (popped t2.worker.progress) (pushed s.told) (is.hears.progress.items, ap popped still.progress ∙ is.hears.progress.popped_are) fronts.progress;
+      }
+
+  pub failure_beside : FailureBeside d e o u
+  failure_beside g v n t t2 t3 p p2 s s2 ts ps ss on by_t call by_p by_s fronts =
+      let drew : List ℕ → Type 0 = Drew o.telling.clocks o.telling.words g.handler t2.oracle t3.oracle in
+      let ran = side_by_side d e o u put_still put_joins given_still given_joins g v n t t2 p p2 s s2 ts ps ss on by_t by_p by_s (fronts-before g.handler t2 t3 p2 s2.worker call fronts) in
+      let heard : AreTold d.told (disks_apart call.mid.side p2.side) = subst (λ (x : TurnSide D). AreTold d.told (disks_apart x p2.side)) (sym (ap (λ (w : TurnWorker D). w.side) call.hears.rest)) ran.on.tell in
+      let fell = disk-failed d.told d.size d.faults d.fate g.handler drew (e.given_between t2.net t3.net) (e.put_between t2.net t3.net) (e.nones t2.net) (e.nones t3.net) p2.side.image.disk call.mid t3.worker call.takes in
+      let tell : AreTold d.told (disks_apart t3.worker.side p2.side) = fell.0 heard in
+      record {
+        ran = ran;
+        down =
+            turn_goes_down d.told d.size d.faults d.fate o.telling.clocks o.telling.words e.given_between e.put_between g v ran.after t2.worker call.mid t3.worker p2 s2.worker t2.oracle t3.oracle t2.net t3.net (e.nones t2.net) (e.nones t3.net)
+            ran.on.limits ran.on.known ran.on.whole call.same call.hears call.takes fronts tell;
+        failed =
+            subst (λ (x : TurnSide D). OneHasFailed d.told d.faults d.fate (disks_apart x p2.side) (disks_apart t3.worker.side p2.side)) (ap (λ (w : TurnWorker D). w.side) call.hears.rest) fell.1;
+        synced = λ before.
+            failed-synced d.told d.size d.faults d.fate o.telling.clocks o.telling.words e.given_between e.put_between g v ran.after t2.worker call.mid t3.worker p2 s2.worker ran.on call.same call.hears fronts
+            t2.oracle t3.oracle t2.net t3.net (e.nones t2.net) (e.nones t3.net) (ran.synced before) call.takes;
+      }
