@@ -1,6 +1,7 @@
 pub mod Lists
 pub mod Numbered
 pub mod Over
+pub mod HandedIn
 pub mod Taken
 pub mod Disks
 pub mod Given

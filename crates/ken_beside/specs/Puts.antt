@@ -1,9 +1,12 @@
 -- What two workers put side by side.
 use Rattle.std.specs.Prelude.{ℕ, List, [], ◌∷◌, map}
+use Rattle.std.specs.List.{Contains}
+use Rattle.ken_model.specs.declared.messages.Message.{Message}
 use Rattle.ken_packet.specs.Packets.{ack_bytes}
 use Rattle.ken_net.specs.Puts.{Put, handing}
 use Rattle.ken_core.specs.Packets.{Packet, Mail, Answer}
 use Rattle.ken_core.specs.Packets as core
+use Rattle.ken_core.specs.Runs.{IsPut}
 use Rattle.ken_ship.specs.Sending.{mail_put}
 use Rattle.ken_node.specs.NodeCalls.{AreSpelled}
 
@@ -25,3 +28,19 @@ puts_of ps = map (λ (p : core.Put). put_of p.packet) ps
 pub record WerePut (nodes : ℕ) (put : List Put → Type 0) (ps : List core.Put) : Type 0 where
   pub were_put : put (puts_of ps)
   pub spelled : AreSpelled nodes (puts_of ps) ps
+
+-- what is handed in with these puts stands for packets that are among them
+pub record HandInThemselves (ps : List core.Put) : Type 0 where
+  pub mail : (p : Put) (m : Message) → Contains (puts_of ps) p → Contains p.sealed m → IsPut (Mail m) ps
+  pub answer : (p : Put) (to through : ℕ) → Contains (puts_of ps) p → Contains p.consumed (to, through) → (from : ℕ) × IsPut (Answer (record { from = from; to = to; through = through })) ps
+
+abbrev pub PutsHandInThemselves : Type 0
+PutsHandInThemselves = (ps : List core.Put) → HandInThemselves ps
+
+-- and what is put by one of two is among what both put
+pub record AreAmong (xs ys all : List core.Put) : Type 0 where
+  pub left : (packet : Packet) → IsPut packet xs → IsPut packet all
+  pub right : (packet : Packet) → IsPut packet ys → IsPut packet all
+
+abbrev pub ShuffledAreAmong : Type 0
+ShuffledAreAmong = (xs ys all : List core.Put) → Shuffled xs ys all → AreAmong xs ys all

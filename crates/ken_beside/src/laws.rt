@@ -5,6 +5,7 @@ ghost use Rattle.ken_beside.specs.Beside.{RunIsOver, SideBySide};
 ghost use Rattle.ken_beside.specs.Calm.{CalmEmitsInOrder};
 ghost use Rattle.ken_beside.specs.Failing.{FailureBeside};
 ghost use Rattle.ken_beside.specs.GoingOn.{HandlerGoesOn, PatcherGoesOn, SenderGoesOn};
+ghost use Rattle.ken_beside.specs.Puts.{PutsHandInThemselves, ShuffledAreAmong};
 ghost use Rattle.ken_beside.specs.On.{MeetingIsUp, UpIsOnAlways};
 
 use crate::taking::Taking;
@@ -17,6 +18,12 @@ use ken_ship::Outlet;
 /// workers that stand for the node after it.
 pub fn steps_side_by_side<D: Disk, N: Net, O: Oracle, U: Outlet>()
     ensures { SideBySide D.Disk N.Net O.Oracle U.Outlet }
+{}
+
+/// What is handed in with the puts of a node stands for packets that are among them; and those of one of its workers are among all.
+pub fn puts_hand_in_themselves()
+    ensures handed { PutsHandInThemselves }
+    ensures among { ShuffledAreAmong }
 {}
 
 /// A run over packets is one over a kind that all of them are.
