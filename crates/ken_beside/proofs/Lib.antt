@@ -15,5 +15,6 @@ pub mod Accounts
 pub mod On
 pub mod GoingOn
 pub mod Together
+pub mod Rounds
 pub mod FailingSynced
 pub mod Failing

@@ -6,4 +6,5 @@ pub mod Accounts
 pub mod Calm
 pub mod GoingOn
 pub mod Beside
+pub mod Rounds
 pub mod Failing

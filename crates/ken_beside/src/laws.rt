@@ -7,6 +7,7 @@ ghost use Rattle.ken_beside.specs.Failing.{FailureBeside};
 ghost use Rattle.ken_beside.specs.GoingOn.{HandlerGoesOn, PatcherGoesOn, SenderGoesOn};
 ghost use Rattle.ken_beside.specs.Puts.{PutsHandInThemselves, ShuffledAreAmong};
 ghost use Rattle.ken_beside.specs.On.{MeetingIsUp, UpIsOnAlways};
+ghost use Rattle.ken_beside.specs.Rounds.{RoundsKeepGroup};
 
 use crate::taking::Taking;
 use ken_app::Oracle;
@@ -29,6 +30,12 @@ pub fn puts_hand_in_themselves()
 /// A run over packets is one over a kind that all of them are.
 pub fn a_run_is_over_more<T: Taking>()
     ensures { RunIsOver T.takes }
+{}
+
+/// Where all nodes ran at once, and each packet that one was given was put before or by some run, the group of all is in accord, and
+/// all that its nodes put was put.
+pub fn rounds_keep_group()
+    ensures { RoundsKeepGroup }
 {}
 
 /// Events without a crash or a doubt emit what wasn't emitted before, in order, each output once.
