@@ -1,10 +1,9 @@
 -- The events of calls are calm, and calm runs emit in order.
-use Rattle.std.proofs.Common.{◌≡◌, ℕ, zero, suc, ◌+◌, ◌<◌, ◌==◌, if◌then◌else◌, List, [], ◌∷◌, ◌++◌, length, map, slice_get, Bool, true, false, Option, Some, None, refl, sym, ap, subst, ◌∙◌, arith, append-nil}
+use Rattle.std.proofs.Common.{◌≡◌, ℕ, zero, suc, ◌+◌, ◌<◌, ◌==◌, if◌then◌else◌, List, [], ◌∷◌, ◌++◌, length, map, slice_get, Bool, true, false, Option, Some, None, refl, sym, ap, subst, ◌∙◌, arith}
 use Rattle.std.specs.List.{AllByRecursion, flat_map, range_with_len}
 use Rattle.std.proofs.lemmas.Grind.{flat_map-append}
 use Rattle.ken_model.specs.declared.messages.Out.{Out}
 use Rattle.ken_model.specs.Game.{Game}
-use Rattle.ken_model.specs.History.{IsPrefixOf}
 use Rattle.ken_model.specs.Network.{outside}
 use Rattle.ken_record.specs.declared.effects.Effects.{Effects}
 use Rattle.ken_core.specs.declared.events.Event.{Event}
@@ -15,8 +14,9 @@ use Rattle.ken_core.specs.Nodes.{Node}
 use Rattle.ken_core.specs.Packets.{Packet, Outgoing, due, emitted_out, mail_out, one_after_other, outgoing, unacked}
 use Rattle.ken_core.specs.Runs.{NodeRun}
 use Rattle.ken_core.specs.Steps.{NodeStep, emitted_node}
-use Rattle.ken_core.specs.Turns.{effects_of, outs_of}
-use Rattle.ken_core.proofs.Sent.{front-longer, slice_get-append}
+use Rattle.ken_core.specs.Turns.{outs_of}
+use Rattle.ken_core.proofs.Sent.{slice_get-append}
+use Rattle.ken_flow.proofs.Puts.{Grows, run_grows}
 use Rattle.ken_ship.specs.Laws.{TakeThese}
 use Rattle.ken_beside.specs.Calm.{CalmEmitsInOrder, EmitsInOrder, IsCalm}
 
@@ -89,34 +89,7 @@ emit-calm v es is = subst AreCalm (sym is) (tt, tt)
 
 -- ---- what a calm run emits
 
--- a node has its turns still, and maybe more after them
-abbrev Grows : Node → Node → Type 0
-Grows n n2 = IsPrefixOf n.turning.turns n2.turning.turns
-
-same-grows : (n n2 : Node) → n2.turning.turns ≡ n.turning.turns → Grows n n2
-same-grows n n2 same = ([], same ∙ sym (append-nil n.turning.turns))
-
 module _ (g : Game) (put : Packet → Type 0) (v : ℕ) where
-  step-grows : (n n2 : Node) (e : Event) → NodeStep g put v n e n2 → IsCalm e → Grows n n2
-  step-grows n n2 (Seal node from draws pages) step calm = (effects_of v n.turning.turns step.0 ∷ [], ap (λ (m : Node). m.turning.turns) step.1.1)
-  step-grows n n2 (SealCut node from draws pages landed) step calm = absurd calm
-  step-grows n n2 (Patch node page) step calm = same-grows n n2 (ap (λ (m : Node). m.turning.turns) step.1.1.1.2)
-  step-grows n n2 (SyncImage node) step calm = same-grows n n2 (ap (λ (m : Node). m.turning.turns) step.1)
-  step-grows n n2 (Turnover node Whole told) step calm = same-grows n n2 (ap (λ (m : Node). m.turning.turns) step.1)
-  step-grows n n2 (Turnover node Landed told) step calm = absurd calm
-  step-grows n n2 (Turnover node Lost told) step calm = absurd calm
-  step-grows n n2 (Send node to i) step calm = same-grows n n2 (ap (λ (m : Node). m.turning.turns) step.1.3)
-  step-grows n n2 (Ack node from) step calm = same-grows n n2 (ap (λ (m : Node). m.turning.turns) step.3)
-  step-grows n n2 (TakeAck node from through) step calm = same-grows n n2 (ap (λ (m : Node). m.turning.turns) step.3)
-  step-grows n n2 (Emit node) step calm = same-grows n n2 (ap (λ (m : Node). m.turning.turns) step.1.2)
-  step-grows n n2 (Crash node pages) step calm = absurd calm
-  step-grows n n2 (Recover node) step calm = absurd calm
-
-  run_grows : (n : Node) (es : List Event) (out : Outgoing) (n2 : Node) → NodeRun g put v n es out n2 → AreCalm es → Grows n n2
-  run_grows n [] out n2 run calm = same-grows n n2 (ap (λ (m : Node). m.turning.turns) run.1)
-  run_grows n (e ∷ es) out n2 run calm =
-      front-longer n.turning.turns run.0.turning.turns n2.turning.turns (step-grows n run.0 e run.1.1.1 calm.0) (run_grows run.0 es run.1.0 n2 run.1.1.3 calm.1)
-
   emits-none : (n mid : Node) → mid.sending.emitted ≡ n.sending.emitted → (out : Outgoing) → out.outs ≡ [] → (later : Outgoing) (n2 : Node) → EmitsInOrder mid later n2 → EmitsInOrder n (one_after_other out later) n2
   emits-none n mid same out none later n2 is =
       let outs : out.outs ++ later.outs ≡ later.outs = ap (λ (os : List Out). os ++ later.outs) none in
@@ -181,7 +154,7 @@ module _ (g : Game) (put : Packet → Type 0) (v : ℕ) where
   }
   run-emits n (e ∷ es) out n2 run calm =
       subst (λ (x : Outgoing). EmitsInOrder n x n2) (sym run.1.1.2)
-      (step-emits n run.0 e run.1.0 n2 run.1.1.1 calm.0 (run_grows run.0 es run.1.0 n2 run.1.1.3 calm.1) (run-emits run.0 es run.1.0 n2 run.1.1.3 calm.1))
+      (step-emits n run.0 e run.1.0 n2 run.1.1.1 calm.0 (run_grows g put v run.0 es run.1.0 n2 run.1.1.3) (run-emits run.0 es run.1.0 n2 run.1.1.3 calm.1))
 
 pub calm_emits_in_order : (put : Packet → Type 0) → CalmEmitsInOrder put
 calm_emits_in_order put g v n es out n2 run calm = run-emits g put v n es out n2 run calm

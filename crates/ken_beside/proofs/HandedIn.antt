@@ -1,5 +1,5 @@
 -- What is handed in with puts, and puts that were brought into one list.
-use Rattle.std.proofs.Common.{◌≡◌, ℕ, ◌<◌, List, [], ◌∷◌, ◌++◌, inl, inr, ⊎_elim, refl, sym, ap, subst, arith, Contains}
+use Rattle.std.proofs.Common.{◌≡◌, ℕ, List, [], ◌∷◌, ⊎_elim, refl, sym, subst, arith, Contains}
 use Rattle.std.specs.List.{AllByRecursion}
 use Rattle.std.proofs.lemmas.List.Elements.{All-contains, All-from_recursion, Contains-append_cases, Contains-append_right}
 use Rattle.ken_model.specs.declared.messages.Message.{Message}
@@ -8,7 +8,7 @@ use Rattle.ken_core.specs.Packets.{Packet, Mail, Answer}
 use Rattle.ken_core.specs.Packets as core
 use Rattle.ken_core.specs.Runs.{IsPut}
 use Rattle.ken_node.proofs.Again.{none-in, one-in}
-use Rattle.ken_beside.specs.Puts.{AreAmong, PutsHandInThemselves, Shuffled, ShuffledAreAmong, none, first, second, put_of, puts_of}
+use Rattle.ken_beside.specs.Puts.{PutsHandInThemselves, ShuffledAreAmong, none, first, second, put_of, puts_of}
 
 -- ---- the elements of a list
 

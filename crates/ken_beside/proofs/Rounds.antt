@@ -1,12 +1,10 @@
 -- Runs of all nodes at once, each over packets that some run put, keep the group in accord.
-use Rattle.std.proofs.Common.{◌≡◌, ℕ, ◌<◌, ◌≤◌, ◌⊎◌, List, [], ◌++◌, if◌then◌else◌, IsTrue, Contains, refl, sym, subst, ⊎_elim, arith, append-nil, eq-eqb, ne_eqb}
+use Rattle.std.proofs.Common.{◌≡◌, ℕ, ◌<◌, ◌⊎◌, List, [], IsTrue, Contains, refl, sym, subst, ⊎_elim, arith, append-nil, eq-eqb, ne_eqb}
 use Rattle.std.proofs.lemmas.Bool.{cases_eq}
 use Rattle.std.proofs.lemmas.List.Elements.{All-contains, All-contains_itself, All-weaker}
-use Rattle.std.specs.List.{All, AllByRecursion}
+use Rattle.std.specs.List.{All}
 use Rattle.ken_model.specs.declared.reports.Emission.{Emission}
-use Rattle.ken_model.specs.Emissions.{emitted_by}
 use Rattle.ken_model.specs.Game.{Game}
-use Rattle.ken_core.specs.declared.events.Event.{Event}
 use Rattle.ken_core.specs.Accord.{Accord}
 use Rattle.ken_core.specs.Clusters.{WasPut}
 use Rattle.ken_core.specs.Nodes.{Node}
