@@ -1,5 +1,6 @@
 -- A call of the handler that failed, after all that the other two made.
-use Rattle.std.proofs.Common.{◌≡◌, ℕ, List, [], ◌++◌, Option, Err, ⊎_elim, sym, ap, subst, ◌∙◌}
+use Rattle.std.proofs.Common.{◌≡◌, ℕ, ◌^◌, ◌<◌, ◌≤◌, List, [], ◌++◌, length, Option, Err, ⊎_elim, refl, sym, ap, subst, ◌∙◌, arith}
+use Rattle.std.specs.List.{Contains}
 use Rattle.ken_disk.specs.declared.disk.Disk as disk
 use Rattle.ken_disk.specs.Fates.{Fate}
 use Rattle.ken_disk.specs.Story.{Story}
@@ -8,25 +9,37 @@ use Rattle.ken_model.specs.Handler.{Handler}
 use Rattle.ken_net.specs.declared.net.Net as net
 use Rattle.ken_net.specs.Puts.{Put}
 use Rattle.ken_links.specs.Rings.{pushed, popped}
+use Rattle.ken_record.specs.declared.effects.Effects.{Effects}
+use Rattle.ken_core.specs.Calls.{seal, turnover}
+use Rattle.ken_core.specs.Packets.{Outgoing, nothing, one_after_other}
 use Rattle.ken_store.specs.declared.turning.TurnSide.{TurnSide}
 use Rattle.ken_store.specs.Apart.{disks_apart}
 use Rattle.ken_ship.specs.declared.faults.NodeFault.TheVariants.{Disk}
 use Rattle.ken_ship.specs.declared.outlet.Outlet as outlet
 use Rattle.ken_ship.specs.declared.worker.SendWorker.{SendWorker}
+use Rattle.ken_ship.specs.Laws.{packets_from}
 use Rattle.ken_node.specs.declared.patcher.PatchWorker.{PatchWorker}
 use Rattle.ken_node.specs.declared.worker.TurnWorker.{TurnWorker}
 use Rattle.ken_node.specs.Calls.{IsTurnInDoubt, IsTurnoverInDoubt, TakesTurn}
+use Rattle.ken_node.specs.Capped.{IsCapped}
 use Rattle.ken_node.specs.Down.{AreTold}
+use Rattle.ken_node.specs.DownLaws.{SealIsDown, TurnoverIsDown}
 use Rattle.ken_node.specs.Meeting.{AreFronts}
 use Rattle.ken_node.specs.Restarts.{OneHasFailed}
-use Rattle.ken_node.specs.TurnLaws.{Drew}
+use Rattle.ken_node.specs.Sealing.{coming_pages, is_full}
+use Rattle.ken_node.specs.Synced.{LeavesSynced}
+use Rattle.ken_node.specs.TurnLaws.{Drew, acks_out, told_of}
+use Rattle.ken_node.proofs.Quietly.{idle_keeps_turns}
 use Rattle.ken_node.proofs.TurnDisks.{disk-failed}
 use Rattle.ken_node.proofs.TurnDown.{turn_goes_down}
 use Rattle.ken_weave.proofs.Lists.{front_then}
 use Rattle.ken_beside.specs.Failing.{FailureBeside}
 use Rattle.ken_beside.specs.Seats.{Handling}
 use Rattle.ken_beside.specs.Steps.{TurnsOnce}
+use Rattle.ken_beside.proofs.Calm.{idle-calm}
+use Rattle.ken_beside.proofs.Counted.{few-turns, order-counts}
 use Rattle.ken_beside.proofs.FailingSynced.{failed-synced}
+use Rattle.ken_beside.proofs.Spelled.{handler-put, none-put}
 use Rattle.ken_beside.proofs.Together.{side_by_side}
 
 -- it pushed nothing, and popped no more news
@@ -54,6 +67,14 @@ module _ {D : Type 0} (told : D → Option Story) (size count : D → ℕ) (fate
       })
       takes
 
+  -- no turn was kept, and more may be made
+  doubt-turns : TakesTurn told size count fate h drew (Err Disk) old new gave put nones nones2 → (new.turns.items ≡ old.turns.items) × (IsCapped old → ⊥)
+  doubt-turns takes =
+      ⊎_elim
+      (λ (is : IsTurnoverInDoubt told size count fate h drew old new gave put). (ap (λ (w : TurnWorker D). w.turns.items) is.rest, is.open_yet))
+      (λ (is : IsTurnInDoubt told size count fate h drew old new gave put nones nones2). (is.doubt.quiet.turns ∙ ap (λ (w : TurnWorker D). w.turns.items) is.came.rest, is.came.open_yet))
+      takes
+
 module _ {D N O U : Type 0} (d : disk.Ghosts D) (e : net.Ghosts N) (o : oracle.Ghosts O) (u : outlet.Ghosts U)
     (put_still : (a : N) → e.put_between a a []) (put_joins : (a b c : N) (ps qs : List Put) → e.put_between a b ps → e.put_between b c qs → e.put_between a c (ps ++ qs))
     (given_still : (a : N) → e.given_between a a []) (given_joins : (a b c : N) (xs ys : List (List ℕ)) → e.given_between a b xs → e.given_between b c ys → e.given_between a c (xs ++ ys)) where
@@ -76,14 +97,61 @@ module _ {D N O U : Type 0} (d : disk.Ghosts D) (e : net.Ghosts N) (o : oracle.G
       let heard : AreTold d.told (disks_apart call.mid.side p2.side) = subst (λ (x : TurnSide D). AreTold d.told (disks_apart x p2.side)) (sym (ap (λ (w : TurnWorker D). w.side) call.hears.rest)) ran.on.tell in
       let fell = disk-failed d.told d.size d.faults d.fate g.handler drew (e.given_between t2.net t3.net) (e.put_between t2.net t3.net) (e.nones t2.net) (e.nones t3.net) p2.side.image.disk call.mid t3.worker call.takes in
       let tell : AreTold d.told (disks_apart t3.worker.side p2.side) = fell.0 heard in
+      let failed : OneHasFailed d.told d.faults d.fate (disks_apart t2.worker.side p2.side) (disks_apart t3.worker.side p2.side) =
+      subst (λ (x : TurnSide D). OneHasFailed d.told d.faults d.fate (disks_apart x p2.side) (disks_apart t3.worker.side p2.side)) (ap (λ (w : TurnWorker D). w.side) call.hears.rest) fell.1 in
+      let synced : LeavesSynced d.told d.faults g v (disks_apart t.worker.side p.side) → LeavesSynced d.told d.faults g v (disks_apart t3.worker.side p2.side) =
+      λ before.
+      failed-synced d.told d.size d.faults d.fate o.telling.clocks o.telling.words e.given_between e.put_between g v ran.after t2.worker call.mid t3.worker p2 s2.worker ran.on call.same call.hears fronts
+      t2.oracle t3.oracle t2.net t3.net (e.nones t2.net) (e.nones t3.net) (ran.synced before) call.takes in
+      ⊎_elim
+      (λ (is : TurnoverIsDown d.told d.size g v ran.after (e.given_between t2.net t3.net) (e.put_between t2.net t3.net) call.mid t3.worker p2 s2.worker). record {
+        ran = ran;
+        gave = [];
+        given = is.doubts.was_given;
+        events = [];
+        out = nothing;
+        after = ran.after;
+        run = (refl, refl);
+        calm = tt;
+        turns = refl;
+        puts = none-put g.nodes (e.put_between t2.net t3.net) is.doubts.was_put;
+        outs = refl;
+        doubt = turnover (told_of g call.mid);
+        drew = tt;
+        down = is.down [];
+        failed = failed;
+        synced = synced;
+      })
+      (λ (is : SealIsDown d.told d.size d.faults d.fate drew g v ran.after (e.given_between t2.net t3.net) (e.put_between t2.net t3.net) t2.worker t3.worker p2 s2.worker).
+      let lead = is.doubts.before in
+      let last : TurnWorker D = is.doubts.mid in
+      let whole = ran.on.whole in
+      let kept = doubt-turns d.told d.size d.faults d.fate g.handler drew (e.given_between t2.net t3.net) (e.put_between t2.net t3.net) (e.nones t2.net) (e.nones t3.net) call.mid t3.worker call.takes in
+      let low = few-turns d.told d.size g v ran.after t2.worker call.mid p2 s2.worker whole call.hears kept.1 in
+      let heard : call.mid.turns.items ≡ t2.worker.turns.items = ap (λ (w : TurnWorker D). w.turns.items) call.hears.rest in
+      let same : length last.turns.items ≡ length t2.worker.turns.items = ap length (sym is.doubts.doubt.quiet.turns ∙ kept.0 ∙ heard) in
+      let few : g.nodes ≤ 8 = let most = t2.worker.few in let nodes = whole.workers.of_run.nodes in omega (arith, most, nodes) in
+      let out : Outgoing = one_after_other (acks_out v ran.after lead.before) (acks_out v lead.after lead.last) in
       record {
         ran = ran;
-        down =
-            turn_goes_down d.told d.size d.faults d.fate o.telling.clocks o.telling.words e.given_between e.put_between g v ran.after t2.worker call.mid t3.worker p2 s2.worker t2.oracle t3.oracle t2.net t3.net (e.nones t2.net) (e.nones t3.net)
-            ran.on.limits ran.on.known ran.on.whole call.same call.hears call.takes fronts tell;
-        failed =
-            subst (λ (x : TurnSide D). OneHasFailed d.told d.faults d.fate (disks_apart x p2.side) (disks_apart t3.worker.side p2.side)) (ap (λ (w : TurnWorker D). w.side) call.hears.rest) fell.1;
-        synced = λ before.
-            failed-synced d.told d.size d.faults d.fate o.telling.clocks o.telling.words e.given_between e.put_between g v ran.after t2.worker call.mid t3.worker p2 s2.worker ran.on call.same call.hears fronts
-            t2.oracle t3.oracle t2.net t3.net (e.nones t2.net) (e.nones t3.net) (ran.synced before) call.takes;
-      }
+        gave = lead.given;
+        given = lead.was_given;
+        events = lead.call.events;
+        out = out;
+        after = lead.after;
+        run = lead.call.run;
+        calm = idle-calm v (is_full t2.worker.side) lead.call.events lead.call.which;
+        turns = idle_keeps_turns g v (packets_from g.nodes lead.given) ran.after lead.after out (is_full t2.worker.side) lead.call;
+        puts =
+            handler-put g (Contains (packets_from g.nodes lead.given)) v ran.after lead.after lead.call.events lead.before lead.last t2.worker.order last.order (e.put_between t2.net t3.net) few ran.on.known
+            (order-counts d.told d.size g v ran.after t2.worker p2 s2.worker whole) (order-counts d.told d.size g v lead.after last p2 s2.worker lead.whole)
+            (subst (λ (ts : List Effects). length ts < 2 ^ 64) whole.workers.turns.kept (omega (arith, low))) (subst (λ (ts : List Effects). length ts < 2 ^ 64) lead.whole.workers.turns.kept (omega (arith, low, same))) lead.call.run lead.was_put;
+        outs = refl;
+        doubt = seal is.doubts.message.from is.doubts.doubt.effects.draws (coming_pages is.doubts.doubt.begun);
+        drew = is.doubts.doubt.drawn;
+        down = is.down;
+        failed = failed;
+        synced = synced;
+      })
+      (turn_goes_down d.told d.size d.faults d.fate o.telling.clocks o.telling.words e.given_between e.put_between g v ran.after t2.worker call.mid t3.worker p2 s2.worker t2.oracle t3.oracle t2.net t3.net (e.nones t2.net) (e.nones t3.net)
+      ran.on.limits ran.on.known ran.on.whole call.same call.hears call.takes fronts tell)

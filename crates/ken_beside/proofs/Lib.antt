@@ -10,6 +10,7 @@ pub mod Patched
 pub mod Sent
 pub mod Spelled
 pub mod Calm
+pub mod Counted
 pub mod SoFar
 pub mod Accounts
 pub mod On

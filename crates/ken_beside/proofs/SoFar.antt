@@ -1,7 +1,6 @@
 -- What a node's workers made so far, in one order of their steps: each step goes on from it.
-use Rattle.std.proofs.Common.{◌≡◌, ℕ, ◌+◌, ◌^◌, ◌<◌, ◌≤◌, List, [], ◌∷◌, ◌++◌, length, map, slice_index, take, true, false, Option, Some, None, Ok, Err, IsSome, inl, inr, ⊎_elim, refl, sym, ap, subst, ◌∙◌, append-nil, append_assoc, arith}
+use Rattle.std.proofs.Common.{◌≡◌, ℕ, ◌+◌, ◌^◌, ◌<◌, ◌≤◌, List, [], ◌∷◌, ◌++◌, length, map, take, true, false, Option, Some, None, Ok, Err, IsSome, inl, inr, ⊎_elim, refl, sym, ap, subst, ◌∙◌, append-nil, append_assoc, arith}
 use Rattle.std.specs.List.{Contains, range_with_len}
-use Rattle.std.proofs.lemmas.Bool.{cases_lt}
 use Rattle.std.proofs.lemmas.List.{length_push, map-append}
 use Rattle.ken_disk.specs.declared.disk.Disk as disk
 use Rattle.ken_disk.specs.Story.{Tells}
@@ -13,7 +12,6 @@ use Rattle.ken_model.specs.Game.{Game}
 use Rattle.ken_net.specs.declared.net.Net as net
 use Rattle.ken_net.specs.Puts.{Put}
 use Rattle.ken_links.specs.Rings.{nones}
-use Rattle.ken_order.specs.Consumed.{Consumed, consumed_from, place}
 use Rattle.ken_record.specs.declared.effects.Effects.{Effects}
 use Rattle.ken_core.specs.declared.events.Event.{Event}
 use Rattle.ken_core.specs.Calls.{IsIdle, IsNone, IsPatchOf, IsSync, IsTurn}
@@ -22,13 +20,11 @@ use Rattle.ken_core.specs.Nodes.{Node}
 use Rattle.ken_core.specs.Packets.{Packet, Outgoing, nothing, one_after_other}
 use Rattle.ken_core.specs.Packets as core
 use Rattle.ken_core.specs.Runs.{NodeRun}
-use Rattle.ken_core.specs.Turns.{consumed_from as count_from}
 use Rattle.ken_ship.specs.declared.emit.Emit.{Emit}
 use Rattle.ken_ship.specs.declared.emit.Emit.TheVariants.{Done, Refused, Nothing}
 use Rattle.ken_store.specs.declared.faults.StoreFault.TheVariants as store
 use Rattle.ken_ship.specs.declared.faults.NodeFault.TheVariants.{Outlet}
 use Rattle.ken_ship.specs.declared.outlet.Outlet as outlet
-use Rattle.ken_ship.specs.declared.worker.SendWorker.{SendWorker}
 use Rattle.ken_ship.specs.Fits.{AreMails}
 use Rattle.ken_ship.specs.Laws.{mails_out, packets_from}
 use Rattle.ken_ship.specs.Outlets.{also_took}
@@ -40,14 +36,11 @@ use Rattle.ken_node.specs.declared.took.Took.{Took}
 use Rattle.ken_node.specs.declared.took.Took.TheVariants.{Turn, Idle, Capped}
 use Rattle.ken_node.specs.declared.worker.TurnWorker.{TurnWorker}
 use Rattle.ken_node.specs.Calls.{TakesTurn}
-use Rattle.ken_node.specs.Capped.{IsCapped}
-use Rattle.ken_node.specs.Capped as caps
 use Rattle.ken_node.specs.Meeting.{AreFronts}
 use Rattle.ken_node.specs.Sealing.{is_full}
 use Rattle.ken_node.specs.TurnLaws.{Drew, HandlerLeadsTo, TookBy, acks_out}
 use Rattle.ken_node.specs.Whole.{IsWhole}
 use Rattle.ken_node.specs.WholeLaws.{LeadsTo}
-use Rattle.ken_node.specs.Workers.{HearsNews}
 use Rattle.ken_node.proofs.AcksWhole.{acks_keep_whole}
 use Rattle.ken_node.proofs.EmissionsWhole.{emission_keeps_whole}
 use Rattle.ken_node.proofs.PatchesWhole.{patch_keeps_whole, sync_keeps_whole}
@@ -59,6 +52,7 @@ use Rattle.ken_beside.specs.Puts.{Shuffled, WerePut}
 use Rattle.ken_beside.specs.Seats.{Handling, Sending}
 use Rattle.ken_beside.specs.Steps.{HandlerStep, PatcherCall, PatcherFault, PatcherStep, SenderCall, EmitsOnce, SendsDue, TakesAcks, TurnsOnce, turns_once, patches_once, settles_once, patch_fails, sync_fails, sends_due, takes_acks, emits_once}
 use Rattle.ken_beside.proofs.Calm.{AreCalm, calm-append, emit-calm, idle-calm, none-calm, patch-calm, sends-calm, sync-calm, taken-calm, turn-calm}
+use Rattle.ken_beside.proofs.Counted.{few-turns, order-counts}
 use Rattle.ken_beside.proofs.Disks.{image-goes}
 use Rattle.ken_beside.proofs.Given.{handler-given, sender-given, step-given, taken, taken-just}
 use Rattle.ken_beside.proofs.Lists.{shuffled-first, shuffled-second}
@@ -175,21 +169,6 @@ module _ {D N O U : Type 0} (d : disk.Ghosts D) (e : net.Ghosts N) (o : oracle.G
 
   -- ---- the handler
 
-  -- what a handler that stands for a node has consumed is what the node counts
-  order-counts : (n1 : Node) (t : TurnWorker D) (p : PatchWorker D) (s : SendWorker) → IsWhole d.told d.size g v n1 t p s → (w : ℕ) → w < g.nodes → consumed_from t.order w ≡ count_from w n1.turning.turns
-  order-counts n1 t p s whole w low =
-      let most = t.few in
-      let nodes = whole.workers.of_run.nodes in
-      ap (λ (c : Consumed). slice_index c.consumed (place w)) whole.workers.working.order ∙ whole.workers.turns.counted.consumed w (inl (omega (arith, low, most, nodes)))
-
-  -- it may make a turn more
-  few-turns : (n1 : Node) (t mid : TurnWorker D) (p : PatchWorker D) (s : SendWorker) → IsWhole d.told d.size g v n1 t p s → HearsNews t mid → (IsCapped mid → ⊥) → length t.turns.items < 100000
-  few-turns n1 t mid p s whole news yet =
-      let count = whole.workers.working.count in
-      let most = mid.most in
-      let same : mid.side.numbers.turns ≡ t.side.numbers.turns = ap (λ (w : TurnWorker D). w.side.numbers.turns) news.rest in
-      ⊎_elim (λ (low : mid.side.numbers.turns < mid.cap). omega (arith, low, most, same, count)) (λ (high : mid.cap ≤ mid.side.numbers.turns). absurd (yet (caps.turns high))) (cases_lt mid.side.numbers.turns mid.cap)
-
   -- packets that a step was given are of the kind
   abbrev pub AreOfKind : List (List ℕ) → Type 0
   AreOfKind given = (packet : Packet) → Contains (packets_from g.nodes given) packet → kind packet
@@ -203,7 +182,7 @@ module _ {D N O U : Type 0} (d : disk.Ghosts D) (e : net.Ghosts N) (o : oracle.G
         handler-goes-on t p s so lead.call.events out lead.after
         (run-over g given kind (subst AreOfKind (sym lead.was_given) kinds) v so.after lead.after lead.call.events out lead.call.run) (calm lead.call.events lead.call.which) t2 refl lead.whole
         (handler-put g given v so.after lead.after lead.call.events lead.before lead.last t.worker.order t2.worker.order (e.put_between t.net t2.net) few known
-        (order-counts so.after t.worker p s.worker so.whole) (order-counts lead.after t2.worker p s.worker lead.whole)
+        (order-counts d.told d.size g v so.after t.worker p s.worker so.whole) (order-counts d.told d.size g v lead.after t2.worker p s.worker lead.whole)
         (subst (λ (ts : List Effects). length ts < 2 ^ 64) so.whole.workers.turns.kept short) (subst (λ (ts : List Effects). length ts < 2 ^ 64) lead.whole.workers.turns.kept short2) lead.call.run lead.was_put)
 
     abbrev drew : List ℕ → Type 0
@@ -224,13 +203,13 @@ module _ {D N O U : Type 0} (d : disk.Ghosts D) (e : net.Ghosts N) (o : oracle.G
 
     turned : (answer : Took) → (is : TurnsOnce d e o g.handler (Ok answer) t t2) → AreOfKind (its answer is) → SoFar t2 p s
     turned Turn is kinds =
-        let low = few-turns so.after t.worker is.mid p s.worker so.whole is.hears is.takes.came.open_yet in
+        let low = few-turns d.told d.size g v so.after t.worker is.mid p s.worker so.whole is.hears is.takes.came.open_yet in
         let more : length t2.worker.turns.items ≡ length t.worker.turns.items + 1 =
         ap length is.takes.ran.kept.turns ∙ length_push is.takes.mid.turns.items is.takes.ran.effects
         ∙ ap (λ (w : TurnWorker D). length w.turns.items + 1) is.takes.came.rest ∙ ap (λ (w : TurnWorker D). length w.turns.items + 1) is.hears.rest in
         led-on (its Turn is) kinds (IsTurn v (is_full t.worker.side)) (turn-calm v (is_full t.worker.side)) (led Turn is) (omega (arith, low)) (omega (arith, low, more))
     turned Idle is kinds =
-        let low = few-turns so.after t.worker is.mid p s.worker so.whole is.hears is.takes.came.open_yet in
+        let low = few-turns d.told d.size g v so.after t.worker is.mid p s.worker so.whole is.hears is.takes.came.open_yet in
         let more : length t2.worker.turns.items ≡ length t.worker.turns.items =
         ap (λ (w : TurnWorker D). length w.turns.items) is.takes.came.rest ∙ ap (λ (w : TurnWorker D). length w.turns.items) is.hears.rest in
         led-on (its Idle is) kinds (IsIdle v (is_full t.worker.side)) (idle-calm v (is_full t.worker.side)) (led Idle is) (omega (arith, low)) (omega (arith, low, more))
