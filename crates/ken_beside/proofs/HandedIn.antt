@@ -13,10 +13,10 @@ use Rattle.ken_beside.specs.Puts.{PutsHandInThemselves, ShuffledAreAmong, none, 
 -- ---- the elements of a list
 
 module _ {A : Type 0} where
-  at-head : (x : A) (xs : List A) → Contains (x ∷ xs) x
+  pub at-head : (x : A) (xs : List A) → Contains (x ∷ xs) x
   at-head x xs = (0, omega arith, refl)
 
-  in-tail : (x : A) (xs : List A) (y : A) → Contains xs y → Contains (x ∷ xs) y
+  pub in-tail : (x : A) (xs : List A) (y : A) → Contains xs y → Contains (x ∷ xs) y
   in-tail x xs y there = Contains-append_right (x ∷ []) xs y there
 
 -- ---- what is handed in

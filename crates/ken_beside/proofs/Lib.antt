@@ -17,5 +17,6 @@ pub mod On
 pub mod GoingOn
 pub mod Together
 pub mod Rounds
+pub mod Heard
 pub mod FailingSynced
 pub mod Failing

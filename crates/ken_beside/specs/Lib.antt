@@ -7,4 +7,5 @@ pub mod Calm
 pub mod GoingOn
 pub mod Beside
 pub mod Rounds
+pub mod Heard
 pub mod Failing

@@ -6,6 +6,7 @@ ghost use Rattle.ken_beside.specs.Calm.{CalmEmitsInOrder};
 ghost use Rattle.ken_beside.specs.Failing.{FailureBeside};
 ghost use Rattle.ken_beside.specs.GoingOn.{HandlerGoesOn, PatcherGoesOn, SenderGoesOn};
 ghost use Rattle.ken_beside.specs.Puts.{PutsHandInThemselves, ShuffledAreAmong};
+ghost use Rattle.ken_beside.specs.Heard.{HeardCome};
 ghost use Rattle.ken_beside.specs.On.{MeetingIsUp, UpIsOnAlways};
 ghost use Rattle.ken_beside.specs.Rounds.{RoundsKeepGroup};
 
@@ -36,6 +37,11 @@ pub fn a_run_is_over_more<T: Taking>()
 /// all that its nodes put was put.
 pub fn rounds_keep_group()
     ensures { RoundsKeepGroup }
+{}
+
+/// A packet that a node heard, and that stands in what another handed in for it, was put before or by that other's run.
+pub fn what_is_heard_comes()
+    ensures { HeardCome }
 {}
 
 /// Events without a crash or a doubt emit what wasn't emitted before, in order, each output once.
