@@ -1,17 +1,22 @@
 -- A call of the handler that failed, after all that the other two made.
 use Rattle.std.proofs.Common.{◌≡◌, ℕ, ◌^◌, ◌<◌, ◌≤◌, List, [], ◌++◌, length, Option, Err, ⊎_elim, refl, sym, ap, subst, ◌∙◌, arith}
 use Rattle.std.specs.List.{Contains}
+use Rattle.std.proofs.lemmas.List.Elements.{Contains-append_cases}
 use Rattle.ken_disk.specs.declared.disk.Disk as disk
 use Rattle.ken_disk.specs.Fates.{Fate}
 use Rattle.ken_disk.specs.Story.{Story}
 use Rattle.ken_app.specs.declared.oracle.Oracle as oracle
+use Rattle.ken_model.specs.Game.{Game}
 use Rattle.ken_model.specs.Handler.{Handler}
 use Rattle.ken_net.specs.declared.net.Net as net
 use Rattle.ken_net.specs.Puts.{Put}
 use Rattle.ken_links.specs.Rings.{pushed, popped}
 use Rattle.ken_record.specs.declared.effects.Effects.{Effects}
+use Rattle.ken_core.specs.declared.events.Event.{Event}
+use Rattle.ken_core.specs.Nodes.{Node}
+use Rattle.ken_core.specs.Runs.{NodeRun}
 use Rattle.ken_core.specs.Calls.{seal, turnover}
-use Rattle.ken_core.specs.Packets.{Outgoing, nothing, one_after_other}
+use Rattle.ken_core.specs.Packets.{Packet, Outgoing, nothing, one_after_other}
 use Rattle.ken_store.specs.declared.turning.TurnSide.{TurnSide}
 use Rattle.ken_store.specs.Apart.{disks_apart}
 use Rattle.ken_ship.specs.declared.faults.NodeFault.TheVariants.{Disk}
@@ -29,6 +34,7 @@ use Rattle.ken_node.specs.Restarts.{OneHasFailed}
 use Rattle.ken_node.specs.Sealing.{coming_pages, is_full}
 use Rattle.ken_node.specs.Synced.{LeavesSynced}
 use Rattle.ken_node.specs.TurnLaws.{Drew, acks_out, told_of}
+use Rattle.ken_node.proofs.Runs.{run-append}
 use Rattle.ken_node.proofs.Quietly.{idle_keeps_turns}
 use Rattle.ken_node.proofs.TurnDisks.{disk-failed}
 use Rattle.ken_node.proofs.TurnDown.{turn_goes_down}
@@ -39,6 +45,8 @@ use Rattle.ken_beside.specs.Steps.{TurnsOnce}
 use Rattle.ken_beside.proofs.Calm.{idle-calm}
 use Rattle.ken_beside.proofs.Counted.{few-turns, order-counts}
 use Rattle.ken_beside.proofs.FailingSynced.{failed-synced}
+use Rattle.ken_beside.proofs.Over.{run-over}
+use Rattle.ken_beside.proofs.Taken.{packets-append, packets-left, packets-right}
 use Rattle.ken_beside.proofs.Spelled.{handler-put, none-put}
 use Rattle.ken_beside.proofs.Together.{side_by_side}
 
@@ -74,6 +82,21 @@ module _ {D : Type 0} (told : D → Option Story) (size count : D → ℕ) (fate
       (λ (is : IsTurnoverInDoubt told size count fate h drew old new gave put). (ap (λ (w : TurnWorker D). w.turns.items) is.rest, is.open_yet))
       (λ (is : IsTurnInDoubt told size count fate h drew old new gave put nones nones2). (is.doubt.quiet.turns ∙ ap (λ (w : TurnWorker D). w.turns.items) is.came.rest, is.came.open_yet))
       takes
+
+-- two runs, as one over all that was given
+one-run : (g : Game) (v : ℕ) (n mid n2 : Node) (xs ys zs : List (List ℕ)) (es fs : List Event) (out more : Outgoing) → NodeRun g (Contains (packets_from g.nodes (xs ++ ys))) v n es out mid → NodeRun g (Contains (packets_from g.nodes zs)) v mid fs more n2
+    → NodeRun g (Contains (packets_from g.nodes ((xs ++ zs) ++ ys))) v n (es ++ fs) (one_after_other out more) n2
+one-run g v n mid n2 xs ys zs es fs out more before then =
+    let all : Packet → Type 0 = Contains (packets_from g.nodes ((xs ++ zs) ++ ys)) in
+    run-append g all v n mid n2 es fs out more
+    (run-over g (Contains (packets_from g.nodes (xs ++ ys))) all
+    (λ packet there.
+    ⊎_elim
+    (λ (left : Contains (packets_from g.nodes xs) packet). packets-left g.nodes (xs ++ zs) ys packet (packets-left g.nodes xs zs packet left))
+    (λ (right : Contains (packets_from g.nodes ys) packet). packets-right g.nodes (xs ++ zs) ys packet right)
+    (Contains-append_cases (packets_from g.nodes xs) (packets_from g.nodes ys) packet (subst (λ (ps : List Packet). Contains ps packet) (packets-append g.nodes xs ys) there)))
+    v n mid es out before)
+    (run-over g (Contains (packets_from g.nodes zs)) all (λ packet there. packets-left g.nodes (xs ++ zs) ys packet (packets-right g.nodes xs zs packet there)) v mid n2 fs more then)
 
 module _ {D N O U : Type 0} (d : disk.Ghosts D) (e : net.Ghosts N) (o : oracle.Ghosts O) (u : outlet.Ghosts U)
     (put_still : (a : N) → e.put_between a a []) (put_joins : (a b c : N) (ps qs : List Put) → e.put_between a b ps → e.put_between b c qs → e.put_between a c (ps ++ qs))
@@ -116,6 +139,7 @@ module _ {D N O U : Type 0} (d : disk.Ghosts D) (e : net.Ghosts N) (o : oracle.G
         turns = refl;
         puts = none-put g.nodes (e.put_between t2.net t3.net) is.doubts.was_put;
         outs = refl;
+        all_run = one-run g v n ran.after ran.after ran.handler_gave ran.sender_gave [] ran.events [] ran.out nothing ran.run (refl, refl);
         doubt = turnover (told_of g call.mid);
         drew = tt;
         down = is.down [];
@@ -147,6 +171,7 @@ module _ {D N O U : Type 0} (d : disk.Ghosts D) (e : net.Ghosts N) (o : oracle.G
             (order-counts d.told d.size g v ran.after t2.worker p2 s2.worker whole) (order-counts d.told d.size g v lead.after last p2 s2.worker lead.whole)
             (subst (λ (ts : List Effects). length ts < 2 ^ 64) whole.workers.turns.kept (omega (arith, low))) (subst (λ (ts : List Effects). length ts < 2 ^ 64) lead.whole.workers.turns.kept (omega (arith, low, same))) lead.call.run lead.was_put;
         outs = refl;
+        all_run = one-run g v n ran.after lead.after ran.handler_gave ran.sender_gave lead.given ran.events lead.call.events ran.out out ran.run lead.call.run;
         doubt = seal is.doubts.message.from is.doubts.doubt.effects.draws (coming_pages is.doubts.doubt.begun);
         drew = is.doubts.doubt.drawn;
         down = is.down;

@@ -1,5 +1,5 @@
 -- A packet that was heard, and stands in what a node handed in, was put before or comes from a run.
-use Rattle.std.proofs.Common.{◌≡◌, ℕ, ◌<◌, ◌≤◌, ◌⊎◌, Bool, true, false, cond, nat_lt, List, [], ◌∷◌, ◌++◌, Some, IsTrue, Contains, inl, inr, ⊎_elim, sym, subst, arith}
+use Rattle.std.proofs.Common.{◌≡◌, ℕ, ◌<◌, ◌≤◌, ◌⊎◌, Bool, true, false, cond, nat_lt, List, [], ◌∷◌, Some, IsTrue, Contains, inl, inr, ⊎_elim, sym, subst, arith}
 use Rattle.std.specs.List.{All}
 use Rattle.std.proofs.lemmas.List.Elements.{All-append, All-cons, All-nil}
 use Rattle.ken_model.specs.declared.messages.Message.{Message}

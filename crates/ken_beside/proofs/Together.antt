@@ -43,6 +43,10 @@ use Rattle.ken_beside.proofs.SoFar.{SoFar, handler-steps, patcher-steps, sender-
 use Rattle.ken_beside.proofs.Spelled.{none-put}
 use Rattle.ken_beside.proofs.Taken.{TookStep, all-given, given-all, packets-left, packets-right, took-all}
 
+-- a list that has more than another has it by whatever names they go
+turns-more : (after now before start more : List Effects) → now ≡ after → now ≡ before ++ more → before ≡ start → after ≡ start ++ more
+turns-more after now before start more kept grew was = sym kept ∙ grew ∙ ap (λ (ts : List Effects). ts ++ more) was
+
 -- ---- rules of a step are those of one of which more is known
 
 module _ {W K N : Type 0} (step narrow : W → W → Type 0) (plainly : (a b : W) → narrow a b → step a b) (ends : Ends W K N) where
@@ -223,7 +227,7 @@ module _ {D N O U : Type 0} (d : disk.Ghosts D) (e : net.Ghosts N) (o : oracle.G
           took = so.took;
           refusals = sent_on.refusals;
           turns = turned.turns;
-          sealed = sym so.whole.workers.turns.kept ∙ turned.sealed ∙ ap (λ (ts : List Effects). ts ++ turned.turns) whole.workers.turns.kept;
+          sealed = turns-more so.after.turning.turns t2.worker.turns.items t.worker.turns.items n.turning.turns turned.turns so.whole.workers.turns.kept turned.sealed whole.workers.turns.kept;
           drew = turned.drew;
           origin = turned.origin;
           synced = synced-still d e o g.handler g v n so.after t t2 p p2 s.worker s2.worker ts on by_t now;

@@ -1,5 +1,5 @@
 -- A handler whose last call failed: it comes after all that the other two made.
-use Rattle.std.specs.Prelude.{◌≡◌, ℕ, List, [], Err}
+use Rattle.std.specs.Prelude.{◌≡◌, ℕ, List, [], ◌++◌, Err}
 use Rattle.std.specs.List.{AllByRecursion, Contains}
 use Rattle.ken_disk.specs.declared.disk.Disk as disk
 use Rattle.ken_app.specs.declared.oracle.Oracle as oracle
@@ -8,7 +8,7 @@ use Rattle.ken_net.specs.declared.net.Net as net
 use Rattle.ken_core.specs.declared.events.Event.{Event}
 use Rattle.ken_core.specs.Calls.{Doubt, no_doubt, seal, turnover}
 use Rattle.ken_core.specs.Nodes.{Node}
-use Rattle.ken_core.specs.Packets.{Outgoing}
+use Rattle.ken_core.specs.Packets.{Outgoing, one_after_other}
 use Rattle.ken_core.specs.Runs.{NodeRun}
 use Rattle.ken_store.specs.Apart.{disks_apart}
 use Rattle.ken_ship.specs.declared.faults.NodeFault.TheVariants.{Disk}
@@ -50,6 +50,8 @@ module _ {D N O U : Type 0} (d : disk.Ghosts D) (e : net.Ghosts N) (o : oracle.G
     pub turns : after.turning.turns ≡ ran.after.turning.turns
     pub puts : WerePut g.nodes (e.put_between t2.net t3.net) out.puts
     pub outs : out.outs ≡ []
+    -- the two runs, as one over all that was given
+    pub all_run : NodeRun g (Contains (packets_from g.nodes ((ran.handler_gave ++ gave) ++ ran.sender_gave))) v n (ran.events ++ events) (one_after_other ran.out out) after
     pub doubt : Doubt
     pub drew : IsInDoubt (Drew o.telling.clocks o.telling.words g.handler t2.oracle t3.oracle) doubt
     pub down : IsDown d.told g v (packets_from g.nodes gave) after doubt (Created t3.worker p2 s2.worker)
