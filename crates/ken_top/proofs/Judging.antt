@@ -10,12 +10,12 @@ use Rattle.ken_script.specs.declared.faults.ScriptFault.TheVariants as script
 use Rattle.ken_script.specs.Faults.{IsFaultOf}
 use Rattle.ken_script.specs.Says.{Says}
 use Rattle.ken_check.specs.declared.verdict.Verdict.{Verdict}
-use Rattle.ken_check.specs.declared.verdict.Verdict.TheVariants.{Right, Wrong}
+use Rattle.ken_check.specs.declared.verdict.Verdict.TheVariants.{Right}
 use Rattle.ken_check.specs.Judged.{IsJudged}
 use Rattle.ken_top.specs.declared.checking.TheConstants.{MOST_INPUT}
 use Rattle.ken_top.specs.declared.status.Status.{Status}
 use Rattle.ken_top.specs.declared.status.Status.TheVariants as status
-use Rattle.ken_top.specs.Checked.{Checks, IsAffirmed, IsJudgedAs, IsJudgedOf, IsRefused}
+use Rattle.ken_top.specs.Checked.{Checks, IsAffirmed, IsJudgedOf, IsRefused}
 use Rattle.ken_top.specs.Headline.{AreTold}
 use Rattle.ken_top.specs.Statuses.{of_reading, of_script}
 

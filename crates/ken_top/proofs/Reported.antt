@@ -108,7 +108,7 @@ module _ {D O U : Type 0} (program : Program) (views : Views D O U) (kept : ℕ 
       let g = game_in program script in
       let often = restarts_so_far views g (terms_of views.scripted script) kept (steps_of l.turns) l.emissions l.restarts run.restarts keeps in
       subst (λ (b : List ℕ). IsJudged g script.restarts b Right) (sym (ap text run.lines))
-        (reports_are_right g script.restarts (steps_of l.turns) l.emissions l.restarts l.ending run.legal run.emissions run.by_node often run.ends (subst IsPrintable run.lines run.printable))
+      (reports_are_right g script.restarts (steps_of l.turns) l.emissions l.restarts l.ending run.legal run.emissions run.by_node often run.ends (subst IsPrintable run.lines run.printable))
 
   pub report_of-run : (b : List ℕ) (script : Script) (l : Lines) → SaysTo program b script → IsRunOf (game_in program script) l → KeepsRun views (game_in program script) (terms_of views.scripted script) (steps_of l.turns) l.emissions l.restarts kept → IsReport program views kept b l.ending (text l)
   report_of-run b script l says run keeps =

@@ -1,5 +1,5 @@
 -- What `ken check` answers: whether a report is right for its script, or which is its first wrong line.
-use Rattle.std.specs.Prelude.{◌≡◌, ◌⊎◌, ℕ, ◌<◌, ◌≤◌, List, [], ◌∷◌, ◌++◌, length, take, drop, Option, codes}
+use Rattle.std.specs.Prelude.{◌≡◌, ℕ, ◌<◌, ◌≤◌, List, [], ◌∷◌, ◌++◌, length, take, drop, Option, codes}
 use Rattle.std.specs.Io.KnownBytes.{Appends}
 use Rattle.ken_io.specs.Transfers.{AppendsFront}
 use Rattle.ken_model.specs.Game.{game_of}

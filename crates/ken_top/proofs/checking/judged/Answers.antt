@@ -25,7 +25,7 @@ pub returns-in-Ok-clause-judged : goal.returns-in-Ok-clause-judged
 returns-in-Ok-clause-judged g c =
     let few = subst (λ (b : List ℕ). length b ≤ MOST_INPUT) c.as_slice.ensures c.if-as_slice-gt-MOST_INPUT.false in
     judged_of c.args.length (g.S.Source.left c.args.source.now) c.in_ok-bytes.bytes c.parted.result.0.now c.parted.result.1.now c.in_ok-script.script c.in-Ok.verdict c.in_ok-bytes.ensures.bytes few
-      (c.parted.ensures.script ∙ ap (take c.args.length) c.as_slice-2.ensures) (c.parted.ensures.report ∙ ap (drop c.args.length) c.as_slice-2.ensures) c.in_ok-script.ensures.says c.in-Ok.ensures
+    (c.parted.ensures.script ∙ ap (take c.args.length) c.as_slice-2.ensures) (c.parted.ensures.report ∙ ap (drop c.args.length) c.as_slice-2.ensures) c.in_ok-script.ensures.says c.in-Ok.ensures
 
 pub returns-clause-refused : goal.returns-clause-refused
 returns-clause-refused g c = memory_refused c.args.length (g.S.Source.left c.args.source.now)

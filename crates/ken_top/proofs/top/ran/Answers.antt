@@ -1,4 +1,4 @@
-use Rattle.std.proofs.Common.{Err, refl, sym, ap, subst}
+use Rattle.std.proofs.Common.{Err, sym, ap, subst}
 use Rattle.ken_top.specs.Headline.{IsQuiet}
 use Rattle.ken_top.proofs.Complete.{complete_written, complete_refused, let_written}
 use Rattle.ken_top.proofs.Reported.{ran_refused, ran_written, out_is_told}
