@@ -1,5 +1,6 @@
 -- Passes one after the other.
-use Rattle.std.proofs.Common.{arith, ◌≡◌, ◌∙◌, ◌<◌, ap, sym, inl, inr, length, slice_index_or, Some, None, [], ℕ, List, Bool, true, false, Option, Result, Ok, Err, refl, subst}
+use Rattle.std.proofs.Common.{arith, ◌≡◌, ◌∙◌, ◌<◌, ap, sym, inl, inr, length, slice_index_or, Some, None, [], ◌∷◌, ◌++◌, ℕ, List, Bool, true, false, Option, Result, Ok, Err, refl, subst}
+use Rattle.std.specs.List.{AllByRecursion}
 use Rattle.std.specs.Result.{IsErrAnd}
 use Rattle.ken_disk.specs.Story.{Story}
 use Rattle.ken_model.specs.declared.messages.Out.{Out}
@@ -12,18 +13,25 @@ use Rattle.ken_drive.specs.declared.run.Run.{Run}
 use Rattle.ken_drive.specs.Drained.{DrainsTo, HasDrained, HasNotEnded, PassesOn, PassesTo, none, then}
 use Rattle.ken_drive.specs.declared.station.Station.{Station}
 use Rattle.ken_disk.specs.Story.{Follows, IsAtRest, Tells}
-use Rattle.ken_node.specs.Stages.{image_told}
-use Rattle.ken_drive.specs.Patched.{AllVisited, HasItsImage, HaveImages, IsPatched, WasVisited}
+use Rattle.ken_node.specs.Stages.{image_told, turns_in}
+use Rattle.ken_drive.specs.Patched.{AllVisited, HasGoneOn, HasItsImage, HaveImages, IsPatched, WasVisited}
 
 -- what was at rest after a change is
 rests-now : (old new : Option Story) (R : Story → Story → Type 0) → Follows (λ (a b : Story). IsAtRest b.now × R a b) old new → Tells new (λ h. IsAtRest h.now)
 rests-now (Some a) new R follows = λ h is. let both : Some follows.0 ≡ Some h = sym follows.1 ∙ is in let same : follows.0 ≡ h = cc in subst (λ (x : Story). IsAtRest x.now) same follows.2.0
 rests-now None new R follows = λ h is. let no : None ≡ Some h = sym follows ∙ is in absurd (cc)
 
--- a node that was visited and never restarted has its image
-has-image : {D O U : Type 0} (told : Watched D → Option Story) (old new : Station D O U) → WasVisited told old new → new.lines.items ≡ [] → HasItsImage told new
-has-image told old new (inl again) bare = let line = again.line in absurd (omega (arith, line, ap length bare))
-has-image told old new (inr since) bare = record { patched = since.patched; rests = rests-now (image_told told old.node.stage) (image_told told new.node.stage) (λ a b. a.now.syncs < b.now.syncs) since.synced }
+last-too : (P : ℕ → Type 0) (ns : List ℕ) (n : ℕ) → AllByRecursion P (ns ++ n ∷ []) → P n
+last-too P [] n all = all.0
+last-too P (x ∷ ns) n all = last-too P ns n all.1
+
+-- a node that was visited, and made a turn after its last restart, has its image
+has-image : {D O U : Type 0} (told : Watched D → Option Story) (old new : Station D O U) → WasVisited told old new → HasGoneOn new → HasItsImage told new
+has-image told old new (inl again) on =
+    let turns = length (turns_in new.node.stage) in
+    let more = last-too (λ n. n < turns) old.lines.items turns (subst (AllByRecursion (λ n. n < turns)) again.line on) in
+    absurd (omega (arith, more))
+has-image told old new (inr since) on = record { patched = since.patched; rests = rests-now (image_told told old.node.stage) (image_told told new.node.stage) (λ a b. a.now.syncs < b.now.syncs) since.synced }
 
 module _ {D O U A : Type 0} (told : Watched D → Option Story) (size : Watched D → ℕ) (took : U → Option (List Out)) (handles : A → Handler) where
   pub passes-then : (old mid new : Run D O U A) → PassesOn told size took handles old mid → PassesOn told size took handles mid new → PassesOn told size took handles old new
@@ -77,6 +85,6 @@ module _ {D O U A : Type 0} (told : Watched D → Option Story) (size : Watched 
 
   -- so has each node of a run that was drained
   pub have_images : (old new : Run D O U A) → HasDrained told size took handles old new → HaveImages told new
-  have_images old new drained = λ v d low bare.
+  have_images old new drained = λ v d low on.
       let last = drained.last in
-      has-image told (slice_index_or drained.mid.stations.items v d) (slice_index_or new.stations.items v d) (last.each v d (subst (λ (n : ℕ). v < n) last.width low)) bare
+      has-image told (slice_index_or drained.mid.stations.items v d) (slice_index_or new.stations.items v d) (last.each v d (subst (λ (n : ℕ). v < n) last.width low)) on

@@ -3,7 +3,7 @@ use Rattle.std.proofs.Common.{arith, ◌≡◌, ◌∙◌, ℕ, suc, zero, ◌+�
 use Rattle.std.proofs.lemmas.Bool.{ne_eqb}
 use Rattle.std.proofs.lemmas.List.{append-nil, map-append}
 use Rattle.std.proofs.lemmas.List.Elements.{filter-append}
-use Rattle.std.specs.List.{flat_map}
+use Rattle.std.specs.List.{AllByRecursion, flat_map}
 use Rattle.ken_disk.specs.Fates.{Fate}
 use Rattle.ken_disk.specs.Story.{Story}
 use Rattle.ken_model.specs.declared.messages.Out.{Out}
@@ -35,7 +35,7 @@ use Rattle.ken_drive.specs.Accounts.{AreAccounted, AreOwnDisks, IsAccounted, Tel
 use Rattle.ken_drive.specs.Driven.{HaveCauses, KeepsNode, KeepsRun, Views, out_numbers, steps_at}
 use Rattle.ken_drive.specs.Ended.{IsEnded, IsReportOf, restarts_from}
 use Rattle.ken_drive.specs.Finishing.{WasKept, unwatched}
-use Rattle.ken_drive.specs.Patched.{HasItsImage, HaveImages}
+use Rattle.ken_drive.specs.Patched.{HasGoneOn, HasItsImage, HaveImages}
 use Rattle.ken_drive.specs.Recovering.{HoldsHeapAt, RecoversAt}
 use Rattle.ken_drive.specs.Refusals.{AreRefused, IsRefused}
 use Rattle.ken_drive.specs.Running.{IsRunning}
@@ -234,11 +234,12 @@ module _ {D O U A : Type 0} (views : Views D O U) (size : D → ℕ) (handles : 
             let watched = up-recovers told-of size-of g v running.nodes running.emissions l.turns s.node.stage running.stands.accord played up apart disks has in
             record { state = watched.state; recovers = watched.recovers; is = watched.is }
 
-        -- its image, where it was never restarted
-        image : restarts_of v l.restarts ≡ [] → HoldsHeapAt views.told g v (play g (steps_of l.turns)) disks.image.disk
-        image none =
+        -- its image, where it made a turn after its last restart, if any
+        image : AllByRecursion (λ n. n < ((play g (steps_of l.turns)).place v).turns) (restarts_of v l.restarts) → HoldsHeapAt views.told g v (play g (steps_of l.turns)) disks.image.disk
+        image on =
             let there : v < length r.stations.items = subst (λ (n : ℕ). v < n) (sym running.stands.width) made-low in
-            let is-its = subst (λ (x : Station D O U). x.lines.items ≡ [] → HasItsImage told-of x) is (images v s there) (sym restarts-are ∙ none) in
+            let gone_on : HasGoneOn s = subst (λ (k : ℕ). AllByRecursion (λ n. n < k) s.lines.items) (sym turn-count) (subst (AllByRecursion (λ n. n < ((play g (steps_of l.turns)).place v).turns)) restarts-are on) in
+            let is-its = subst (λ (x : Station D O U). HasGoneOn x → HasItsImage told-of x) is (images v s there) gone_on in
             let watched = up-image told-of size-of g v running.nodes running.emissions l.turns s.node.stage running.stands.accord played up apart disks has is-its.patched is-its.rests in
             record { rests = watched.rests; reads = watched.reads }
 

@@ -1,9 +1,9 @@
 -- What the calls of a visit make of the station of a node, one after the other.
-use Rattle.std.proofs.Common.{◌≡◌, ℕ, ◌+◌, ◌<◌, ◌≤◌, inl, inr, ⊎_elim, List, [], ◌∷◌, length, slice_index_or, slice_set, Bool, true, false, Option, Some, None, Result, Ok, Err, refl, sym, ap, subst, ◌∙◌, arith}
+use Rattle.std.proofs.Common.{◌≡◌, ℕ, ◌+◌, ◌<◌, ◌≤◌, inl, inr, ⊎_elim, List, [], ◌∷◌, ◌++◌, length, slice_index_or, slice_set, Bool, true, false, Option, Some, None, Result, Ok, Err, refl, sym, ap, subst, ◌∙◌, arith}
 use Rattle.std.specs.Prelude.{OnOk}
 use Rattle.std.specs.Result.{IsErrAnd}
 use Rattle.std.proofs.lemmas.Bool.{cases_lt}
-use Rattle.std.proofs.lemmas.List.{get_or_default, get_or-set_other, get_or-set_same, length-set, length_push}
+use Rattle.std.proofs.lemmas.List.{get_or_default, get_or-set_other, get_or-set_same, length-set}
 use Rattle.ken_disk.specs.Steps.{after_syncing}
 use Rattle.ken_disk.specs.Story.{Story, Follows, IsAtRest}
 use Rattle.ken_model.specs.declared.messages.Out.{Out}
@@ -33,7 +33,7 @@ use Rattle.ken_node.specs.declared.stage.Stage.{Stage}
 use Rattle.ken_node.specs.declared.watched.Watched.{Watched}
 use Rattle.ken_node.specs.NodeCalls.{EmitStepsBy, EmitsNone, PatchStepsBy, SendSteps, SettleStepsBy, Steps}
 use Rattle.ken_node.specs.Patches.{waits_of}
-use Rattle.ken_node.specs.Stages.{HasDisks, image_told}
+use Rattle.ken_node.specs.Stages.{HasDisks, image_told, turns_in}
 use Rattle.ken_node.specs.Synced.{HasMadeSync, KeepsSyncs}
 use Rattle.ken_node.specs.Up.{IsUp}
 use Rattle.ken_node.proofs.Quietly.{emit_keeps_ahead, none_keeps, sends_keep, sync_keeps_ahead, taken_keep_ahead}
@@ -176,8 +176,9 @@ module _ {D O U : Type 0} where
   pub tries-by : (told : Watched D → Option Story) (size : Watched D → ℕ) (g : Game) (v : ℕ) (given : List Packet) (n : Node) (doubt : Doubt) (old new : Station D O U) (result : Result (Unit {0}) NodeFault) → RestartsStation told size result g v given n doubt old new → TriesBy result old new
   tries-by told size g v given n doubt old new (Ok x) b =
       let tries = b.1.2 in
-      let line : length new.lines.items ≡ length old.lines.items + 1 = ap length b.1.1 ∙ length_push old.lines.items b.0 in
-      record { tries = omega (arith, tries); line = omega (arith, line) }
+      let again = b.1.0 in
+      let count : b.0 ≡ length (turns_in new.node.stage) = again.count ∙ ap length (sym (ap turns_in again.stage_is ∙ again.whole.workers.turns.kept)) in
+      record { tries = omega (arith, tries); line = b.1.1 ∙ ap (λ (n : ℕ). old.lines.items ++ n ∷ []) count }
   tries-by told size g v given n doubt old new (Err Disk) b = let tries = b.2 in (omega (arith, tries), b.1)
   tries-by told size g v given n doubt old new (Err Memory) b = tt
   tries-by told size g v given n doubt old new (Err Outlet) b = tt
@@ -200,9 +201,7 @@ module _ {D O U : Type 0} where
   tried-last a b c one two =
       let x = one.0 in
       let y = two.tries in
-      let lines : length b.lines.items ≡ length a.lines.items = ap length one.1 in
-      let line = two.line in
-      record { tries = omega (arith, x, y); line = omega (arith, lines, line) }
+      record { tries = omega (arith, x, y); line = two.line ∙ ap (λ (ns : List ℕ). ns ++ length (turns_in c.node.stage) ∷ []) one.1 }
 
   -- ---- a visit
 

@@ -1,6 +1,6 @@
 -- What a whole run leaves: what its world keeps of each node, beside the lines of its report.
 use Rattle.std.specs.Prelude.{◌≡◌, ◌⊎◌, ℕ, ◌+◌, ◌<◌, ◌≤◌, ◌==◌, List, [], length, map, filter, slice_index_or, Bool, Option, Some, None, IfSome, Result, Ok, Err}
-use Rattle.std.specs.List.{flat_map}
+use Rattle.std.specs.List.{AllByRecursion, flat_map}
 use Rattle.ken_disk.specs.Story.{Story}
 use Rattle.ken_model.specs.declared.messages.Out.{Out}
 use Rattle.ken_model.specs.declared.messages.Step.{Step}
@@ -80,15 +80,15 @@ pub record AreOwnDevices {D O U : Type 0} (views : Views D O U) (terms : Terms) 
   pub outlet : MayFailAt terms.scripted v (terms.fails v) (views.calls out)
 
 -- what is kept of node v after a run with this schedule, these emissions and restarts: whatever a crash leaves of its disks recovers to its
--- place in the abstract network, and where it was never restarted its image alone is its heap; its outlet took what it emitted; what its turns
--- drew is among what its oracle answered, in order; and its logs were synced for each turn
+-- place in the abstract network, and where it made a turn after its last restart, if any, its image alone is its heap; its outlet took what it
+-- emitted; what its turns drew is among what its oracle answered, in order; and its logs were synced for each turn
 pub record KeepsNode {D O U : Type 0} (views : Views D O U) (g : Game) (terms : Terms) (v : ℕ) (schedule : List Step) (emissions : List Emission) (restarts : List RestartLine) (kept : Option (Disks D × O × U)) : Type 0 where
   pub disks : Disks D
   pub luck : O
   pub out : U
   pub is : kept ≡ Some (disks, luck, out)
   pub recovers : RecoversAt views.told g v (play g schedule) disks
-  pub image : restarts_of v restarts ≡ [] → HoldsHeapAt views.told g v (play g schedule) disks.image
+  pub image : AllByRecursion (λ n. n < ((play g schedule).place v).turns) (restarts_of v restarts) → HoldsHeapAt views.told g v (play g schedule) disks.image
   pub synced : HasSynced views.told views.faults ((play g schedule).place v).turns disks
   pub took : IfSome (views.took out) (λ told. told ≡ emitted_by v emissions)
   pub often : ℕ

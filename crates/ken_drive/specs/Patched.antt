@@ -1,5 +1,6 @@
 -- What the calls of a visit make of a node's station and of its image: its pages are written there and synced, or it is restarted.
-use Rattle.std.specs.Prelude.{◌≡◌, ◌≢◌, ◌⊎◌, ℕ, ◌<◌, ◌≤◌, [], length, slice_index_or, Option, Result, Ok, Err, OnOk}
+use Rattle.std.specs.Prelude.{◌≡◌, ◌≢◌, ◌⊎◌, ℕ, ◌<◌, ◌≤◌, [], ◌∷◌, ◌++◌, length, slice_index_or, Option, Result, Ok, Err, OnOk}
+use Rattle.std.specs.List.{AllByRecursion}
 use Rattle.ken_disk.specs.Story.{Story, Follows, IsAtRest, Tells}
 use Rattle.ken_model.specs.Network.{outside}
 use Rattle.ken_order.specs.Consumed.{consumed_from}
@@ -8,7 +9,7 @@ use Rattle.ken_ship.specs.declared.faults.NodeFault.TheVariants.{Disk, Damaged, 
 use Rattle.ken_node.specs.declared.stage.Stage.{Stage}
 use Rattle.ken_node.specs.declared.stage.Stage.TheVariants.{Uncreated, Created, Moved}
 use Rattle.ken_node.specs.declared.watched.Watched.{Watched}
-use Rattle.ken_node.specs.Stages.{image_told}
+use Rattle.ken_node.specs.Stages.{image_told, turns_in}
 use Rattle.ken_node.specs.Synced.{HasMadeSync, KeepsSyncs}
 use Rattle.ken_drive.specs.declared.run.Run.{Run}
 use Rattle.ken_drive.specs.declared.station.Station.{Station}
@@ -53,10 +54,14 @@ module _ {D O U : Type 0} where
   abbrev pub IsCall : {A T E : Type 0} → Result T E → (Station D O U → Station D O U → Type 0) → ℕ → Run D O U A → Run D O U A → Type 0
   IsCall result how v old new = Changes (λ a b. IsNotRestarted a b × OnOk result (how a b)) v old new
 
-  -- it was restarted, and is up again
+  -- it was restarted, and is up again, with the number of turns that its last line has
   pub record WasRestarted (old new : Station D O U) : Type 0 where
     pub tries : old.restarts < new.restarts
-    pub line : length old.lines.items < length new.lines.items
+    pub line : new.lines.items ≡ old.lines.items ++ length (turns_in new.node.stage) ∷ []
+
+  -- it made a turn after its last restart, or was never restarted
+  abbrev pub HasGoneOn : Station D O U → Type 0
+  HasGoneOn s = AllByRecursion (λ n. n < length (turns_in s.node.stage)) s.lines.items
 
   -- by the answer of a restart
   abbrev pub TriesBy : Result (Unit {0}) NodeFault → Station D O U → Station D O U → Type 0
@@ -96,9 +101,9 @@ module _ {D O U : Type 0} (told : Watched D → Option Story) where
     pub patched : IsPatched s.node.stage
     pub rests : Tells (image_told told s.node.stage) (λ h. IsAtRest h.now)
 
-  -- so it is of each node that was never restarted
+  -- so it is of each node that made a turn after its last restart, if any
   abbrev pub HaveImages : {A : Type 0} → Run D O U A → Type 0
-  HaveImages r = (v : ℕ) (d : Station D O U) → v < length r.stations.items → (slice_index_or r.stations.items v d).lines.items ≡ [] → HasItsImage (slice_index_or r.stations.items v d)
+  HaveImages r = (v : ℕ) (d : Station D O U) → v < length r.stations.items → HasGoneOn (slice_index_or r.stations.items v d) → HasItsImage (slice_index_or r.stations.items v d)
 
   -- it was visited: it was restarted, or did all that there was to do
   abbrev pub WasVisited : Station D O U → Station D O U → Type 0
