@@ -123,6 +123,7 @@ module _ (g : Game) (most : ℕ) (c : Checker) (told : Told) (knows : Knows g mo
           record {
             outs = kept_of.outs;
             turns = kept_of.turns;
+            few = kept_of.few;
             came = kept_of.came;
             emitted = largest ∙ ap (λ n. max n number) kept_of.emitted ∙ ap (max before) (sym numbered) ∙ sym (largest_of-same told.emissions e);
             restarts = kept_of.restarts;
@@ -135,6 +136,7 @@ module _ (g : Game) (most : ℕ) (c : Checker) (told : Told) (knows : Knows g mo
           record {
             outs = before.outs;
             turns = before.turns;
+            few = before.few;
             came = before.came;
             emitted = before.emitted ∙ ap (largest_of 0) (sym (emitted_by-other v told.emissions e other));
             restarts = before.restarts;

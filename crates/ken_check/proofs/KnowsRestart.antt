@@ -8,18 +8,13 @@ use Rattle.ken_model.specs.Report.{line, restart_words}
 use Rattle.ken_model.specs.Spelling.{IsWord}
 use Rattle.ken_check.specs.declared.checker.Checker.{Checker}
 use Rattle.ken_check.specs.declared.known.Known.{Known}
+use Rattle.ken_check.specs.Counts.{IsAllowed}
 use Rattle.ken_check.specs.Kinds.{IsRestartLine, IsRestartOf}
 use Rattle.ken_check.specs.Knowing.{IsBeforeHeaps, Knows, KnowsNode, last_of}
 use Rattle.ken_check.specs.Right.{AreRestartsSoFar, Told}
 use Rattle.ken_check.proofs.Kept.{count_of_nodes, known_of, known_with}
 use Rattle.ken_check.proofs.More.{some_more}
 use Rattle.ken_check.proofs.LastRestart.{IsNextRestart, restarts_last, restarts_more, restarts_of-other, count-same, last-same, last_restarted-more}
-
--- what a reader tests of a restart of a node that was restarted so often before
-pub record IsAllowed (most : ℕ) (k : Known) (r : RestartLine) : Type 0 where
-  pub few : k.restarts < most
-  pub from : k.recovered ≤ r.turns
-  pub to : r.turns ≤ k.turns
 
 module _ (g : Game) (most : ℕ) (c : Checker) (told : Told) (knows : Knows g most c told) where
   nodes_are : g.nodes ≡ c.facts.now.nodes
@@ -39,7 +34,7 @@ module _ (g : Game) (most : ℕ) (c : Checker) (told : Told) (knows : Knows g mo
     pub names_node : (r.node < c.facts.now.nodes) × (c.restarted ≤ r.node)
     names_node = (omega (arith, nodes_are, next.known), omega (arith, knows.restarted, next.after))
 
-    pub names_turns : (k : Known) → k ≡ get_or c.nodes.items r.node k → IsAllowed c.most k r
+    pub names_turns : (k : Known) → k ≡ get_or c.nodes.items r.node k → IsAllowed c.most r.turns k
     names_turns k at =
         let kept = known_of g most c told knows r.node k next.known at in
         record {
@@ -49,7 +44,7 @@ module _ (g : Game) (most : ℕ) (c : Checker) (told : Told) (knows : Knows g mo
         }
 
   -- a restart that passes these tests may come next
-  module _ (r : RestartLine) (k : Known) (few : r.node < c.facts.now.nodes) (after : c.restarted ≤ r.node) (at : k ≡ get_or c.nodes.items r.node k) (allowed : IsAllowed c.most k r) where
+  module _ (r : RestartLine) (k : Known) (few : r.node < c.facts.now.nodes) (after : c.restarted ≤ r.node) (at : k ≡ get_or c.nodes.items r.node k) (allowed : IsAllowed c.most r.turns k) where
     kept : KnowsNode g told r.node k
     kept = known_of g most c told knows r.node k (omega (arith, nodes_are, few)) at
 
@@ -85,6 +80,7 @@ module _ (g : Game) (most : ℕ) (c : Checker) (told : Told) (knows : Knows g mo
     own = record {
       outs = kept.outs;
       turns = kept.turns;
+      few = kept.few;
       came = kept.came;
       emitted = kept.emitted;
       restarts = ap (λ n. n + 1) kept.restarts ∙ sym (count-same told.restarts r);
@@ -98,6 +94,7 @@ module _ (g : Game) (most : ℕ) (c : Checker) (told : Told) (knows : Knows g mo
         record {
           outs = before.outs;
           turns = before.turns;
+          few = before.few;
           came = before.came;
           emitted = before.emitted;
           restarts = before.restarts ∙ ap length same;

@@ -5,8 +5,9 @@ mod Schedules
 mod Fronts
 pub mod Reports
 mod Runs
+mod Sends
 pub mod Wording
-pub mod Judging
+pub mod Pieces
 pub mod Naming
 mod More
 mod LastEmission
@@ -20,4 +21,5 @@ mod Beyond
 mod Ended
 pub mod Turning
 pub mod Starting
+mod Counting
 pub mod Reading

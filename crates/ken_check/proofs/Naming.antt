@@ -1,5 +1,5 @@
 -- A right line is of the kind that its first word names.
-use Rattle.std.proofs.Common.{◌≡◌, ℕ, List, [], ◌∷◌, ◌++◌, ◌==◌, Bool, true, false, Result, Ok, Err, codes, None, Some, slice_get, Option, bytes_eq, refl, sym, ap, subst, ◌∙◌, rules}
+use Rattle.std.proofs.Common.{◌≡◌, ℕ, List, [], ◌∷◌, ◌++◌, ◌==◌, Bool, true, false, Result, Ok, codes, None, Some, slice_get, Option, bytes_eq, refl, sym, ap, subst, ◌∙◌, rules}
 use Rattle.std.specs.declared.alloc.AllocError.{AllocError}
 use Rattle.std.specs.List.{AllByRecursion, join_with_byte}
 use Rattle.std.proofs.lemmas.List.{append_cancel_right}
@@ -15,6 +15,7 @@ use Rattle.ken_check.specs.declared.checker.Checker.{Checker}
 use Rattle.ken_check.specs.Kinds.{IsEmissionLine, IsEndLine, IsHeapLine, IsRestartLine, IsTurnLine}
 use Rattle.ken_check.specs.Knowing.{IsHeard}
 use Rattle.ken_check.specs.Right.{IsRightLine, Told}
+use Rattle.ken_check.proofs.Hearing.{heard_as}
 
 -- the text of a line of words
 pub text_of_line : (text : List ℕ) (words : List (List ℕ)) → text ++ 10 ∷ [] ≡ line words → text ≡ join_with_byte 32 words
@@ -109,30 +110,21 @@ heap_is_right g most told bytes told2 l = as_right l.text l.tells (IsRightLine.h
 end_is_right : (g : Game) (most : ℕ) (told : Told) (bytes : List ℕ) (told2 : Told) → IsEndLine g told bytes told2 → IsRightLine g most told bytes told2
 end_is_right g most told bytes told2 l = as_right l.text l.tells (IsRightLine.ends l.ending l.comes l.heaps l.ends)
 
--- an answer about lines of a kind is one about right lines, where those of the kind are right, and others with this first word are not
-by_kind : (g : Game) (most : ℕ) (IsKind : Told → List ℕ → Told → Type 0) (old new : Checker) (text : List ℕ) (r : Result Bool AllocError)
-    → ((told told2 : Told) → IsKind told (text ++ 10 ∷ []) told2 → IsRightLine g most told (text ++ 10 ∷ []) told2)
-    → ((told told2 : Told) → IsRightLine g most told (text ++ 10 ∷ []) told2 → IsKind told (text ++ 10 ∷ []) told2)
-    → IsHeard g most IsKind old new text r → IsHeard g most (IsRightLine g most) old new text r
-by_kind g most IsKind old new text (Ok true) right kind heard = λ told knows. (let h = heard told knows in (h.0, right told h.0 h.1, h.2))
-by_kind g most IsKind old new text (Ok false) right kind heard = λ told knows told2 line. heard told knows told2 (kind told told2 line)
-by_kind g most IsKind old new text (Err e) right kind heard = tt
-
 module _ (g : Game) (most : ℕ) (old new : Checker) (text : List ℕ) (r : Result Bool AllocError) where
   pub heard_turn : slice_get (parts_at 32 text) 0 ≡ Some (codes "turn") → IsHeard g most (IsTurnLine g) old new text r → IsHeard g most (IsRightLine g most) old new text r
-  heard_turn word = by_kind g most (IsTurnLine g) old new text r (λ told told2 l. turn_is_right g most told _ told2 l) (λ told told2 l. turn_named word (named g most told text _ told2 refl l))
+  heard_turn word = heard_as g most (IsTurnLine g) (IsRightLine g most) old new text r (λ told told2 l. turn_is_right g most told _ told2 l) (λ told told2 knows l. turn_named word (named g most told text _ told2 refl l))
 
   pub heard_emission : slice_get (parts_at 32 text) 0 ≡ Some (codes "emit") → IsHeard g most (IsEmissionLine g) old new text r → IsHeard g most (IsRightLine g most) old new text r
-  heard_emission word = by_kind g most (IsEmissionLine g) old new text r (λ told told2 l. emission_is_right g most told _ told2 l) (λ told told2 l. emission_named word (named g most told text _ told2 refl l))
+  heard_emission word = heard_as g most (IsEmissionLine g) (IsRightLine g most) old new text r (λ told told2 l. emission_is_right g most told _ told2 l) (λ told told2 knows l. emission_named word (named g most told text _ told2 refl l))
 
   pub heard_restart : slice_get (parts_at 32 text) 0 ≡ Some (codes "restart") → IsHeard g most (IsRestartLine g most) old new text r → IsHeard g most (IsRightLine g most) old new text r
-  heard_restart word = by_kind g most (IsRestartLine g most) old new text r (λ told told2 l. restart_is_right g most told _ told2 l) (λ told told2 l. restart_named word (named g most told text _ told2 refl l))
+  heard_restart word = heard_as g most (IsRestartLine g most) (IsRightLine g most) old new text r (λ told told2 l. restart_is_right g most told _ told2 l) (λ told told2 knows l. restart_named word (named g most told text _ told2 refl l))
 
   pub heard_heap : slice_get (parts_at 32 text) 0 ≡ Some (codes "heap") → IsHeard g most (IsHeapLine g) old new text r → IsHeard g most (IsRightLine g most) old new text r
-  heard_heap word = by_kind g most (IsHeapLine g) old new text r (λ told told2 l. heap_is_right g most told _ told2 l) (λ told told2 l. heap_named word (named g most told text _ told2 refl l))
+  heard_heap word = heard_as g most (IsHeapLine g) (IsRightLine g most) old new text r (λ told told2 l. heap_is_right g most told _ told2 l) (λ told told2 knows l. heap_named word (named g most told text _ told2 refl l))
 
   pub heard_end : slice_get (parts_at 32 text) 0 ≡ Some (codes "end") → IsHeard g most (IsEndLine g) old new text r → IsHeard g most (IsRightLine g most) old new text r
-  heard_end word = by_kind g most (IsEndLine g) old new text r (λ told told2 l. end_is_right g most told _ told2 l) (λ told told2 l. end_named word (named g most told text _ told2 refl l))
+  heard_end word = heard_as g most (IsEndLine g) (IsRightLine g most) old new text r (λ told told2 l. end_is_right g most told _ told2 l) (λ told told2 knows l. end_named word (named g most told text _ told2 refl l))
 
 -- a line of no kind isn't right
 no_named : {g : Game} {most : ℕ} {told : Told} {text : List ℕ} {told2 : Told} → (slice_get (parts_at 32 text) 0 ≡ Some (codes "turn") → ⊥) → (slice_get (parts_at 32 text) 0 ≡ Some (codes "emit") → ⊥) → (slice_get (parts_at 32 text) 0 ≡ Some (codes "restart") → ⊥) → (slice_get (parts_at 32 text) 0 ≡ Some (codes "heap") → ⊥) → (slice_get (parts_at 32 text) 0 ≡ Some (codes "end") → ⊥) → IsNamed g most told text told2 → ⊥

@@ -1,7 +1,7 @@
 -- What a reader knows before the first line.
 use Rattle.std.proofs.Common.{◌≡◌, ℕ, ◌+◌, ◌≤◌, List, [], ◌∷◌, length, sum_by, count_by, Bool, true, false, ◌==◌, if◌then◌else◌, zero, suc, refl, sym, ap, ◌∙◌, arith, ne_eqb}
 use Rattle.std.specs.List.{range_with_len}
-use Rattle.std.proofs.lemmas.List.Sums.{sum_by-cons}
+use Rattle.std.proofs.lemmas.List.Sums.{count_by-le-length, sum_by-cons}
 use Rattle.ken_model.specs.declared.facts.Facts.{Facts}
 use Rattle.ken_model.specs.declared.facts.Input.{Input}
 use Rattle.ken_model.specs.Actors.{AreAlike}
@@ -14,7 +14,7 @@ use Rattle.ken_model.specs.Network.{input_at, inputs_from, outputs_from, outside
 use Rattle.ken_model.specs.Restarts.{AreRestartsByNode}
 use Rattle.ken_model.specs.Schedule.{played}
 use Rattle.ken_check.specs.declared.checker.Checker.{Checker}
-use Rattle.ken_check.specs.Counts.{AreFresh}
+use Rattle.ken_check.specs.Counts.{AreFirst}
 use Rattle.ken_check.specs.Knowing.{IsLegalTo, Knows}
 use Rattle.ken_check.specs.Right.{nothing_told}
 
@@ -40,7 +40,7 @@ came_first g v few =
     omega (arith, head, sum_quiet g v 0 g.nodes (omega (arith, few)), length_inputs v 0 g.inputs)
 
 pub start_known : (f : Facts) (most : ℕ) (c : Checker) → IsWithinLimits (game_of f) → c.facts.now ≡ f → c.actors.facts ≡ f → c.most ≡ most → AreAlike (playing_of c.actors).network (start (game_of f))
-    → AreFresh f.nodes (λ v. count_by (λ (i : Input). i.node == v) f.inputs) c.nodes.items
+    → AreFirst f c.nodes.items
     → c.turns ≡ 0 → c.stamp ≡ 0 → c.node ≡ 0 → c.has_emissions ≡ false → c.emitter ≡ 0 → c.has_restarts ≡ false → c.restarted ≡ 0 → c.heaps ≡ 0 → c.ended ≡ false
     → Knows (game_of f) most c nothing_told
 unfolding played IsLegalTo AreByNode AreEmitted AreRestartsByNode outputs_from
@@ -54,6 +54,7 @@ start_known f most c limits facts actors_facts limit alike fresh turns stamp nod
   each = λ v known none. (let k = fresh.each v known none in record {
     outs = k.outs;
     turns = k.turns;
+    few = omega (arith, k.came, count_by-le-length (λ (i : Input). i.node == v) f.inputs, limits.few_inputs);
     came = omega (arith, k.came, k.turns, came_first (game_of f) v limits.few_nodes);
     emitted = k.emitted;
     restarts = k.restarts;

@@ -1,16 +1,17 @@
 -- What a reader knows after a turn.
-use Rattle.std.proofs.Common.{◌≡◌, ◌↔◌, ℕ, ◌+◌, ◌-◌, ◌<◌, ◌≤◌, List, [], ◌∷◌, ◌++◌, length, sum_by, count_by, get_or, Bool, true, false, ◌==◌, ◌&&◌, if◌then◌else◌, nat_lt, suc, zero, ◌⊎◌, inl, inr, ⊎_elim, ◌^◌, Option, Some, None, option_and_then, option_map, Result, Ok, Err, IfOk, IsErrOf, ◌≢◌, refl, sym, ap, ap₂, subst, ◌∙◌, arith, eq-eqb, ne_eqb, eqb-true, ltb-true, length-append}
+use Rattle.std.proofs.Common.{◌≡◌, ◌↔◌, ℕ, ◌+◌, ◌-◌, ◌*◌, ◌<◌, ◌≤◌, List, [], ◌∷◌, ◌++◌, length, sum_by, count_by, get_or, Bool, true, false, ◌==◌, ◌&&◌, if◌then◌else◌, nat_lt, suc, zero, ◌⊎◌, inl, inr, ⊎_elim, ◌^◌, Option, Some, None, option_and_then, option_map, Result, Ok, Err, IfOk, IsErrOf, ◌≢◌, refl, sym, ap, ap₂, subst, ◌∙◌, arith, eq-eqb, ne_eqb, eqb-true, ltb-true, length-append}
 use Rattle.std.specs.declared.alloc.AllocError.{AllocError}
 use Rattle.ken_model.specs.declared.reports.Emission.{Emission}
 use Rattle.ken_model.specs.declared.reports.RestartLine.{RestartLine}
 use Rattle.ken_model.specs.Emissions.{AreByNode, AreEmitted}
 use Rattle.ken_model.specs.Ending.{nodes_of, waiting_on}
 use Rattle.ken_model.specs.Restarts.{AreRestartsByNode}
+use Rattle.ken_model.specs.declared.facts.TheConstants.{MAX_INPUTS, MAX_NODES}
 use Rattle.ken_model.specs.declared.messages.Done.{Done}
 use Rattle.ken_model.specs.declared.messages.Message.{Message}
 use Rattle.std.specs.List.{AllByRecursion}
 use Rattle.std.proofs.lemmas.Bool.{cases_eq, cases_lt}
-use Rattle.std.proofs.lemmas.List.Sums.{sum_by-cons}
+use Rattle.std.proofs.lemmas.List.Sums.{count_by-le-length, sum_by-cons}
 use Rattle.std.proofs.lemmas.Option.{slice_get_within}
 use Rattle.std.specs.List.{range_with_len}
 use Rattle.ken_model.specs.Spelling.{IsWord}
@@ -31,6 +32,7 @@ use Rattle.ken_check.specs.Counts.{HaveTurned}
 use Rattle.ken_check.specs.Kinds.{IsTurnOf}
 use Rattle.ken_check.specs.Knowing.{IsHeard, IsLegalTo, Knows, KnowsNode}
 use Rattle.ken_check.specs.Right.{AreEmissionsSoFar, AreRestartsSoFar, Told}
+use Rattle.ken_check.proofs.Sends.{few_sends, length_posted, no_turn}
 
 -- a step that is defined
 pub stepped_is : (g : Game) (w : Network) (s : Step) (t : Turn) → turn_of g w s ≡ Some t → stepped g w s ≡ applied w s t
@@ -102,6 +104,12 @@ same_turn g most c told s knows =
     let game : game_of c.actors.facts ≡ g = ap game_of knows.facts ∙ knows.game in
     ap (λ (h : Game). turn_of h (playing_of c.actors).network s) game ∙ alike_turn g (playing_of c.actors).network (play g told.schedule) s knows.alike
 
+-- it sends at most one message to each node
+pub sends_few : (g : Game) (most : ℕ) (c : Checker) (told : Told) (s : Step) (now : Playing) (done : Done) → Knows g most c told → IsStep (playing_of c.actors) now s done → length done.sends ≤ g.nodes
+sends_few g most c told s now done knows made =
+    let is : turn_of g (play g told.schedule) s ≡ Some made.turn = sym (same_turn g most c told s knows) ∙ made.defined in
+    omega (arith, ap length made.sends, length_posted s.node made.turn.stamp (λ (w : ℕ). length ((playing_of c.actors).network.link s.node w).sent) made.turn.effect.sends, few_sends c.facts.now g (play g told.schedule) s made.turn knows.game knows.limits.some_node is)
+
 -- a right turn line of a step, and what it says of the step
 pub record IsNext (g : Game) (c : Checker) (told : Told) (s : Step) (t : Turn) : Type 0 where
   pub made : turn_of g (play g told.schedule) s ≡ Some t
@@ -121,11 +129,6 @@ wrong_node g most c told s bytes told2 past knows of_step =
     omega (arith, past, known, nodes)
 
 -- a step that the actors refuse isn't defined
-no_turn : (b : Bool) (f : Message → Option Turn) (o : Option Message) (t : Turn) → (if b then option_and_then f o else None) ≡ Some t → (m : Message) × (o ≡ Some m) × (f m ≡ Some t)
-no_turn true f (Some m) t e = (m, refl, e)
-no_turn true f None t e = absurd cc
-no_turn false f o t e = absurd cc
-
 by_effect : (o : Option Effect) (f : Effect → Turn) (t : Turn) → o ≡ None → option_map f o ≡ Some t → ⊥
 by_effect None f t none e = absurd cc
 by_effect (Some x) f t none e = absurd cc
@@ -263,7 +266,7 @@ link_waits s t u v l few waits =
     ∙ waits_by (u == s.node) (u == s.from) (v == s.node) (length l.sent) l.taken (sends_for v t.effect.sends) few waits
 
 -- sums of two functions
-sum_two : (f d h e : ℕ → ℕ) (xs : List ℕ) → ((u : ℕ) → f u + d u ≡ h u + e u) → sum_by f xs + sum_by d xs ≡ sum_by h xs + sum_by e xs
+pub sum_two : (f d h e : ℕ → ℕ) (xs : List ℕ) → ((u : ℕ) → f u + d u ≡ h u + e u) → sum_by f xs + sum_by d xs ≡ sum_by h xs + sum_by e xs
 sum_two f d h e [] each = refl
 sum_two f d h e (x ∷ xs) each = omega (arith, sum_two f d h e xs each, each x, sum_by-cons f x xs, sum_by-cons d x xs, sum_by-cons h x xs, sum_by-cons e x xs)
 
@@ -275,7 +278,7 @@ sum_out k c a (suc n) out =
     let head = rw here at (sum_by-cons (λ u. if u == k then c else 0) a (range_with_len (a + 1) n)) in
     omega (arith, head, sum_out k c (a + 1) n (λ u low high. out u (omega (arith, low)) (omega (arith, high))))
 
-sum_in : (k c a n : ℕ) → a ≤ k → k < a + n → sum_by (λ u. if u == k then c else 0) (range_with_len a n) ≡ c
+pub sum_in : (k c a n : ℕ) → a ≤ k → k < a + n → sum_by (λ u. if u == k then c else 0) (range_with_len a n) ≡ c
 sum_in k c a zero low high = absurd (omega (arith, low, high))
 sum_in k c a (suc n) low high =
     let head = sum_by-cons (λ u. if u == k then c else 0) a (range_with_len (a + 1) n) in
@@ -327,7 +330,7 @@ sender_of_turn g w s t tidy made =
     let there : (w.link s.from s.node).taken < length (w.link s.from s.node).sent = slice_get_within (w.link s.from s.node).sent (w.link s.from s.node).taken o.0 o.1 in
     ⊎_elim (λ (e : s.from ≡ outside). inl e) (λ (ne : s.from ≡ outside → ⊥). ⊎_elim (λ (node : s.from < g.nodes). inr node) (λ (past : g.nodes ≤ s.from). absurd (omega (arith, there, tidy.strangers s.from s.node ne past))) (cases_lt s.from g.nodes)) (cases_eq s.from outside)
 
-sum_none : (xs : List ℕ) → sum_by (λ u. 0) xs ≡ 0
+pub sum_none : (xs : List ℕ) → sum_by (λ u. 0) xs ≡ 0
 sum_none [] = refl
 sum_none (x ∷ xs) = sum_by-cons (λ u. 0) x xs ∙ omega (arith, sum_none xs)
 
@@ -398,6 +401,13 @@ module _ (g : Game) (most : ℕ) (c c2 : Checker) (told : Told) (s : Step) (done
       let here = came_by (s.node == v) (v == s.node) (eqb_turned s.node v) _ _ _ _ more waits old_waits moved.turns (moved.came ∙ ap (λ (n : ℕ). (get_or c.nodes.items v none).came + n) posted) old.came counts in
       here ∙ ap (λ (n : Network). (get_or c2.nodes.items v none).turns + sum_by (λ u. waiting_on (n.link u v)) (outside ∷ nodes_of g)) (sym network_is)
 
+  few_now : (v : ℕ) → v < g.nodes → (none : Known) → (get_or c2.nodes.items v none).came ≤ MAX_INPUTS + MAX_NODES * length told2.schedule
+  few_now v of_game none =
+      let old = knows.each v of_game none in
+      let moved = after.nodes.each v (omega (arith, of_game, knows.width)) none in
+      let sent = sends_few g most c told s (playing_of c2.actors) done knows after.actors in
+      omega (arith, moved.came, old.few, sent, count_by-le-length (λ (m : Message). m.to == v) done.sends, length-append told.schedule (s ∷ []), knows.limits.few_nodes)
+
   outs_here : (v : ℕ) → (s.node == v) ≡ true → done.outs ≡ outputs_from (length (w.place v).outs) t.effect.outs
   outs_here v here = after.actors.outs ∙ ap (λ (p : Place). outputs_from (length p.outs) t.effect.outs) (knows.alike.place s.node ∙ ap w.place (eqb-true s.node v here))
 
@@ -409,6 +419,7 @@ module _ (g : Game) (most : ℕ) (c c2 : Checker) (told : Told) (s : Step) (done
       record {
         outs = outs_by (s.node == v) (v == s.node) (eqb_turned s.node v) _ done.outs _ (w.place v) t moved.outs old.outs (λ here. outs_here v here) ∙ ap (λ (p : Place). outputs_from 0 p.outs) (sym place);
         turns = turns_by (s.node == v) (v == s.node) (eqb_turned s.node v) _ _ (w.place v) t moved.turns old.turns ∙ ap (λ (p : Place). p.turns) (sym place);
+        few = few_now v of_game none;
         came = came_now v of_game none;
         emitted = moved.emitted ∙ old.emitted;
         restarts = moved.restarts ∙ old.restarts;

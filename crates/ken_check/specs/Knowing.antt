@@ -1,6 +1,7 @@
 -- What a reader of a report keeps, and how it answers to a line.
-use Rattle.std.specs.Prelude.{◌≡◌, ◌↔◌, ℕ, ◌+◌, ◌<◌, List, [], ◌∷◌, ◌++◌, length, sum_by, get_or, Bool, true, false, Some, Result, Ok, Err}
+use Rattle.std.specs.Prelude.{◌≡◌, ◌↔◌, ℕ, ◌+◌, ◌*◌, ◌<◌, ◌≤◌, List, [], ◌∷◌, ◌++◌, length, sum_by, get_or, Bool, true, false, Some, Result, Ok, Err}
 use Rattle.std.specs.declared.alloc.AllocError.{AllocError}
+use Rattle.ken_model.specs.declared.facts.TheConstants.{MAX_INPUTS, MAX_NODES}
 use Rattle.ken_model.specs.declared.messages.Step.{Step}
 use Rattle.ken_model.specs.declared.reports.Emission.{Emission}
 use Rattle.ken_model.specs.declared.reports.RestartLine.{RestartLine}
@@ -15,8 +16,6 @@ use Rattle.ken_model.specs.Restarts.{restarts_of}
 use Rattle.ken_model.specs.Schedule.{ComesBefore, play}
 use Rattle.ken_check.specs.declared.checker.Checker.{Checker}
 use Rattle.ken_check.specs.declared.known.Known.{Known}
-use Rattle.ken_check.specs.declared.verdict.Verdict.{Verdict}
-use Rattle.ken_check.specs.Judged.{IsJudged, IsJudgedFrom}
 use Rattle.ken_check.specs.Right.{AreEmissionsSoFar, AreRestartsSoFar, Told}
 
 -- a legal schedule whose last turn has that stamp and node
@@ -42,6 +41,7 @@ last_of last (x ∷ xs) = last_of x xs
 pub record KnowsNode (g : Game) (told : Told) (v : ℕ) (k : Known) : Type 0 where
   pub outs : k.outs.items ≡ outputs_from 0 ((play g told.schedule).place v).outs
   pub turns : k.turns ≡ ((play g told.schedule).place v).turns
+  pub few : k.came ≤ MAX_INPUTS + MAX_NODES * length told.schedule
   pub came : k.came ≡ k.turns + sum_by (λ u. waiting_on ((play g told.schedule).link u v)) (outside ∷ nodes_of g)
   pub emitted : k.emitted ≡ largest_of 0 (emitted_by v told.emissions)
   pub restarts : k.restarts ≡ length (restarts_of v told.restarts)
@@ -99,8 +99,6 @@ IsHeard g most IsRight old new text (Ok true) = (told : Told) → Knows g most o
 IsHeard g most IsRight old new text (Ok false) = (told : Told) → Knows g most old told → (told2 : Told) → IsRight told (text ++ 10 ∷ []) told2 → ⊥
 IsHeard g most IsRight old new text (Err _) = Unit {0}
 
--- a report is read up to a line of that number, and what its lines before told is known: as the rest from there on is judged, so is the report
-pub record IsReadTo (g : Game) (most : ℕ) (report : List ℕ) (line : ℕ) (rest : List ℕ) (c : Checker) : Type 0 where
-  pub told : Told
-  pub knows : Knows g most c told
-  pub judged : (verdict : Verdict) → IsJudgedFrom g most line told rest verdict → IsJudged g most report verdict
+-- the same of any game that a reader may know
+abbrev pub Hears : ((g : Game) (most : ℕ) → Told → List ℕ → Told → Type 0) → Checker → Checker → List ℕ → Result Bool AllocError → Type 0
+Hears IsRight old new text answer = (g : Game) (most : ℕ) → IsHeard g most (IsRight g most) old new text answer

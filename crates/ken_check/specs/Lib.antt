@@ -4,5 +4,6 @@ pub mod Laws
 pub mod Words
 pub mod Kinds
 pub mod Knowing
+pub mod Incoming
 pub mod Counts
 pub mod Endings

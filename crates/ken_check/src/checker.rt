@@ -1,11 +1,11 @@
 // A report's lines, each held against the run that those before it told.
-ghost use Rattle.std.specs.Prelude.{◌≡◌, ◌∷◌, ◌++◌, [], ℕ, IfOk};
+ghost use Rattle.std.specs.Prelude.{◌≡◌, ◌∷◌, ◌++◌, [], IfOk};
 ghost use Rattle.std.specs.Bool.{Decides};
-ghost use Rattle.ken_model.specs.Game.{Game, game_of};
+ghost use Rattle.ken_model.specs.Game.{game_of};
 ghost use Rattle.ken_model.specs.Limits.{IsWithinLimits};
 ghost use Rattle.ken_model.specs.Report.{IsOneLine};
 ghost use Rattle.ken_check.specs.Right.{IsRightLine, nothing_told};
-ghost use Rattle.ken_check.specs.Knowing.{IsHeard, IsReading, Knows};
+ghost use Rattle.ken_check.specs.Knowing.{Hears, IsReading, Knows};
 
 use crate::known::{Known, at_start};
 use crate::words::word;
@@ -63,11 +63,12 @@ impl<'a> Checker<'a> {
         })
     }
 
-    /// Whether the next line, which is given without its line feed, is right. Where it isn't, nothing more is to be asked.
+    /// Whether the next line, which is given without its line feed, is right. Where it isn't, nothing more is to be
+    /// asked.
     pub(crate) fn line(&mut self, text: &[u8]) -> Result<bool, AllocError>
         requires reading { IsReading self.old }
         requires one_line { IsOneLine text.now }
-        ensures { (g : Game) (most : ℕ) → IsHeard g most (IsRightLine g most) self.old self.new text.now result }
+        ensures { Hears IsRightLine self.old self.new text.now result }
     {
         let Some(kind) = word(text, 0) else {
             return Ok(false);

@@ -1,9 +1,8 @@
 // Emission lines.
-ghost use Rattle.std.specs.Prelude.{◌≡◌, ℕ};
-ghost use Rattle.ken_model.specs.Game.{Game};
+ghost use Rattle.std.specs.Prelude.{◌≡◌};
 ghost use Rattle.ken_model.specs.Report.{IsOneLine};
 ghost use Rattle.ken_check.specs.Kinds.{IsEmissionLine, IsEmissionOf};
-ghost use Rattle.ken_check.specs.Knowing.{IsBeforeRestarts, IsHeard, IsReading};
+ghost use Rattle.ken_check.specs.Knowing.{IsBeforeRestarts, Hears, IsReading};
 
 use crate::checker::{Checker, is_line};
 use crate::words::{node_at, number_at};
@@ -15,7 +14,7 @@ impl<'a> Checker<'a> {
     pub(crate) fn emission(&mut self, text: &[u8]) -> Result<bool, AllocError>
         requires reading { IsReading self.old }
         requires one_line { IsOneLine text.now }
-        ensures { (g : Game) (most : ℕ) → IsHeard g most (IsEmissionLine g) self.old self.new text.now result }
+        ensures { Hears (λ g _. IsEmissionLine g) self.old self.new text.now result }
     {
         if self.ended || self.heaps != 0 || self.has_restarts {
             return Ok(false);
@@ -31,7 +30,7 @@ impl<'a> Checker<'a> {
         requires reading { IsReading self.old }
         requires one_line { IsOneLine text.now }
         requires before { IsBeforeRestarts self.old }
-        ensures { (g : Game) (most : ℕ) → IsHeard g most (IsEmissionOf g node number) self.old self.new text.now result }
+        ensures { Hears (λ g _. IsEmissionOf g node number) self.old self.new text.now result }
     {
         if node >= self.facts.nodes || node < self.emitter {
             return Ok(false);

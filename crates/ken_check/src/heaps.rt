@@ -1,8 +1,7 @@
 // Heap lines.
-ghost use Rattle.std.specs.Prelude.{◌≡◌, ℕ};
-ghost use Rattle.ken_model.specs.Game.{Game};
+ghost use Rattle.std.specs.Prelude.{◌≡◌};
 ghost use Rattle.ken_check.specs.Kinds.{IsHeapLine};
-ghost use Rattle.ken_check.specs.Knowing.{IsHeard, IsReading};
+ghost use Rattle.ken_check.specs.Knowing.{Hears, IsReading};
 
 use crate::checker::{Checker, is_line};
 use ken_report::put_heap;
@@ -12,7 +11,7 @@ impl<'a> Checker<'a> {
     /// Whether the next line is right as a heap line.
     pub(crate) fn heap(&mut self, text: &[u8]) -> Result<bool, AllocError>
         requires reading { IsReading self.old }
-        ensures { (g : Game) (most : ℕ) → IsHeard g most (IsHeapLine g) self.old self.new text.now result }
+        ensures { Hears (λ g _. IsHeapLine g) self.old self.new text.now result }
     {
         if self.ended || self.heaps >= self.facts.nodes {
             return Ok(false);

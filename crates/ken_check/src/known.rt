@@ -1,11 +1,9 @@
 // What is known of each node.
-ghost use Rattle.std.specs.Prelude.{◌≡◌, ◌+◌, ◌<◌, ◌==◌, ℕ, if◌then◌else◌, length, count_by, IfOk, OnOk};
+ghost use Rattle.std.specs.Prelude.{◌≡◌, ◌<◌, ◌==◌, ℕ, if◌then◌else◌, length, count_by, IfOk, OnOk};
 ghost use Rattle.std.specs.List.{AllByRecursion};
 ghost use Rattle.ken_model.specs.declared.facts.Input.{Input};
 ghost use Rattle.ken_model.specs.declared.messages.Message.{Message};
-ghost use Rattle.ken_model.specs.Game.{game_of};
-ghost use Rattle.ken_model.specs.Limits.{IsWithinLimits};
-ghost use Rattle.ken_check.specs.Counts.{AreFresh, Counted, HaveTurned};
+ghost use Rattle.ken_check.specs.Counts.{AreFirst, AreFresh, Counted, HaveRoom, HaveTurned, MayTurn};
 
 use ken_model::{Done, Facts, Input, Message, Out};
 use std::alloc::{AllocError, Global};
@@ -29,10 +27,10 @@ pub(crate) struct Known {
 
 /// The nodes of a run before the first line.
 pub(crate) fn at_start(alloc: Global, facts: &Facts) -> Result<Vec<Known>, AllocError>
-    ensures { IfOk result (λ nodes. AreFresh facts.now.nodes (λ v. count_by (λ (i : Input). i.node == v) facts.now.inputs) nodes.items) }
+    ensures { IfOk result (λ nodes. AreFirst facts.now nodes.items) }
 {
     let mut nodes = fresh(alloc, facts.nodes)?;
-    give(&mut nodes, facts.inputs.as_slice())?;
+    give(&mut nodes, facts.inputs.as_slice());
     Ok(nodes)
 }
 
@@ -55,50 +53,44 @@ fn fresh(alloc: Global, count: u8) -> Result<Vec<Known>, AllocError>
 }
 
 /// Counts inputs, each for its node.
-fn give(nodes: &mut [Known], inputs: &[Input]) -> Result<(), AllocError>
-    ensures { OnOk result (Counted (λ v. count_by (λ (i : Input). i.node == v) inputs.now) nodes.old nodes.new) }
+fn give(nodes: &mut [Known], inputs: &[Input])
+    requires room { HaveRoom (length inputs.now) nodes.old }
+    ensures { Counted (λ v. count_by (λ (i : Input). i.node == v) inputs.now) nodes.old nodes.new }
 {
     for input in inputs {
-        arrive(nodes, input.node)?;
+        arrive(nodes, input.node);
     }
-    Ok(())
 }
 
 /// Counts messages, each for its receiver.
-fn post(nodes: &mut [Known], messages: &[Message]) -> Result<(), AllocError>
-    ensures { OnOk result (Counted (λ v. count_by (λ (m : Message). m.to == v) messages.now) nodes.old nodes.new) }
+fn post(nodes: &mut [Known], messages: &[Message])
+    requires room { HaveRoom (length messages.now) nodes.old }
+    ensures { Counted (λ v. count_by (λ (m : Message). m.to == v) messages.now) nodes.old nodes.new }
 {
     for message in messages {
-        arrive(nodes, message.to)?;
+        arrive(nodes, message.to);
     }
-    Ok(())
 }
 
 /// Counts a message or an input that comes for a node, if it is one of these.
-fn arrive(nodes: &mut [Known], node: u8) -> Result<(), AllocError>
-    ensures { OnOk result (Counted (λ v. if node == v then 1 else 0) nodes.old nodes.new) }
+fn arrive(nodes: &mut [Known], node: u8)
+    requires room { HaveRoom 1 nodes.old }
+    ensures { Counted (λ v. if node == v then 1 else 0) nodes.old nodes.new }
 {
     if usize::from(node) < nodes.len() {
-        let known = &mut nodes[usize::from(node)];
-        known.came = sum(known.came, 1)?;
+        nodes[usize::from(node)].came += 1;
     }
-    Ok(())
 }
 
 /// Keeps what a turn of a node did.
 pub(crate) fn turned(nodes: &mut [Known], node: u8, done: Done) -> Result<(), AllocError>
-    requires { node < length nodes.old }
+    requires known { node < length nodes.old }
+    requires room { HaveRoom (length done.sends) nodes.old }
+    requires turn { MayTurn nodes.old }
     ensures { OnOk result (HaveTurned node done nodes.old nodes.new) }
 {
-    post(nodes, done.sends.as_slice())?;
+    post(nodes, done.sends.as_slice());
     let known = &mut nodes[usize::from(node)];
-    known.turns = sum(known.turns, 1)?;
+    known.turns += 1;
     known.outs.append(&mut done.outs.into_vec())
-}
-
-/// The sum of two counts of what is held in memory. One that 64 bits don't hold is answered as want of memory.
-pub(crate) fn sum(count: u64, more: u64) -> Result<u64, AllocError>
-    ensures { IfOk result (λ sum. sum ≡ count + more) }
-{
-    count.checked_add(more).ok_or(AllocError)
 }

@@ -5,16 +5,16 @@ mod checker;
 mod emissions;
 mod ending;
 mod heaps;
+mod judging;
 mod known;
 mod laws;
-mod report;
 mod restarts;
 mod turns;
 mod verdict;
 mod words;
 
+pub use judging::Judging;
 pub use laws::{reports_are_judged_once, reports_are_right, right_reports_are_of_runs};
-pub use report::check;
 pub use verdict::Verdict;
 
 #[cfg(test)]

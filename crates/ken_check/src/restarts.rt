@@ -1,10 +1,12 @@
 // Restart lines.
-ghost use Rattle.std.specs.Prelude.{◌≡◌, ℕ};
-ghost use Rattle.ken_model.specs.Game.{Game};
+ghost use Rattle.std.specs.Prelude.{◌≡◌};
+ghost use Rattle.std.specs.Bool.{Decides};
+ghost use Rattle.ken_check.specs.Counts.{IsAllowed};
 ghost use Rattle.ken_check.specs.Kinds.{IsRestartLine, IsRestartOf};
-ghost use Rattle.ken_check.specs.Knowing.{IsBeforeHeaps, IsHeard, IsReading};
+ghost use Rattle.ken_check.specs.Knowing.{IsBeforeHeaps, Hears, IsReading};
 
 use crate::checker::{Checker, is_line};
+use crate::known::Known;
 use crate::words::{node_at, number_at};
 use ken_model::RestartLine;
 use ken_report::put_restart;
@@ -14,7 +16,7 @@ impl<'a> Checker<'a> {
     /// Whether the next line is right as a restart line.
     pub(crate) fn restart(&mut self, text: &[u8]) -> Result<bool, AllocError>
         requires reading { IsReading self.old }
-        ensures { (g : Game) (most : ℕ) → IsHeard g most (IsRestartLine g most) self.old self.new text.now result }
+        ensures { Hears IsRestartLine self.old self.new text.now result }
     {
         if self.ended || self.heaps != 0 {
             return Ok(false);
@@ -29,16 +31,13 @@ impl<'a> Checker<'a> {
     fn restart_at(&mut self, restart: RestartLine, text: &[u8]) -> Result<bool, AllocError>
         requires reading { IsReading self.old }
         requires before { IsBeforeHeaps self.old }
-        ensures { (g : Game) (most : ℕ) → IsHeard g most (IsRestartOf g most restart) self.old self.new text.now result }
+        ensures { Hears (λ g most. IsRestartOf g most restart) self.old self.new text.now result }
     {
         if restart.node >= self.facts.nodes || restart.node < self.restarted {
             return Ok(false);
         }
         let known = &mut self.nodes[usize::from(restart.node)];
-        if known.restarts >= self.most
-            || restart.turns < known.recovered
-            || restart.turns > known.turns
-        {
+        if !may_restart(known, self.most, restart.turns) {
             return Ok(false);
         }
         self.buffer.clear();
@@ -52,4 +51,11 @@ impl<'a> Checker<'a> {
         self.has_restarts = true;
         Ok(true)
     }
+}
+
+/// Whether a node that may be restarted `most` times may be restarted once more, and go on with so many turns.
+fn may_restart(known: &Known, most: u64, turns: u64) -> bool
+    ensures { Decides result (IsAllowed most turns known.now) }
+{
+    known.restarts < most && known.recovered <= turns && turns <= known.turns
 }

@@ -33,13 +33,14 @@ fn ring(alloc: Global) -> Result<Facts, AllocError>
     })
 }
 
-// Judges a report of the ring that is made of these parts.
-fn judged(alloc: Global, parts: &[&[u8]]) -> Result<Verdict, AllocError> {
-    let mut report = Vec::new(alloc);
-    for part in parts {
-        report.extend_from_slice(part)?;
+// Judges a report of the ring that comes in these pieces.
+fn judged(alloc: Global, pieces: &[&[u8]]) -> Result<Verdict, AllocError> {
+    let facts = ring(alloc)?;
+    let mut judging = Judging::new(alloc, &facts, 0)?;
+    for piece in pieces {
+        judging.read(piece)?;
     }
-    check(alloc, &ring(alloc)?, 0, report.as_slice())
+    Ok(judging.verdict())
 }
 
 #[test]
@@ -57,8 +58,20 @@ fn a_report_is_judged_by_its_first_wrong_line(rt: HostRuntime) -> Result<(), Fai
         ),
         (&[TURNS, LAST_TURN, EMISSIONS, HEAPS, end, end], wrong(11)),
     ];
-    for (parts, want) in cases {
-        assert_eq!(rt; judged(rt.alloc(), parts)?, want);
+    for (pieces, want) in cases {
+        assert_eq!(rt; judged(rt.alloc(), pieces)?, want);
     }
+    Ok(())
+}
+
+#[test]
+fn pieces_of_one_byte_are_judged_as_the_whole(rt: HostRuntime) -> Result<(), Fail> {
+    let report = b"turn 1 0 out 1 -\nturn 2 1 0 1 -\nturn 3 2 1 1 7\nend settled 3\n";
+    let facts = ring(rt.alloc())?;
+    let mut judging = Judging::new(rt.alloc(), &facts, 0)?;
+    for byte in report {
+        judging.read(&[*byte])?;
+    }
+    assert_eq!(rt; judging.verdict(), Verdict::Wrong { line: 3 });
     Ok(())
 }

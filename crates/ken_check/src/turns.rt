@@ -1,14 +1,13 @@
 // Turn lines.
-ghost use Rattle.std.specs.Prelude.{◌≡◌, ◌≢◌, ◌<◌, ◌^◌, ℕ, false, IfOk};
+ghost use Rattle.std.specs.Prelude.{◌≡◌, ◌≢◌, ◌<◌, ◌^◌, false, IfOk};
 ghost use Rattle.ken_model.specs.declared.faults.StepFault.TheVariants.{Memory};
 ghost use Rattle.std.specs.Bool.{Decides};
-ghost use Rattle.ken_model.specs.Game.{Game};
 ghost use Rattle.ken_model.specs.Schedule.{ComesBefore};
 ghost use Rattle.ken_check.specs.Kinds.{IsTurnLine, IsTurnOf};
-ghost use Rattle.ken_check.specs.Knowing.{IsBeforeEmissions, IsHeard, IsReading};
+ghost use Rattle.ken_check.specs.Knowing.{IsBeforeEmissions, Hears, IsReading};
 
 use crate::checker::{Checker, is_line};
-use crate::known::{sum, turned};
+use crate::known::turned;
 use crate::words::step_in;
 use ken_model::{Step, StepFault, TurnLine};
 use ken_report::put_turn;
@@ -18,7 +17,7 @@ impl<'a> Checker<'a> {
     /// Whether the next line is right as a turn line.
     pub(crate) fn turn(&mut self, text: &[u8]) -> Result<bool, AllocError>
         requires reading { IsReading self.old }
-        ensures { (g : Game) (most : ℕ) → IsHeard g most (IsTurnLine g) self.old self.new text.now result }
+        ensures { Hears (λ g _. IsTurnLine g) self.old self.new text.now result }
     {
         if self.ended || self.heaps != 0 || self.has_restarts || self.has_emissions {
             return Ok(false);
@@ -34,7 +33,7 @@ impl<'a> Checker<'a> {
         requires reading { IsReading self.old }
         requires before { IsBeforeEmissions self.old }
         requires sender { step.from < 2 ^ 8 }
-        ensures { (g : Game) (most : ℕ) → IsHeard g most (IsTurnOf g step) self.old self.new text.now result }
+        ensures { Hears (λ g _. IsTurnOf g step) self.old self.new text.now result }
     {
         if step.node >= self.facts.nodes {
             return Ok(false);
@@ -60,7 +59,7 @@ impl<'a> Checker<'a> {
             return Ok(false);
         }
         turned(&mut self.nodes, node, done)?;
-        self.turns = sum(self.turns, 1)?;
+        self.turns += 1;
         self.stamp = stamp;
         self.node = node;
         Ok(true)
@@ -81,5 +80,5 @@ fn refusal(fault: StepFault) -> Result<bool, AllocError>
 fn comes_before(stamp: u64, node: u8, later_stamp: u64, later_node: u8) -> bool
     ensures { Decides result (ComesBefore stamp node later_stamp later_node) }
 {
-    stamp < later_stamp || stamp == later_stamp && node < later_node
+    (stamp, node) < (later_stamp, later_node)
 }

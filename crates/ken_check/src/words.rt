@@ -1,16 +1,17 @@
-// What the words of a line name. They are read loosely: whether a line is spelled as it should be is for its reader to see.
-ghost use Rattle.std.specs.Prelude.{◌≡◌, ◌<◌, ◌^◌, ℕ, option_copied, option_map, slice_get, List, IfOk, Some, decimal};
-ghost use Rattle.std.specs.List.{AllByRecursion};
+// What the words of a line name. They are read loosely: whether a line is spelled as it should be is for its reader
+// to see.
+ghost use Rattle.std.specs.Prelude.{◌≡◌, ◌<◌, ◌^◌, ℕ, option_copied, option_map, slice_get, IfOk, Some, decimal};
 ghost use Rattle.ken_model.specs.declared.messages.Step.{Step};
-ghost use Rattle.ken_model.specs.Report.{draws_word, sender_word};
-ghost use Rattle.ken_model.specs.Spelling.{IsWord, parts_at};
-ghost use Rattle.ken_check.specs.Words.{HasStepWords};
+ghost use Rattle.ken_model.specs.Report.{sender_word};
+ghost use Rattle.ken_model.specs.Spelling.{parts_at};
+ghost use Rattle.ken_check.specs.Words.{HasStepWords, ReadsDraws};
 
 use ken_model::{Items, OUTSIDE, Step};
 use ken_num::decimal;
 use std::alloc::{AllocError, Global};
 
-/// The word of a line that has so many before it, where there is one. Words have one space between them.
+/// The word of a line that has so many before it, where there is one. Words have one space between them. Nothing behind
+/// it is looked at.
 pub(crate) fn word(text: &[u8], index: usize) -> Option<&[u8]>
     ensures { option_copied result ≡ slice_get (parts_at 32 text.now) index }
 {
@@ -44,7 +45,7 @@ fn sender_at(text: &[u8], index: usize) -> Option<u8>
 
 /// The draws of a word of a line: numbers with commas between them, or `-`.
 fn draws_in(alloc: Global, word: &[u8]) -> Result<Option<Vec<u64>>, AllocError>
-    ensures { IfOk result (λ found. (ds : List ℕ) → AllByRecursion IsWord ds → word.now ≡ draws_word ds → option_map (λ draws. draws.items) found ≡ Some ds) }
+    ensures { IfOk result (λ found. ReadsDraws word.now (option_map (λ draws. draws.items) found)) }
 {
     let mut draws = Vec::new(alloc);
     if word == b"-".as_slice() {

@@ -1,4 +1,4 @@
-use Rattle.std.proofs.Common.{◌≡◌, ◌≢◌, ℕ, ◌+◌, ◌<◌, inl, inr, List, [], ◌∷◌, ◌++◌, length, get_or, take, Some, sym, subst, ◌∙◌, ⊎_elim, arith, length-append}
+use Rattle.std.proofs.Common.{◌≡◌, ◌≢◌, ℕ, ◌+◌, ◌<◌, List, [], ◌∷◌, ◌++◌, length, get_or, take, Some, sym, subst, ◌∙◌, arith, length-append}
 use Rattle.std.specs.List.{All, Any}
 use Rattle.std.proofs.lemmas.List.{get_or_append_left, take_all, take_more}
 use Rattle.std.proofs.lemmas.List.Elements.{All-more}
@@ -8,7 +8,7 @@ use Rattle.ken_model.specs.declared.reports.Ending.TheVariants.{Settled, Cut}
 use Rattle.ken_check.specs.declared.known.Known.{Known}
 use Rattle.ken_check.specs.Endings.{EndsBy, IsDone}
 use Rattle.ken_check.proofs.ending.ending.Goals as goal
-use Rattle.ken_check.proofs.ending.ending.Goals.{then-known+else-known-turns, else-known}
+use Rattle.ken_check.proofs.ending.ending.Goals.{then-known, else-known}
 
 any_more : {X : Type 0} (P : X → Type 0) (xs ys : List X) → Any P xs → Any P (xs ++ ys)
 any_more P xs ys any = (any.0, any.1, omega (arith, any.2, length-append xs ys), get_or_append_left xs ys any.1 any.0 any.2 ∙ any.3, any.4)
@@ -34,25 +34,19 @@ module _ (turns : ℕ) (ks : List Known) (i : ℕ) (k : Known) (within : i < len
       let waits : Any (λ (x : Known). x.came ≢ x.turns) (take i ks ++ get_or ks i k ∷ []) = Any-push (λ (x : Known). x.came ≢ x.turns) (take i ks) (get_or ks i k) (subst (λ (x : Known). x.came ≢ x.turns) is some) in
       (all_done (all_before turns (take i ks) e so_far), subst (Any (λ (x : Known). x.came ≢ x.turns)) (sym (take_more ks i k within)) waits)
 
-pub returns-then-known-len : goal.returns-then-known-len
-returns-then-known-len c =
-    (c.loop-known.known-index, c.known-item.result, c.loop-known-test.true, sym c.known-item.is, λ (done : IsDone c.args.turns c.known-item.result). c.if-known-len.true (done.emitted ∙ sym c.known-item.result.outs.ok.0 ∙ sym c.len.ensures))
-
-pub returns-then-known-turns : goal.returns-then-known-turns
-returns-then-known-turns c =
-    (c.loop-known.known-index, c.known-item.result, c.loop-known-test.true, sym c.known-item.is, λ (done : IsDone c.args.turns c.known-item.result). ⊎_elim (λ none. c.if-known.true none) (λ all. c.if-known-turns.true all) done.over)
+pub returns-then-not-is_done : goal.returns-then-not-is_done
+returns-then-not-is_done c =
+    (c.loop-known.known-index, c.known-item.result, c.loop-known-test.true, sym c.known-item.is, λ (done : IsDone c.args.turns c.known-item.result). (let yes = c.is_done.ensures.1 done in let no = c.if-not-is_done.true in absurd cc))
 
 pub loop-known-preserved : goal.loop-known-preserved
 loop-known-preserved c =
     let k : Known = c.known-item.result in
-    let emitted : k.emitted ≡ length k.outs.items = c.if-known-len.false ∙ c.len.ensures ∙ k.outs.ok.0 in
+    let done : IsDone c.args.turns k = c.is_done.ensures.0 c.if-not-is_done.false in
     elim c.if-known.branch [
-      | then-known+else-known-turns w ↦
-          let done : IsDone c.args.turns k = record { emitted = emitted; over = inr w.if-known-turns.false } in
+      | then-known w ↦
           subst (λ e. EndsBy c.args.turns (take (c.loop-known.known-index + 1) c.args.nodes.now) (Some e)) (sym w.ending-is)
           (something_waits c.args.turns c.args.nodes.now c.loop-known.known-index k c.loop-known-test.true c.known-item.is done c.loop-known.ending w.if-known.true c.loop-known.invariant)
       | else-known w ↦
-          let done : IsDone c.args.turns k = record { emitted = emitted; over = inl w.if-known.false } in
           subst (λ e. EndsBy c.args.turns (take (c.loop-known.known-index + 1) c.args.nodes.now) (Some e)) (sym w.ending-is)
           (nothing_waits c.args.turns c.args.nodes.now c.loop-known.known-index k c.loop-known-test.true c.known-item.is done c.loop-known.ending w.if-known.false c.loop-known.invariant)
     ]

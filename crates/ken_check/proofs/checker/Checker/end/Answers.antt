@@ -1,4 +1,4 @@
-use Rattle.std.proofs.Common.{◌≡◌, ◌-◌, ℕ, List, [], ◌∷◌, ◌++◌, length, sum_by, Bool, true, false, Option, Some, None, Vec, Global, refl, sym, ap, subst, ◌∙◌}
+use Rattle.std.proofs.Common.{◌≡◌, ◌-◌, ◌<◌, ◌^◌, ℕ, List, [], ◌∷◌, ◌++◌, length, sum_by, Bool, true, false, Option, Some, None, Vec, Global, refl, sym, ap, subst, ◌∙◌}
 use Rattle.ken_model.specs.declared.reports.Ending.{Ending}
 use Rattle.ken_model.specs.Ending.{Ends, waiting}
 use Rattle.ken_model.specs.Game.{Game}
@@ -12,6 +12,7 @@ use Rattle.ken_check.specs.Kinds.{IsEndLine}
 use Rattle.ken_check.specs.Knowing.{IsReading, Knows}
 use Rattle.ken_check.specs.Right.{Told}
 use Rattle.ken_check.proofs.Beyond.{HasOnlyNodes, only_nodes}
+use Rattle.ken_check.proofs.Counting.{few_wait}
 use Rattle.ken_check.proofs.Ended.{ended, not_ended, one_ending, waiting-is}
 use Rattle.ken_check.proofs.checker.Checker.end.Goals as goal
 
@@ -44,7 +45,7 @@ module _ (c : Checker) (reading : IsReading c) (g : Game) (most : ℕ) (told : T
     limit = knows.limit;
     alike = knows.alike;
     width = knows.width;
-    each = λ v known none. let k = knows.each v known none in record { outs = k.outs; turns = k.turns; came = k.came; emitted = k.emitted; restarts = k.restarts; recovered = k.recovered };
+    each = λ v known none. let k = knows.each v known none in record { outs = k.outs; turns = k.turns; few = k.few; came = k.came; emitted = k.emitted; restarts = k.restarts; recovered = k.recovered };
     turns = knows.turns;
     legal = knows.legal;
     no_emission = knows.no_emission;
@@ -57,6 +58,11 @@ module _ (c : Checker) (reading : IsReading c) (g : Game) (most : ℕ) (told : T
     ended = refl;
   }
 
+pub waiting-waiting-requires-clause-few : goal.waiting-waiting-requires-clause-few
+waiting-waiting-requires-clause-few c =
+    let r = c.requires.reading in
+    subst (λ (ks : List Known). sum_by (λ (k : Known). k.came - k.turns) ks < 2 ^ 64) (sym c.as_slice.ensures.value) (few_wait r.game r.most c.args.self.now r.told r.knows)
+
 pub returns-in_default : goal.returns-in_default
 returns-in_default c g most told knows told2 right =
     not_by c.args.self.now c.requires.reading g most told knows c.as_slice-2.result.now right.ending c.as_slice-2.ensures.value c.in_default.ensures right.ends
@@ -66,8 +72,8 @@ returns-then-not-is_line c g most told knows told2 right =
     let self : Checker = c.args.self.now in
     let slice : List ℕ = c.as_slice-3.result.now in
     let text : List ℕ = c.args.text.now ++ 10 ∷ [] in
-    let put = spelled self c.requires.reading g most told knows c.clear.new.self.items c.put_end.new.out.items slice c.as_slice.result.now c.in-Some.ending c.in_ok-waiting.waiting
-    c.as_slice-3.ensures.value c.in_ok-put_end.ensures c.clear.ensures.items c.as_slice.ensures.value c.in_ok-waiting.ensures in
+    let put = spelled self c.requires.reading g most told knows c.clear.new.self.items c.put_end.new.out.items slice c.as_slice.result.now c.in-Some.ending c.waiting-waiting.result
+    c.as_slice-3.ensures.value c.in_ok-put_end.ensures c.clear.ensures.items c.as_slice.ensures.value c.waiting-waiting.ensures in
     let one = one_ending g (play g told.schedule) told.emissions c.in-Some.ending right.ending
     (ends_by self c.requires.reading g most told knows c.as_slice-2.result.now c.in-Some.ending c.as_slice-2.ensures.value c.in-Some.ensures) right.ends in
     let same : slice ≡ text = put ∙ ap (λ e. line (end_words e (length told.schedule) (waiting g (play g told.schedule)))) one ∙ sym right.text in
@@ -79,8 +85,8 @@ returns c g most told knows =
     let self : Checker = c.args.self.now in
     let slice : List ℕ = c.as_slice-3.result.now in
     let text : List ℕ = c.args.text.now ++ 10 ∷ [] in
-    let put = spelled self c.requires.reading g most told knows c.clear.new.self.items c.put_end.new.out.items slice c.as_slice.result.now c.in-Some.ending c.in_ok-waiting.waiting
-    c.as_slice-3.ensures.value c.in_ok-put_end.ensures c.clear.ensures.items c.as_slice.ensures.value c.in_ok-waiting.ensures in
+    let put = spelled self c.requires.reading g most told knows c.clear.new.self.items c.put_end.new.out.items slice c.as_slice.result.now c.in-Some.ending c.waiting-waiting.result
+    c.as_slice-3.ensures.value c.in_ok-put_end.ensures c.clear.ensures.items c.as_slice.ensures.value c.waiting-waiting.ensures in
     let same : slice ≡ text = c.if-not-is_line.ensures.0 refl in
     let right : IsEndLine g told text (record told { ended = true }) = record {
       ending = c.in-Some.ending;

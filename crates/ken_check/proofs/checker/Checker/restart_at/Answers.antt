@@ -1,9 +1,9 @@
 use Rattle.std.proofs.Common.{◌++◌, sym, ap, ◌∙◌, arith}
 use Rattle.ken_model.specs.Report.{line, restart_words}
 use Rattle.ken_check.proofs.Kept.{read_at}
-use Rattle.ken_check.proofs.KnowsRestart.{IsAllowed, names_node, names_turns, is_right, is_known}
+use Rattle.ken_check.proofs.KnowsRestart.{names_node, names_turns, is_right, is_known}
 use Rattle.ken_check.proofs.checker.Checker.restart_at.Goals as goal
-use Rattle.ken_check.proofs.checker.Checker.restart_at.Goals.{then-restart-self-via-then-restart-self, then-restart-self-via-else-restart-self+then-restart-self-2, then-known-self-via-then-known-self, then-known-self-via-else-known-self+then-restart-known, then-known-self-via-else-known-self+else-restart-known+then-restart-known-2}
+use Rattle.ken_check.proofs.checker.Checker.restart_at.Goals.{then-restart-self-via-then-restart-self, then-restart-self-via-else-restart-self+then-restart-self-2}
 
 pub returns-then-restart-self : goal.returns-then-restart-self
 returns-then-restart-self c = λ g most told knows told2 is.
@@ -13,15 +13,13 @@ returns-then-restart-self c = λ g most told knows told2 is.
       | then-restart-self-via-else-restart-self+then-restart-self-2 w ↦ omega (arith, w.if-restart-self-2.true, named)
     ]
 
-pub returns-then-known-self : goal.returns-then-known-self
-returns-then-known-self c = λ g most told knows told2 is.
+pub returns-then-not-may_restart : goal.returns-then-not-may_restart
+returns-then-not-may_restart c = λ g most told knows told2 is.
     let at = read_at _ _ _ _ c.index_mut-known.ensures.value c.from.ensures in
     let named = names_turns g most c.args.self.now told knows c.args.restart _ told2 is _ at in
-    elim c.then-known-self.branch [
-      | then-known-self-via-then-known-self w ↦ omega (arith, w.if-known-self.true, named.few)
-      | then-known-self-via-else-known-self+then-restart-known w ↦ omega (arith, w.if-restart-known.true, named.from)
-      | then-known-self-via-else-known-self+else-restart-known+then-restart-known-2 w ↦ omega (arith, w.if-restart-known-2.true, named.to)
-    ]
+    let yes = c.may_restart.ensures.1 named in
+    let no = c.if-not-may_restart.true in
+    absurd cc
 
 pub returns : goal.returns
 returns c = λ g most told knows.
@@ -29,9 +27,7 @@ returns c = λ g most told knows.
     let at = read_at _ _ _ _ c.index_mut-known.ensures.value c.from.ensures in
     let shown = c.as_slice.ensures.value ∙ c.in_ok-put_restart.ensures ∙ ap (λ bs. bs ++ line (restart_words r)) c.clear.ensures.items in
     let spelled = sym (c.is_line.ensures.0 c.if-not-is_line.false) ∙ shown in
-    let allowed : IsAllowed c.args.self.now.most c.index_mut-known.result.now r =
-    record { few = c.if-known-self.false; from = c.if-restart-known.false; to = c.if-restart-known-2.false }
-    in (
+    let allowed = c.may_restart.ensures.0 c.if-not-may_restart.false in (
       _,
       is_right g most c.args.self.now told knows r _ c.if-restart-self.false c.if-restart-self-2.false at allowed c.args.text.now
           c.requires.before (omega (arith, c.if-restart-self.false, knows.limits.few_nodes), omega arith) spelled,

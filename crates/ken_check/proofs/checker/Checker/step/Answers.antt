@@ -1,4 +1,4 @@
-use Rattle.std.proofs.Common.{◌≡◌, ℕ, ◌<◌, ◌^◌, List, [], ◌∷◌, ◌++◌, Some, true, false, refl, sym, ap, ap₂, subst, arith, rules, ◌∙◌}
+use Rattle.std.proofs.Common.{◌≡◌, ℕ, ◌+◌, ◌<◌, ◌^◌, List, [], ◌∷◌, ◌++◌, length, Some, true, false, refl, sym, ap, ap₂, subst, arith, rules, ◌∙◌}
 use Rattle.std.specs.Vec.{with_items}
 use Rattle.std.proofs.lemmas.List.{with_items_is}
 use Rattle.ken_check.specs.declared.checker.Checker.{Checker}
@@ -7,9 +7,10 @@ use Rattle.ken_model.specs.Game.{Game}
 use Rattle.ken_model.specs.Network.{Turn, start, turn_of}
 use Rattle.ken_model.specs.Report.{line, turn_words}
 use Rattle.ken_check.specs.declared.known.Known.{Known}
-use Rattle.ken_check.specs.Counts.{HaveTurned}
+use Rattle.ken_check.specs.Counts.{HaveRoom, HaveTurned, MayTurn}
 use Rattle.ken_model.specs.Schedule.{ComesBefore, play}
 use Rattle.ken_check.specs.Kinds.{IsTurnLine, IsTurnOf}
+use Rattle.ken_check.proofs.Counting.{few_turns, may_turn, sends_room}
 use Rattle.ken_check.proofs.Turning.{IsAfterTurn, draws_are_words, heard_refusal, is_next, legal_push, legal_whole, one_turn, refused_turn, same_turn, turn_known, wrong_node}
 use Rattle.ken_check.proofs.checker.Checker.step.Goals as goal
 
@@ -30,6 +31,21 @@ returns-then-not-comes_before c = λ g most told knows told2 line.
     let differ : true ≡ false = sym (c.comes_before.ensures.1 before) ∙ c.if-not-comes_before.true in
     absurd cc
 
+pub turned-requires-clause-room : goal.turned-requires-clause-room
+turned-requires-clause-room c =
+    let r = c.requires.reading in
+    subst (HaveRoom (length c.in-Ok.done.sends)) (sym c.deref_mut.ensures.value) (sends_room r.game r.most c.args.self.now r.told r.knows c.args.step _ c.in-Ok.done c.in-Ok.ensures.done)
+
+pub turned-requires-clause-turn : goal.turned-requires-clause-turn
+turned-requires-clause-turn c =
+    let r = c.requires.reading in
+    subst MayTurn (sym c.deref_mut.ensures.value) (may_turn r.game r.most c.args.self.now r.told r.knows)
+
+pub overflow_add-self : goal.overflow_add-self
+overflow_add-self c =
+    let r = c.requires.reading in
+    omega (arith, r.knows.turns, few_turns r.game r.most c.args.self.now r.told r.knows)
+
 pub returns : goal.returns
 returns c = λ g most told knows.
     let self = c.args.self.now in
@@ -44,14 +60,14 @@ returns c = λ g most told knows.
     let no_emission = knows.no_emission.0 c.requires.before.no_emission in
     let no_restart = knows.no_restart.0 c.requires.before.no_restart in
     let turned = subst (λ (l : List Known). HaveTurned s.node c.in-Ok.done l c.turned.new.nodes) c.deref_mut.ensures.value c.in_ok-turned.ensures in
-    let new : Checker = record self { actors = c.step.new.self; nodes = with_items self.nodes c.turned.new.nodes; turns = c.in_ok-self.field-0; stamp = c.in-Ok.done.stamp; node = s.node; buffer = c.put_turn.new.out } in
+    let new : Checker = record self { actors = c.step.new.self; nodes = with_items self.nodes c.turned.new.nodes; turns = c.args.self.now.turns + 1; stamp = c.in-Ok.done.stamp; node = s.node; buffer = c.put_turn.new.out } in
     let after : IsAfterTurn s c.in-Ok.done self new = record {
       facts = refl;
       limit = refl;
       actors_facts = c.in-Ok.ensures.facts;
       actors = made;
       nodes = subst (λ (l : List Known). HaveTurned s.node c.in-Ok.done self.nodes.items l) (sym (with_items_is self.nodes c.turned.new.nodes (omega (arith, turned.width, self.nodes.ok.0)))) turned;
-      turns = c.in_ok-self.ensures;
+      turns = refl;
       stamp = refl;
       node = refl;
       has_emissions = refl;
