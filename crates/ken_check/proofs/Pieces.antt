@@ -203,11 +203,6 @@ read_on bytes rest end old mid new so_far cut more =
       read = λ g most seen read. subst (λ (l : List ℕ). HasRead g most l new) (append_assoc seen so_far.front line) (more g most (seen ++ so_far.front) (so_far.read g most seen read));
     }
 
--- what is behind it is not looked at, where it was wrong
-pub read_all : (bytes rest : List ℕ) (old new : Judging) → HasReadOn bytes rest old new → new.wrong ≡ true → (g : Game) (most : ℕ) (seen : List ℕ) → HasRead g most seen old → HasRead g most (seen ++ bytes) new
-read_all bytes rest old new so_far wrong g most seen read =
-    subst (λ (l : List ℕ). HasRead g most l new) (append_assoc seen so_far.front rest ∙ ap (λ (l : List ℕ). seen ++ l) (sym so_far.parts)) (read_past rest (so_far.read g most seen read) wrong)
-
 -- an answer to a line, where it is known
 pub heard_as : (g : Game) (most : ℕ) (old new : Checker) (text : List ℕ) (r : Result Bool AllocError) (b b2 : Bool) → r ≡ Ok b → b ≡ b2 → IsHeard g most (IsRightLine g most) old new text r → IsHeard g most (IsRightLine g most) old new text (Ok b2)
 heard_as g most old new text r b b2 was is heard = subst (IsHeard g most (IsRightLine g most) old new text) (was ∙ ap (λ (x : Bool). Ok x) is) heard

@@ -2,3 +2,4 @@ mod Reported
 mod Complete
 mod Texts
 mod Judging
+mod Coming

@@ -2,4 +2,5 @@ pub mod Programs
 pub mod Commands
 pub mod Headline
 pub mod Checked
+pub mod Pieces
 pub mod Statuses

@@ -1,20 +1,26 @@
 // A report is checked.
-ghost use Rattle.std.specs.Prelude.{◌≡◌, ◌≢◌, ◌+◌, ◌≤◌, take, drop, IfOk, IfErr, IsErrOf};
+ghost use Rattle.std.specs.Prelude.{◌≡◌, ◌≢◌, ◌+◌, ◌<◌, ◌≤◌, IfOk, IfErr, IsErrOf};
+ghost use Rattle.std.specs.Bool.{Decides};
 ghost use Rattle.ken_io.specs.Causes.{Rose};
 ghost use Rattle.ken_io.specs.Transfers.{TakesAtMost};
+ghost use Rattle.ken_model.specs.Game.{game_of};
+ghost use Rattle.ken_model.specs.Limits.{IsWithinLimits};
 ghost use Rattle.ken_top.specs.Checked.{Checks, IsAffirmed, IsJudgedOf, IsRefused};
 ghost use Rattle.ken_top.specs.Headline.{HasCauses, IsQuiet};
+ghost use Rattle.ken_top.specs.Pieces.{IsReportJudged, IsReportRefused, IsRoomBehind, IsScriptRefused};
 
+use crate::incoming::{let_go, read_front, read_report};
 use crate::status::Status;
-use ken_check::{Verdict, check};
-use ken_io::{Sink, Source, read_all, write_all};
+use ken_check::{Judging, Verdict};
+use ken_io::{Sink, Source, write_all};
+use ken_script::{Script, ScriptFault};
 use std::alloc::Global;
 
 /// The most bytes of a script and a report that are checked.
 pub const MOST_INPUT: usize = 268_435_456;
 
 /// Reads a script of `length` bytes, fewer where the source ends sooner, and a report behind it, and says whether the report is one that
-/// a run of the script prints.
+/// a run of the script prints. The report is held against the script's run as it comes in, and let go.
 pub(crate) fn checked<S: Source, K: Sink>(
     alloc: Global,
     length: usize,
@@ -43,24 +49,73 @@ fn judged<S: Source>(alloc: Global, length: usize, source: &mut S) -> Result<Ver
     ensures taken { TakesAtMost (MOST_INPUT + 1) (S.left source.old) (S.left source.new) }
     ensures faults { S.faults source.old ≤ S.faults source.new }
 {
-    let bytes = read_all(alloc, source, MOST_INPUT)?;
-    if bytes.as_slice().len() > MOST_INPUT {
-        return Err(Status::Long);
-    }
-    let (script, report) = parted(bytes.as_slice(), length);
-    let script = ken_script::read(alloc, script)?;
-    match check(alloc, &script.facts, script.restarts, report) {
-        Ok(verdict) => Ok(verdict),
-        Err(_) => Err(Status::Memory),
+    let size = length.min(MOST_INPUT);
+    let text = read_front(alloc, source, size)?;
+    let room = room_behind(text.len(), size);
+    match ken_script::read(alloc, text.as_slice()) {
+        Ok(script) => report_judged(alloc, &script, source, room),
+        Err(fault) => Err(refused(source, room, fault)),
     }
 }
 
-// The script of so many bytes, and what stands behind it.
-fn parted(bytes: &[u8], length: usize) -> (&[u8], &[u8])
-    ensures script { result.0.now ≡ take length bytes.now }
-    ensures report { result.1.now ≡ drop length bytes.now }
+/// How many bytes are to be read behind a script of so many, where `size` were asked for: one more than may be checked, and
+/// none where the input has ended.
+fn room_behind(count: usize, size: usize) -> usize
+    requires { count ≤ MOST_INPUT }
+    ensures { IsRoomBehind count size result }
 {
-    bytes.split_at(length.min(bytes.len()))
+    if count < size {
+        0
+    } else {
+        MOST_INPUT + 1 - count
+    }
+}
+
+/// Judges the report that is left, for a script that keeps its rules. One that takes all the room is too long.
+fn report_judged<S: Source>(
+    alloc: Global,
+    script: &Script,
+    source: &mut S,
+    room: usize,
+) -> Result<Verdict, Status>
+    requires limits { IsWithinLimits (game_of script.now.facts) }
+    requires few { room ≤ MOST_INPUT + 1 }
+    ensures judged { IfOk result (IsReportJudged script.now room (S.left source.old) (S.left source.new)) }
+    ensures refused { IfErr result (IsReportRefused room (S.left source.old) (S.left source.new)) }
+    ensures read { IsErrOf result Status.Read → Rose (S.faults source.old) (S.faults source.new) }
+    ensures no_failed_read { (IsErrOf result Status.Read → ⊥) → S.faults source.new ≡ S.faults source.old }
+    ensures taken { TakesAtMost room (S.left source.old) (S.left source.new) }
+    ensures faults { S.faults source.old ≤ S.faults source.new }
+{
+    let mut judging = Judging::new(alloc, &script.facts, script.restarts)?;
+    let count = read_report(source, room, &mut judging)?;
+    if is_long(count, room) {
+        return Err(Status::Long);
+    }
+    Ok(judging.verdict())
+}
+
+/// Why nothing is judged whose script has this fault: all that is left is read first, and let go.
+fn refused<S: Source>(source: &mut S, room: usize, fault: ScriptFault) -> Status
+    requires few { room ≤ MOST_INPUT + 1 }
+    ensures refused { IsScriptRefused fault room (S.left source.old) (S.left source.new) result }
+    ensures read { result ≡ Status.Read → Rose (S.faults source.old) (S.faults source.new) }
+    ensures no_failed_read { result ≢ Status.Read → S.faults source.new ≡ S.faults source.old }
+    ensures taken { TakesAtMost room (S.left source.old) (S.left source.new) }
+    ensures faults { S.faults source.old ≤ S.faults source.new }
+{
+    match let_go(source, room) {
+        Ok(count) if is_long(count, room) => Status::Long,
+        Ok(_) => Status::from(fault),
+        Err(_) => Status::Read,
+    }
+}
+
+/// Whether so many bytes are more than may be checked: they take all the room that there was for them.
+fn is_long(count: usize, room: usize) -> bool
+    ensures { Decides result ((0 < room) × (room ≤ count)) }
+{
+    0 < room && room <= count
 }
 
 /// Writes `yes`.

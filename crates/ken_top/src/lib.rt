@@ -4,6 +4,7 @@
 
 mod checking;
 mod command;
+mod incoming;
 mod service;
 mod status;
 mod top;

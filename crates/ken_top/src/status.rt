@@ -4,6 +4,7 @@ use ken_io::ReadFault;
 use ken_model::Ending;
 use ken_report::ReportFault;
 use ken_script::ScriptFault;
+use std::alloc::AllocError;
 use std::fmt;
 
 /// How the program ends. It prints as the text for standard error, which is empty for `Settled` and `Checked`.
@@ -97,6 +98,17 @@ impl From<ReadFault> for Status {
             ReadFault::Failed => Status::Read,
             ReadFault::Memory => Status::Memory,
         }
+    }
+}
+
+impl From<AllocError> for Status {
+    ghost use Rattle.std.specs.Prelude.{◌≡◌};
+    ghost use Rattle.ken_top.specs.declared.status.Status.TheVariants.{Memory};
+
+    ghost from_gives = { λ _ status. status ≡ Memory };
+
+    fn from(_: AllocError) -> Self {
+        Status::Memory
     }
 }
 

@@ -1,31 +1,52 @@
-use Rattle.std.proofs.Common.{◌∙◌, ◌<◌, ◌≤◌, ℕ, List, length, take, drop, refl, ap, subst}
+use Rattle.std.proofs.Common.{◌≡◌, ◌∙◌, ℕ, List, Option, length, min, sym, ap, subst, rules}
 use Rattle.std.proofs.lemmas.Result.{err_from_is_err_and}
+use Rattle.ken_script.specs.Faults.{IsFaultOf}
+use Rattle.ken_script.specs.Says.{Says}
 use Rattle.ken_top.specs.declared.checking.TheConstants.{MOST_INPUT}
-use Rattle.ken_top.proofs.Judging.{judged_of, long_told, memory_refused, reading_refused, script_refused}
+use Rattle.ken_top.proofs.Judging.{IsParted, judged_in, parted, reading_refused, refused_in, script_refused, took_all}
 use Rattle.ken_top.proofs.checking.judged.Goals as goal
 
-pub returns-in_err-bytes-clause-refused : goal.returns-in_err-bytes-clause-refused
-returns-in_err-bytes-clause-refused g c =
+pub returns-in_err-text-clause-refused : goal.returns-in_err-text-clause-refused
+returns-in_err-text-clause-refused g c =
     let p = err_from_is_err_and c.from_residual.result c.from_residual.ensures.1 in
-    rw (p.1, p.2) (reading_refused c.args.length (g.S.Source.left c.args.source.now) c.in_err-bytes.field-0.0)
-
-pub returns-then-as_slice-gt-MOST_INPUT-clause-refused : goal.returns-then-as_slice-gt-MOST_INPUT-clause-refused
-returns-then-as_slice-gt-MOST_INPUT-clause-refused g c =
-    let long = subst (λ (b : List ℕ). MOST_INPUT < length b) c.as_slice.ensures c.if-as_slice-gt-MOST_INPUT.true in
-    let b = long_told (g.S.Source.left c.args.source.now) c.in_ok-bytes.bytes c.in_ok-bytes.ensures.bytes long in
-    (b.0, b.1, (refl, b.2))
-
-pub returns-in_err-script-clause-refused : goal.returns-in_err-script-clause-refused
-returns-in_err-script-clause-refused g c =
-    let few = subst (λ (b : List ℕ). length b ≤ MOST_INPUT) c.as_slice.ensures c.if-as_slice-gt-MOST_INPUT.false in
-    let p = err_from_is_err_and c.from_residual-in_err-script.result c.from_residual-in_err-script.ensures.1 in
-    rw (p.1, p.2) (script_refused c.args.length (g.S.Source.left c.args.source.now) c.in_ok-bytes.bytes c.parted.result.0.now c.in_err-script.field-0.0 c.in_ok-bytes.ensures.bytes few (c.parted.ensures.script ∙ ap (take c.args.length) c.as_slice-2.ensures) c.in_err-script.ensures.breaks)
+    rw (p.1, p.2) (reading_refused c.args.length (g.S.Source.left c.args.source.now) c.in_err-text.field-0.0)
 
 pub returns-in-Ok-clause-judged : goal.returns-in-Ok-clause-judged
 returns-in-Ok-clause-judged g c =
-    let few = subst (λ (b : List ℕ). length b ≤ MOST_INPUT) c.as_slice.ensures c.if-as_slice-gt-MOST_INPUT.false in
-    judged_of c.args.length (g.S.Source.left c.args.source.now) c.in_ok-bytes.bytes c.parted.result.0.now c.parted.result.1.now c.in_ok-script.script c.in-Ok.verdict c.in_ok-bytes.ensures.bytes few
-    (c.parted.ensures.script ∙ ap (take c.args.length) c.as_slice-2.ensures) (c.parted.ensures.report ∙ ap (drop c.args.length) c.as_slice-2.ensures) c.in_ok-script.ensures.says c.in-Ok.ensures
+    let old = g.S.Source.left c.args.source.now in
+    let mid = g.S.Source.left c.read_front.new.source in
+    let text : List ℕ = c.in_ok-text.text in
+    let its = parted c.args.length old mid text c.room_behind-room.result c.len.result c.min-size.result c.min-size.ensures c.len.ensures c.in_ok-text.ensures.bytes c.in_ok-text.ensures.given c.in_ok-text.ensures.few c.room_behind-room.ensures in
+    judged_in c.args.length old mid (g.S.Source.left c.report_judged.new.source) text c.room_behind-room.result its c.in-Ok.script c.report_judged.result (subst (λ (b : List ℕ). Says b c.in-Ok.script) c.as_slice.ensures c.in-Ok.ensures.says) c.report_judged.ensures.judged
+
+pub returns-in-Ok-clause-refused : goal.returns-in-Ok-clause-refused
+returns-in-Ok-clause-refused g c =
+    let old = g.S.Source.left c.args.source.now in
+    let mid = g.S.Source.left c.read_front.new.source in
+    let text : List ℕ = c.in_ok-text.text in
+    let its = parted c.args.length old mid text c.room_behind-room.result c.len.result c.min-size.result c.min-size.ensures c.len.ensures c.in_ok-text.ensures.bytes c.in_ok-text.ensures.given c.in_ok-text.ensures.few c.room_behind-room.ensures in
+    refused_in c.args.length old mid (g.S.Source.left c.report_judged.new.source) text c.room_behind-room.result its c.report_judged.result c.report_judged.ensures.refused
+
+pub returns-in-Ok-clause-taken : goal.returns-in-Ok-clause-taken
+returns-in-Ok-clause-taken g c =
+    let old = g.S.Source.left c.args.source.now in
+    let mid = g.S.Source.left c.read_front.new.source in
+    let text : List ℕ = c.in_ok-text.text in
+    let its = parted c.args.length old mid text c.room_behind-room.result c.len.result c.min-size.result c.min-size.ensures c.len.ensures c.in_ok-text.ensures.bytes c.in_ok-text.ensures.given c.in_ok-text.ensures.few c.room_behind-room.ensures in
+    took_all c.args.length old mid (g.S.Source.left c.report_judged.new.source) text c.room_behind-room.result its c.report_judged.ensures.taken
 
 pub returns-clause-refused : goal.returns-clause-refused
-returns-clause-refused g c = memory_refused c.args.length (g.S.Source.left c.args.source.now)
+returns-clause-refused g c =
+    let old = g.S.Source.left c.args.source.now in
+    let mid = g.S.Source.left c.read_front.new.source in
+    let text : List ℕ = c.in_ok-text.text in
+    let its = parted c.args.length old mid text c.room_behind-room.result c.len.result c.min-size.result c.min-size.ensures c.len.ensures c.in_ok-text.ensures.bytes c.in_ok-text.ensures.given c.in_ok-text.ensures.few c.room_behind-room.ensures in
+    script_refused c.args.length old mid (g.S.Source.left c.refused.new.source) text c.room_behind-room.result its c.in-Err.fault c.refused.result (subst (λ (b : List ℕ). IsFaultOf b c.in-Err.fault) c.as_slice.ensures c.in-Err.ensures.breaks) c.refused.ensures.refused
+
+pub returns-clause-taken : goal.returns-clause-taken
+returns-clause-taken g c =
+    let old = g.S.Source.left c.args.source.now in
+    let mid = g.S.Source.left c.read_front.new.source in
+    let text : List ℕ = c.in_ok-text.text in
+    let its = parted c.args.length old mid text c.room_behind-room.result c.len.result c.min-size.result c.min-size.ensures c.len.ensures c.in_ok-text.ensures.bytes c.in_ok-text.ensures.given c.in_ok-text.ensures.few c.room_behind-room.ensures in
+    took_all c.args.length old mid (g.S.Source.left c.refused.new.source) text c.room_behind-room.result its c.refused.ensures.taken

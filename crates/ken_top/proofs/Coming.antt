@@ -1,0 +1,97 @@
+-- What came of a source in pieces.
+use Rattle.std.proofs.Common.{◌≡◌, ℕ, ◌+◌, ◌-◌, ◌<◌, ◌≤◌, ◌^◌, ⊎_elim, List, [], ◌++◌, Option, Some, None, length, take, subst, sym, ap, ◌∙◌, refl, arith, append_assoc, append-nil, length-append, length-take}
+use Rattle.std.specs.Io.KnownBytes.{Consumes, IsAtEnd}
+use Rattle.std.proofs.KnownBytes.{Consumes-trans}
+use Rattle.ken_model.specs.Game.{Game, game_of}
+use Rattle.ken_io.specs.Transfers.{TakesAtMost}
+use Rattle.ken_check.specs.declared.judging.Judging.{Judging}
+use Rattle.ken_check.specs.declared.verdict.Verdict.{Verdict}
+use Rattle.ken_check.specs.Incoming.{HasRead, IsUnderWay}
+use Rattle.ken_check.specs.Judged.{IsJudged}
+use Rattle.ken_script.specs.declared.faults.ScriptFault.{ScriptFault}
+use Rattle.ken_script.specs.declared.scripts.Script.{Script}
+use Rattle.std.proofs.lemmas.Bool.{cases_lt}
+use Rattle.ken_top.specs.declared.checking.TheConstants.{MOST_INPUT}
+use Rattle.ken_top.specs.Statuses.{of_script}
+use Rattle.ken_top.specs.Pieces.{HasCome, HasGivenThese, HasJudged, IsLong, IsReportJudged, IsScriptRefused}
+
+-- nothing came
+nothing_given : (old : Option (List ℕ)) → Consumes old old []
+nothing_given None = tt
+nothing_given (Some xs) = refl
+
+pub come_none : (old : Option (List ℕ)) → HasCome old old 0
+come_none old = record { bytes = []; given = nothing_given old; counted = refl }
+
+pub judged_none : (old : Option (List ℕ)) (j : Judging) → HasJudged old old j j 0
+judged_none old j = record { bytes = []; given = nothing_given old; counted = refl; judged = λ g most seen read. subst (λ (l : List ℕ). HasRead g most l j) (sym (append-nil seen)) read }
+
+-- a piece more came
+pub come_more : (old mid new : Option (List ℕ)) (n k m : ℕ) (buf : List ℕ) → HasCome old mid n → Consumes mid new (take k buf) → k ≤ length buf → m ≡ n + k → HasCome old new m
+come_more old mid new n k m buf come more few sum = record {
+  bytes = come.bytes ++ take k buf;
+  given = Consumes-trans old mid new come.bytes (take k buf) come.given more;
+  counted = omega (arith, come.counted, length-append come.bytes (take k buf), length-take k buf);
+}
+
+pub judged_more : (old mid new : Option (List ℕ)) (a b c : Judging) (n k m : ℕ) (buf : List ℕ) → HasJudged old mid a b n → Consumes mid new (take k buf) → k ≤ length buf → m ≡ n + k
+    → ((g : Game) (most : ℕ) (seen : List ℕ) → HasRead g most seen b → HasRead g most (seen ++ take k buf) c) → HasJudged old new a c m
+judged_more old mid new a b c n k m buf come more few sum on = record {
+  bytes = come.bytes ++ take k buf;
+  given = Consumes-trans old mid new come.bytes (take k buf) come.given more;
+  counted = omega (arith, come.counted, length-append come.bytes (take k buf), length-take k buf);
+  judged = λ g most seen read. subst (λ (l : List ℕ). HasRead g most l c) (append_assoc seen come.bytes (take k buf)) (on g most (seen ++ come.bytes) (come.judged g most seen read));
+}
+
+-- and what was judged of a piece more
+pub judged_join : (old mid new : Option (List ℕ)) (a b c : Judging) (n k m : ℕ) → HasJudged old mid a b n → HasJudged mid new b c k → m ≡ n + k → HasJudged old new a c m
+judged_join old mid new a b c n k m come more sum = record {
+  bytes = come.bytes ++ more.bytes;
+  given = Consumes-trans old mid new come.bytes more.bytes come.given more.given;
+  counted = omega (arith, sum, come.counted, more.counted, length-append come.bytes more.bytes);
+  judged = λ g most seen read.
+      subst (λ (l : List ℕ). HasRead g most l c) (append_assoc seen come.bytes more.bytes) (more.judged g most (seen ++ come.bytes) (come.judged g most seen read));
+}
+
+pub taken_join : (old mid new : Option (List ℕ)) (a b : Judging) (n most some : ℕ) → HasJudged old mid a b n → TakesAtMost some mid new → n + some ≤ most → TakesAtMost most old new
+taken_join old mid new a b n most some come more few = record {
+  taken = come.bytes ++ more.taken;
+  given = Consumes-trans old mid new come.bytes more.taken come.given more.given;
+  few = omega (arith, few, come.counted, more.few, length-append come.bytes more.taken);
+}
+
+-- and no more than that
+pub took_come : (most : ℕ) (old new : Option (List ℕ)) (n : ℕ) → HasCome old new n → n ≤ most → TakesAtMost most old new
+took_come most old new n come few = record { taken = come.bytes; given = come.given; few = omega (arith, few, come.counted) }
+
+pub took_judged : (most : ℕ) (old new : Option (List ℕ)) (a b : Judging) (n : ℕ) → HasJudged old new a b n → n ≤ most → TakesAtMost most old new
+took_judged most old new a b n come few = record { taken = come.bytes; given = come.given; few = omega (arith, few, come.counted) }
+
+-- what came, and no more where fewer bytes than the room came
+module _ (room : ℕ) (old new : Option (List ℕ)) (n : ℕ) (ended : n < room → IsAtEnd new) where
+  these : (bytes : List ℕ) → Consumes old new bytes → length bytes ≡ n → HasGivenThese room old new bytes
+  these bytes given counted = record { given = given; ended = λ less. ended (omega (arith, less, counted)) }
+
+  pub long_come : HasCome old new n → (0 < room) × (room ≤ n) → IsLong room old new
+  long_come come long = record { bytes = come.bytes; given = these come.bytes come.given come.counted; some = long.0; long = omega (arith, long.1, come.counted) }
+
+  pub long_judged : (a b : Judging) → HasJudged old new a b n → (0 < room) × (room ≤ n) → IsLong room old new
+  long_judged a b come long = record { bytes = come.bytes; given = these come.bytes come.given come.counted; some = long.0; long = omega (arith, long.1, come.counted) }
+
+  short : n ≤ room → ((0 < room) × (room ≤ n) → ⊥) → n ≤ room - 1
+  short few other = ⊎_elim
+      (λ (less : n < room). omega (arith, less))
+      (λ (full : room ≤ n). ⊎_elim (λ (some : 0 < room). absurd (other (some, full))) (λ (none : room ≤ 0). omega (arith, none, few)) (cases_lt 0 room))
+      (cases_lt n room)
+
+  pub faulty_come : (fault : ScriptFault) → HasCome old new n → n ≤ room → ((0 < room) × (room ≤ n) → ⊥) → IsScriptRefused fault room old new (of_script fault)
+  faulty_come fault come few other = IsScriptRefused.faulty come.bytes (these come.bytes come.given come.counted) (let least = short few other in omega (arith, least, come.counted))
+
+  pub report_of : (s : Script) (a b : Judging) (verdict : Verdict) → HasJudged old new a b n → n ≤ room → room ≤ MOST_INPUT + 1 → ((0 < room) × (room ≤ n) → ⊥) → HasRead (game_of s.facts) s.restarts [] a
+      → ((seen : List ℕ) → HasRead (game_of s.facts) s.restarts seen b → length seen < 2 ^ 63 → IsJudged (game_of s.facts) s.restarts seen verdict) → IsReportJudged s room old new verdict
+  report_of s a b verdict come few small other first judged = record {
+    report = come.bytes;
+    given = these come.bytes come.given come.counted;
+    few = (let least = short few other in omega (arith, least, come.counted));
+    judged = judged come.bytes (come.judged (game_of s.facts) s.restarts [] first) (omega (arith, few, small, come.counted));
+  }
