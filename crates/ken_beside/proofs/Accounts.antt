@@ -19,14 +19,14 @@ use Rattle.ken_ship.specs.declared.faults.NodeFault.TheVariants.{Outlet}
 use Rattle.ken_ship.specs.declared.outlet.Outlet as outlet
 use Rattle.ken_ship.specs.declared.worker.SendWorker.{SendWorker}
 use Rattle.ken_ship.specs.Parts.{Part, part_of}
-use Rattle.ken_node.specs.declared.patcher.PatchWorker.{PatchWorker}
+use Rattle.ken_work.specs.declared.patcher.PatchWorker.{PatchWorker}
 use Rattle.ken_node.specs.declared.stage.Stage.TheVariants.{Created}
-use Rattle.ken_node.specs.declared.took.Took.{Took}
-use Rattle.ken_node.specs.declared.took.Took.TheVariants.{Turn, Idle, Capped}
-use Rattle.ken_node.specs.declared.worker.TurnWorker.{TurnWorker}
-use Rattle.ken_node.specs.Capped.{IsCapped}
-use Rattle.ken_node.specs.Capped as caps
-use Rattle.ken_node.specs.Sealing.{RenewsBy, is_full}
+use Rattle.ken_work.specs.declared.took.Took.{Took}
+use Rattle.ken_work.specs.declared.took.Took.TheVariants.{Turn, Idle, Capped}
+use Rattle.ken_work.specs.declared.worker.TurnWorker.{TurnWorker}
+use Rattle.ken_work.specs.Capped.{IsCapped}
+use Rattle.ken_work.specs.Capped as caps
+use Rattle.ken_work.specs.Sealing.{RenewsBy, is_full}
 use Rattle.ken_node.specs.Synced.{HasSynced, LeavesSynced}
 use Rattle.ken_node.proofs.GoesDown.{whole_goes_down}
 use Rattle.ken_node.proofs.Synced.{WorkedAt, begun-work, calm-turns, has-synced, leaves-synced, renewed-work, sealed-work, worked-from, worked-to}

@@ -7,12 +7,12 @@ use Rattle.ken_order.specs.Consumed.{Consumed, consumed_from, place}
 use Rattle.ken_core.specs.Nodes.{Node}
 use Rattle.ken_core.specs.Turns.{consumed_from as count_from}
 use Rattle.ken_ship.specs.declared.worker.SendWorker.{SendWorker}
-use Rattle.ken_node.specs.declared.patcher.PatchWorker.{PatchWorker}
-use Rattle.ken_node.specs.declared.worker.TurnWorker.{TurnWorker}
-use Rattle.ken_node.specs.Capped.{IsCapped}
-use Rattle.ken_node.specs.Capped as caps
-use Rattle.ken_node.specs.Whole.{IsWhole}
-use Rattle.ken_node.specs.Workers.{HearsNews}
+use Rattle.ken_work.specs.declared.patcher.PatchWorker.{PatchWorker}
+use Rattle.ken_work.specs.declared.worker.TurnWorker.{TurnWorker}
+use Rattle.ken_work.specs.Capped.{IsCapped}
+use Rattle.ken_work.specs.Capped as caps
+use Rattle.ken_whole.specs.Whole.{IsWhole}
+use Rattle.ken_work.specs.Workers.{HearsNews}
 
 module _ {D : Type 0} (told : D → Option Story) (size : D → ℕ) (g : Game) (v : ℕ) where
   -- what a handler that stands for a node has consumed is what the node counts

@@ -18,12 +18,12 @@ use Rattle.ken_store.specs.Answers.{disks_from}
 use Rattle.ken_store.specs.Apart.{disks_apart}
 use Rattle.ken_store.specs.Creations.{HasFailed, IsUnfailed}
 use Rattle.ken_store.specs.Patching.{PatchSuffers, disk_answer, patch_calls}
-use Rattle.ken_node.specs.declared.patcher.PatchWorker.{PatchWorker}
-use Rattle.ken_node.specs.declared.worker.TurnWorker.{TurnWorker}
+use Rattle.ken_work.specs.declared.patcher.PatchWorker.{PatchWorker}
+use Rattle.ken_work.specs.declared.worker.TurnWorker.{TurnWorker}
 use Rattle.ken_node.specs.Down.{AreTold}
-use Rattle.ken_node.specs.Patches.{PatchesOnce, SettlesOnce, went, no_room}
+use Rattle.ken_work.specs.Patches.{PatchesOnce, SettlesOnce, went, no_room}
 use Rattle.ken_node.specs.Restarts.{AreUnfailed, OneHasFailed}
-use Rattle.ken_node.specs.TurnLaws.{Drew}
+use Rattle.ken_work.specs.Calls.{Drew}
 use Rattle.ken_node.proofs.TurnDisks.{turn-told, turn-unfailed}
 use Rattle.ken_node.proofs.Up.{all-unfailed, follows-same, image-failed, image-unfailed, still-told, told-image}
 use Rattle.ken_weave.specs.Workers.{Steps, none, then}

@@ -23,19 +23,19 @@ use Rattle.ken_ship.specs.declared.faults.NodeFault.TheVariants.{Disk}
 use Rattle.ken_ship.specs.declared.outlet.Outlet as outlet
 use Rattle.ken_ship.specs.declared.worker.SendWorker.{SendWorker}
 use Rattle.ken_ship.specs.Laws.{packets_from}
-use Rattle.ken_node.specs.declared.patcher.PatchWorker.{PatchWorker}
-use Rattle.ken_node.specs.declared.worker.TurnWorker.{TurnWorker}
-use Rattle.ken_node.specs.Calls.{IsTurnInDoubt, IsTurnoverInDoubt, TakesTurn}
-use Rattle.ken_node.specs.Capped.{IsCapped}
+use Rattle.ken_work.specs.declared.patcher.PatchWorker.{PatchWorker}
+use Rattle.ken_work.specs.declared.worker.TurnWorker.{TurnWorker}
+use Rattle.ken_work.specs.Calls.{IsTurnInDoubt, IsTurnoverInDoubt, TakesTurn, Drew}
+use Rattle.ken_work.specs.Capped.{IsCapped}
 use Rattle.ken_node.specs.Down.{AreTold}
 use Rattle.ken_node.specs.DownLaws.{SealIsDown, TurnoverIsDown}
-use Rattle.ken_node.specs.Meeting.{AreFronts}
+use Rattle.ken_work.specs.Meeting.{AreFronts}
 use Rattle.ken_node.specs.Restarts.{OneHasFailed}
-use Rattle.ken_node.specs.Sealing.{coming_pages, is_full}
+use Rattle.ken_work.specs.Sealing.{coming_pages, is_full}
 use Rattle.ken_node.specs.Synced.{LeavesSynced}
-use Rattle.ken_node.specs.TurnLaws.{Drew, acks_out, told_of}
-use Rattle.ken_node.proofs.Runs.{run-append}
-use Rattle.ken_node.proofs.Quietly.{idle_keeps_turns}
+use Rattle.ken_whole.specs.TurnLaws.{acks_out, told_of}
+use Rattle.ken_whole.proofs.Runs.{run-append}
+use Rattle.ken_whole.proofs.Quietly.{idle_keeps_turns}
 use Rattle.ken_node.proofs.TurnDisks.{disk-failed}
 use Rattle.ken_node.proofs.TurnDown.{turn_goes_down}
 use Rattle.ken_weave.proofs.Lists.{front_then}

@@ -9,11 +9,10 @@ use Rattle.ken_model.specs.Handler.{Handler}
 use Rattle.ken_net.specs.declared.net.Net as net
 use Rattle.ken_net.specs.Puts.{Put}
 use Rattle.ken_ship.specs.declared.outlet.Outlet as outlet
-use Rattle.ken_node.specs.declared.took.Took.{Took}
-use Rattle.ken_node.specs.declared.took.Took.TheVariants.{Turn, Idle, Capped}
-use Rattle.ken_node.specs.declared.worker.TurnWorker.{TurnWorker}
-use Rattle.ken_node.specs.Calls.{BeforeTurn, TakesTurn}
-use Rattle.ken_node.specs.TurnLaws.{Drew}
+use Rattle.ken_work.specs.declared.took.Took.{Took}
+use Rattle.ken_work.specs.declared.took.Took.TheVariants.{Turn, Idle, Capped}
+use Rattle.ken_work.specs.declared.worker.TurnWorker.{TurnWorker}
+use Rattle.ken_work.specs.Calls.{BeforeTurn, TakesTurn, Drew}
 use Rattle.ken_beside.specs.Seats.{Handling, Sending}
 use Rattle.ken_beside.specs.Steps.{HandlerStep, SenderCall, SenderStep, turns_once, sends_due, takes_acks, emits_once}
 

@@ -11,12 +11,12 @@ use Rattle.ken_ship.specs.declared.items.Told.{Told}
 use Rattle.ken_ship.specs.declared.outlet.Outlet as outlet
 use Rattle.ken_ship.specs.declared.worker.SendWorker.{SendWorker}
 use Rattle.ken_ship.specs.Parts.{SameSlots}
-use Rattle.ken_node.specs.declared.patcher.PatchWorker.{PatchWorker}
-use Rattle.ken_node.specs.declared.took.Took.{Took}
-use Rattle.ken_node.specs.declared.took.Took.TheVariants.{Turn, Idle, Capped}
-use Rattle.ken_node.specs.declared.worker.TurnWorker.{TurnWorker}
-use Rattle.ken_node.specs.Patches.{PatchesOnce, went, no_room}
-use Rattle.ken_node.specs.Workers.{Working}
+use Rattle.ken_work.specs.declared.patcher.PatchWorker.{PatchWorker}
+use Rattle.ken_work.specs.declared.took.Took.{Took}
+use Rattle.ken_work.specs.declared.took.Took.TheVariants.{Turn, Idle, Capped}
+use Rattle.ken_work.specs.declared.worker.TurnWorker.{TurnWorker}
+use Rattle.ken_work.specs.Patches.{PatchesOnce, went, no_room}
+use Rattle.ken_work.specs.Workers.{Working}
 use Rattle.ken_beside.specs.GoingOn.{HandlerGoesOn, PatcherGoesOn, PatchesOn, SenderGoesOn}
 use Rattle.ken_beside.specs.Seats.{Handling}
 use Rattle.ken_beside.specs.Steps.{TurnsOnce, turns_once, patches_once, settles_once, sends_due, takes_acks, emits_once}

@@ -20,17 +20,15 @@ use Rattle.ken_store.specs.Turning.{sealed_bytes, turn_pages}
 use Rattle.ken_store.proofs.SealMeanwhile.{changed_within}
 use Rattle.ken_ship.specs.declared.items.Sealed.{Sealed}
 use Rattle.ken_ship.specs.declared.items.Told.{Told}
-use Rattle.ken_node.specs.declared.items.Frozen.{Frozen}
-use Rattle.ken_node.specs.declared.items.Settled.{Settled}
-use Rattle.ken_node.specs.declared.took.Took.{Took}
-use Rattle.ken_node.specs.declared.took.Took.TheVariants.{Turn, Idle, Capped}
-use Rattle.ken_node.specs.declared.worker.TurnWorker.{TurnWorker}
-use Rattle.ken_node.specs.Calls.{RanTurn, TakesTurn}
-use Rattle.ken_node.specs.Sealing.{RenewsBy, coming_pages, coming_turn, is_full}
-use Rattle.ken_node.specs.Workers.{Working}
-use Rattle.ken_node.specs.News.{AreRipe}
-use Rattle.ken_node.specs.TurnLaws.{Drew}
-use Rattle.ken_node.specs.Workers.{settled_by, told_by}
+use Rattle.ken_work.specs.declared.items.Frozen.{Frozen}
+use Rattle.ken_work.specs.declared.items.Settled.{Settled}
+use Rattle.ken_work.specs.declared.took.Took.{Took}
+use Rattle.ken_work.specs.declared.took.Took.TheVariants.{Turn, Idle, Capped}
+use Rattle.ken_work.specs.declared.worker.TurnWorker.{TurnWorker}
+use Rattle.ken_work.specs.Calls.{RanTurn, TakesTurn, Drew}
+use Rattle.ken_work.specs.Sealing.{RenewsBy, coming_pages, coming_turn, is_full}
+use Rattle.ken_work.specs.Workers.{Working, settled_by, told_by}
+use Rattle.ken_work.specs.News.{AreRipe}
 use Rattle.ken_weave.specs.Workers.{Counts, Ends, Steps, none, then, Waits}
 use Rattle.ken_beside.specs.Seats.{Handling}
 use Rattle.ken_beside.specs.Steps.{HandlerStep, turns_once}

@@ -8,8 +8,8 @@ use Rattle.ken_store.specs.Apart.{MayWait, hand_all, known_after}
 use Rattle.ken_store.proofs.ApartPages.{first_within}
 use Rattle.ken_ship.specs.declared.items.Sealed.{Sealed}
 use Rattle.ken_ship.specs.Handing.{last_turn}
-use Rattle.ken_node.specs.declared.items.Frozen.{Frozen}
-use Rattle.ken_node.specs.Patches.{MayFollow, waits_of}
+use Rattle.ken_work.specs.declared.items.Frozen.{Frozen}
+use Rattle.ken_work.specs.Patches.{MayFollow, waits_of}
 
 -- ---- numbers
 

@@ -7,11 +7,11 @@ use Rattle.ken_image.specs.declared.image.Image.{Image}
 use Rattle.ken_links.specs.Rings.{pushed, popped}
 use Rattle.ken_store.specs.declared.faults.StoreFault.{StoreFault}
 use Rattle.ken_store.specs.declared.faults.StoreFault.TheVariants as store
-use Rattle.ken_node.specs.declared.items.Frozen.{Frozen}
-use Rattle.ken_node.specs.declared.items.Settled.{Settled}
-use Rattle.ken_node.specs.declared.patcher.PatchWorker.{PatchWorker}
-use Rattle.ken_node.specs.Patches.{MayFollow, PatchesOnce, SettlesOnce, went, no_room, settled_of}
-use Rattle.ken_node.proofs.Rings.{queue-moved}
+use Rattle.ken_work.specs.declared.items.Frozen.{Frozen}
+use Rattle.ken_work.specs.declared.items.Settled.{Settled}
+use Rattle.ken_work.specs.declared.patcher.PatchWorker.{PatchWorker}
+use Rattle.ken_work.specs.Patches.{MayFollow, PatchesOnce, SettlesOnce, went, no_room, settled_of}
+use Rattle.ken_whole.proofs.Rings.{queue-moved}
 use Rattle.ken_weave.specs.Workers.{Counts, Ends, Steps, none, then, Tells}
 use Rattle.ken_beside.specs.Steps.{PatcherCall, PatcherFault, PatcherStep, patches_once, settles_once, patch_fails, sync_fails}
 use Rattle.ken_beside.proofs.Handled.{longer}

@@ -14,7 +14,7 @@ use Rattle.ken_ship.specs.declared.outlet.Outlet as outlet
 use Rattle.ken_ship.specs.declared.worker.SendWorker.{SendWorker}
 use Rattle.ken_ship.specs.Handing.{acked_in, told_in}
 use Rattle.ken_ship.specs.Parts.{Part, part_of}
-use Rattle.ken_node.proofs.Rings.{queue-moved}
+use Rattle.ken_whole.proofs.Rings.{queue-moved}
 use Rattle.ken_weave.specs.Workers.{Counts, Ends, Steps, none, then, Tells}
 use Rattle.ken_beside.specs.Seats.{Sending}
 use Rattle.ken_beside.specs.Steps.{EmitsOnce, SenderCall, SenderStep, SendsDue, TakesAcks, sends_due, takes_acks, emits_once}

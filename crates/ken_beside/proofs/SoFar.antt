@@ -31,23 +31,23 @@ use Rattle.ken_ship.specs.Outlets.{also_took}
 use Rattle.ken_ship.specs.Parts.{Part, part_of}
 use Rattle.ken_ship.specs.Sending.{all_due, mail_put}
 use Rattle.ken_ship.specs.Taking.{acks_in, acks_taken}
-use Rattle.ken_node.specs.declared.patcher.PatchWorker.{PatchWorker}
-use Rattle.ken_node.specs.declared.took.Took.{Took}
-use Rattle.ken_node.specs.declared.took.Took.TheVariants.{Turn, Idle, Capped}
-use Rattle.ken_node.specs.declared.worker.TurnWorker.{TurnWorker}
-use Rattle.ken_node.specs.Calls.{TakesTurn}
-use Rattle.ken_node.specs.Meeting.{AreFronts}
-use Rattle.ken_node.specs.Sealing.{is_full}
-use Rattle.ken_node.specs.TurnLaws.{Drew, HandlerLeadsTo, TookBy, acks_out}
-use Rattle.ken_node.specs.Whole.{IsWhole}
-use Rattle.ken_node.specs.WholeLaws.{LeadsTo}
-use Rattle.ken_node.proofs.AcksWhole.{acks_keep_whole}
-use Rattle.ken_node.proofs.EmissionsWhole.{emission_keeps_whole}
-use Rattle.ken_node.proofs.PatchesWhole.{patch_keeps_whole, sync_keeps_whole}
+use Rattle.ken_work.specs.declared.patcher.PatchWorker.{PatchWorker}
+use Rattle.ken_work.specs.declared.took.Took.{Took}
+use Rattle.ken_work.specs.declared.took.Took.TheVariants.{Turn, Idle, Capped}
+use Rattle.ken_work.specs.declared.worker.TurnWorker.{TurnWorker}
+use Rattle.ken_work.specs.Calls.{TakesTurn, Drew}
+use Rattle.ken_work.specs.Meeting.{AreFronts}
+use Rattle.ken_work.specs.Sealing.{is_full}
+use Rattle.ken_whole.specs.TurnLaws.{HandlerLeadsTo, TookBy, acks_out}
+use Rattle.ken_whole.specs.Whole.{IsWhole}
+use Rattle.ken_whole.specs.WholeLaws.{LeadsTo}
+use Rattle.ken_whole.proofs.AcksWhole.{acks_keep_whole}
+use Rattle.ken_whole.proofs.EmissionsWhole.{emission_keeps_whole}
+use Rattle.ken_whole.proofs.PatchesWhole.{patch_keeps_whole, sync_keeps_whole}
 use Rattle.ken_node.proofs.Recovered.{some-is}
-use Rattle.ken_node.proofs.Runs.{run-append}
-use Rattle.ken_node.proofs.SendsWhole.{sends_keep_whole}
-use Rattle.ken_node.proofs.TurnsWhole.{turn_keeps_whole}
+use Rattle.ken_whole.proofs.Runs.{run-append}
+use Rattle.ken_whole.proofs.SendsWhole.{sends_keep_whole}
+use Rattle.ken_whole.proofs.TurnsWhole.{turn_keeps_whole}
 use Rattle.ken_beside.specs.Puts.{Shuffled, WerePut}
 use Rattle.ken_beside.specs.Seats.{Handling, Sending}
 use Rattle.ken_beside.specs.Steps.{HandlerStep, PatcherCall, PatcherFault, PatcherStep, SenderCall, EmitsOnce, SendsDue, TakesAcks, TurnsOnce, turns_once, patches_once, settles_once, patch_fails, sync_fails, sends_due, takes_acks, emits_once}

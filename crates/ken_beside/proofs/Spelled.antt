@@ -29,9 +29,9 @@ use Rattle.ken_ship.specs.Laws.{line_of, mails_out, packet_from}
 use Rattle.ken_ship.specs.Parts.{part_of}
 use Rattle.ken_ship.specs.Sending.{due_to, mail_put}
 use Rattle.ken_ship.proofs.Lines.{mails_from, sends_are_mails}
-use Rattle.ken_node.specs.Hearing.{ack_put}
+use Rattle.ken_work.specs.Hearing.{ack_put}
 use Rattle.ken_node.specs.NodeCalls.{AreSpelled, IsSpelled}
-use Rattle.ken_node.specs.TurnLaws.{acks_out}
+use Rattle.ken_whole.specs.TurnLaws.{acks_out}
 use Rattle.ken_node.proofs.TurnSpelled.{OfRun, ack-spelled, spelled-append}
 use Rattle.ken_beside.specs.Puts.{WerePut, put_of, puts_of}
 

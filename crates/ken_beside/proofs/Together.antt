@@ -18,11 +18,11 @@ use Rattle.ken_ship.specs.declared.items.Told.{Told}
 use Rattle.ken_ship.specs.declared.outlet.Outlet as outlet
 use Rattle.ken_ship.specs.Laws.{packets_from}
 use Rattle.ken_ship.specs.Parts.{part_of}
-use Rattle.ken_node.specs.declared.items.Frozen.{Frozen}
-use Rattle.ken_node.specs.declared.items.Settled.{Settled}
-use Rattle.ken_node.specs.declared.patcher.PatchWorker.{PatchWorker}
-use Rattle.ken_node.specs.Meeting.{AreFronts}
-use Rattle.ken_node.specs.Patches.{waits_of}
+use Rattle.ken_work.specs.declared.items.Frozen.{Frozen}
+use Rattle.ken_work.specs.declared.items.Settled.{Settled}
+use Rattle.ken_work.specs.declared.patcher.PatchWorker.{PatchWorker}
+use Rattle.ken_work.specs.Meeting.{AreFronts}
+use Rattle.ken_work.specs.Patches.{waits_of}
 use Rattle.ken_weave.specs.Workers.{Counts, Ends, Tells, Waits}
 use Rattle.ken_weave.specs.Laws.{HaveFronts, KeepRules}
 use Rattle.ken_weave.specs.Orders.{Keeps}

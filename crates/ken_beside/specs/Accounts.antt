@@ -16,10 +16,10 @@ use Rattle.ken_ship.specs.declared.worker.TheConstants.{MOST_REFUSALS}
 use Rattle.ken_ship.specs.Causes.{HasCause}
 use Rattle.ken_ship.specs.Emitting.{outlet_answer}
 use Rattle.ken_ship.specs.Fates.{Follows, Suffers}
-use Rattle.ken_node.specs.declared.patcher.PatchWorker.{PatchWorker}
-use Rattle.ken_node.specs.declared.worker.TurnWorker.{TurnWorker}
+use Rattle.ken_work.specs.declared.patcher.PatchWorker.{PatchWorker}
+use Rattle.ken_work.specs.declared.worker.TurnWorker.{TurnWorker}
 use Rattle.ken_node.specs.Restarts.{AreUnfailed, OneHasFailed}
-use Rattle.ken_node.specs.TurnLaws.{Drew}
+use Rattle.ken_work.specs.Calls.{Drew}
 use Rattle.ken_weave.specs.Workers.{Steps}
 use Rattle.ken_beside.specs.Seats.{Handling}
 use Rattle.ken_beside.specs.Steps.{HandlerStep, PatcherFault, PatcherStep}

@@ -17,8 +17,8 @@ use Rattle.ken_ship.specs.declared.outlet.Outlet as outlet
 use Rattle.ken_ship.specs.Laws.{packets_from}
 use Rattle.ken_ship.specs.Outlets.{also_took}
 use Rattle.ken_ship.specs.Parts.{part_of}
-use Rattle.ken_node.specs.declared.patcher.PatchWorker.{PatchWorker}
-use Rattle.ken_node.specs.Meeting.{AreFronts}
+use Rattle.ken_work.specs.declared.patcher.PatchWorker.{PatchWorker}
+use Rattle.ken_work.specs.Meeting.{AreFronts}
 use Rattle.ken_node.specs.Synced.{LeavesSynced}
 use Rattle.ken_weave.specs.Workers.{Steps}
 use Rattle.ken_beside.specs.Accounts.{DrewEach, Refuses}

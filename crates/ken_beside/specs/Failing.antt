@@ -14,13 +14,13 @@ use Rattle.ken_store.specs.Apart.{disks_apart}
 use Rattle.ken_ship.specs.declared.faults.NodeFault.TheVariants.{Disk}
 use Rattle.ken_ship.specs.declared.outlet.Outlet as outlet
 use Rattle.ken_ship.specs.Laws.{packets_from}
-use Rattle.ken_node.specs.declared.patcher.PatchWorker.{PatchWorker}
+use Rattle.ken_work.specs.declared.patcher.PatchWorker.{PatchWorker}
 use Rattle.ken_node.specs.declared.stage.Stage.TheVariants.{Created}
 use Rattle.ken_node.specs.Down.{IsDown}
-use Rattle.ken_node.specs.Meeting.{AreFronts}
+use Rattle.ken_work.specs.Meeting.{AreFronts}
 use Rattle.ken_node.specs.Restarts.{OneHasFailed}
 use Rattle.ken_node.specs.Synced.{LeavesSynced}
-use Rattle.ken_node.specs.TurnLaws.{Drew}
+use Rattle.ken_work.specs.Calls.{Drew}
 use Rattle.ken_weave.specs.Workers.{Steps}
 use Rattle.ken_beside.specs.Beside.{RanBeside}
 use Rattle.ken_beside.specs.Calm.{IsCalm}

@@ -8,8 +8,8 @@ use Rattle.ken_net.specs.declared.net.Net as net
 use Rattle.ken_links.specs.Rings.{free}
 use Rattle.ken_store.specs.Patching.{TakesPatches}
 use Rattle.ken_ship.specs.declared.outlet.Outlet as outlet
-use Rattle.ken_node.specs.declared.patcher.PatchWorker.{PatchWorker}
-use Rattle.ken_node.specs.Workers.{Working}
+use Rattle.ken_work.specs.declared.patcher.PatchWorker.{PatchWorker}
+use Rattle.ken_work.specs.Workers.{Working}
 use Rattle.ken_beside.specs.Seats.{Handling, Sending}
 use Rattle.ken_beside.specs.Steps.{HandlerStep, PatcherStep, SenderStep}
 

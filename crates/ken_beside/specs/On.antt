@@ -7,13 +7,13 @@ use Rattle.ken_core.specs.Nodes.{Node}
 use Rattle.ken_store.specs.Apart.{disks_apart}
 use Rattle.ken_ship.specs.declared.worker.SendWorker.{SendWorker}
 use Rattle.ken_ship.specs.Parts.{IsSameWorker as IsSameSender}
-use Rattle.ken_node.specs.declared.patcher.PatchWorker.{PatchWorker}
+use Rattle.ken_work.specs.declared.patcher.PatchWorker.{PatchWorker}
 use Rattle.ken_node.specs.declared.stage.Stage.TheVariants.{Created}
-use Rattle.ken_node.specs.declared.worker.TurnWorker.{TurnWorker}
+use Rattle.ken_work.specs.declared.worker.TurnWorker.{TurnWorker}
 use Rattle.ken_node.specs.Down.{AreTold}
-use Rattle.ken_node.specs.Meeting.{AreEmpty, AreJoined, HaveMet}
+use Rattle.ken_work.specs.Meeting.{AreEmpty, AreJoined, HaveMet}
 use Rattle.ken_node.specs.Up.{IsUp}
-use Rattle.ken_node.specs.Whole.{IsWhole}
+use Rattle.ken_whole.specs.Whole.{IsWhole}
 
 module _ {D : Type 0} (told : D → Option Story) (size : D → ℕ) where
   -- node v of a run: it is up, but that its rings need not be empty

@@ -1,6 +1,6 @@
 -- Workers of a node with what they work on.
 use Rattle.ken_ship.specs.declared.worker.SendWorker.{SendWorker}
-use Rattle.ken_node.specs.declared.worker.TurnWorker.{TurnWorker}
+use Rattle.ken_work.specs.declared.worker.TurnWorker.{TurnWorker}
 
 -- a handler, with its end of a network and its oracle
 pub record Handling (D N O : Type 0) : Type 0 where

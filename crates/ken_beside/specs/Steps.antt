@@ -20,14 +20,13 @@ use Rattle.ken_ship.specs.Outlets.{also_took}
 use Rattle.ken_ship.specs.Parts.{IsSameWorker as IsSameSender, SameSlots, part_of}
 use Rattle.ken_ship.specs.Sending.{SentDue, all_due}
 use Rattle.ken_ship.specs.Taking.{Heard, TellsRisen}
-use Rattle.ken_node.specs.declared.patcher.PatchWorker.{PatchWorker}
-use Rattle.ken_node.specs.declared.took.Took.{Took}
-use Rattle.ken_node.specs.declared.took.Took.TheVariants.{Turn}
-use Rattle.ken_node.specs.declared.worker.TurnWorker.{TurnWorker}
-use Rattle.ken_node.specs.Calls.{TakesTurn}
-use Rattle.ken_node.specs.Patches.{IsSamePatcher, PatchesOnce, SettlesOnce}
-use Rattle.ken_node.specs.TurnLaws.{Drew}
-use Rattle.ken_node.specs.Workers.{HearsNews, IsSameWorker}
+use Rattle.ken_work.specs.declared.patcher.PatchWorker.{PatchWorker}
+use Rattle.ken_work.specs.declared.took.Took.{Took}
+use Rattle.ken_work.specs.declared.took.Took.TheVariants.{Turn}
+use Rattle.ken_work.specs.declared.worker.TurnWorker.{TurnWorker}
+use Rattle.ken_work.specs.Calls.{TakesTurn, Drew}
+use Rattle.ken_work.specs.Patches.{IsSamePatcher, PatchesOnce, SettlesOnce}
+use Rattle.ken_work.specs.Workers.{HearsNews, IsSameWorker}
 use Rattle.ken_beside.specs.Seats.{Handling, Sending}
 
 -- the same end of a network

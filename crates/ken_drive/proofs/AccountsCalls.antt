@@ -37,15 +37,15 @@ use Rattle.ken_ship.specs.Handing.{with_turns}
 use Rattle.ken_ship.specs.Laws.{IsDueOf, packets_from}
 use Rattle.ken_ship.specs.Parts.{part_of}
 use Rattle.ken_node.specs.declared.stage.Stage.{Stage}
-use Rattle.ken_node.specs.declared.took.Took.{Took}
-use Rattle.ken_node.specs.declared.took.Took.TheVariants.{Turn, Idle, Capped}
+use Rattle.ken_work.specs.declared.took.Took.{Took}
+use Rattle.ken_work.specs.declared.took.Took.TheVariants.{Turn, Idle, Capped}
 use Rattle.ken_node.specs.declared.watched.Watched.{Watched}
-use Rattle.ken_node.specs.declared.worker.TurnWorker.{TurnWorker}
+use Rattle.ken_work.specs.declared.worker.TurnWorker.{TurnWorker}
 use Rattle.ken_node.specs.Down.{IsDown}
 use Rattle.ken_node.specs.NodeCalls.{DisksFailBy, EmitSteps, EmitStepsBy, EmitsNone, GoesNoFurther, HearSteps, PatchStepsBy, SendSteps, SettleStepsBy, UnlessMemory}
 use Rattle.ken_node.specs.NodeTurns.{SealFails, TurnStepsBy, TurnoverFails}
 use Rattle.ken_node.specs.Restarts.{AreUnfailed, OneHasFailed}
-use Rattle.ken_node.specs.Sealing.{is_full}
+use Rattle.ken_work.specs.Sealing.{is_full}
 use Rattle.ken_node.specs.Stages.{HasDisks, emissions_in, turns_in}
 use Rattle.ken_node.specs.Synced.{IsSynced}
 use Rattle.ken_node.specs.Up.{IsUp}

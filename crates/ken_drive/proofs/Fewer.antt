@@ -30,9 +30,9 @@ use Rattle.ken_ship.specs.declared.items.Sealed.{Sealed}
 use Rattle.ken_ship.specs.Handing.{with_turns}
 use Rattle.ken_ship.specs.Laws.{IsDueOf}
 use Rattle.ken_ship.specs.Parts.{part_of}
-use Rattle.ken_node.specs.declared.items.Frozen.{Frozen}
+use Rattle.ken_work.specs.declared.items.Frozen.{Frozen}
 use Rattle.ken_node.specs.declared.stage.Stage.{Stage}
-use Rattle.ken_node.specs.Patches.{waits_of}
+use Rattle.ken_work.specs.Patches.{waits_of}
 use Rattle.ken_node.specs.Up.{IsUp}
 use Rattle.ken_flow.specs.Groups.{group_of}
 use Rattle.ken_drive.specs.Left.{outputs_left, pages_left, turns_left}

@@ -24,15 +24,15 @@ use Rattle.ken_ship.specs.declared.emit.Emit.TheVariants.{Done, Refused, Nothing
 use Rattle.ken_ship.specs.declared.faults.NodeFault.{NodeFault}
 use Rattle.ken_ship.specs.declared.faults.NodeFault.TheVariants.{Disk, Damaged, Outlet, Memory}
 use Rattle.ken_node.specs.declared.stage.Stage.{Stage}
-use Rattle.ken_node.specs.declared.took.Took.{Took}
-use Rattle.ken_node.specs.declared.took.Took.TheVariants.{Turn, Idle, Capped}
+use Rattle.ken_work.specs.declared.took.Took.{Took}
+use Rattle.ken_work.specs.declared.took.Took.TheVariants.{Turn, Idle, Capped}
 use Rattle.ken_node.specs.declared.watched.Watched.{Watched}
-use Rattle.ken_node.specs.declared.worker.TurnWorker.{TurnWorker}
+use Rattle.ken_work.specs.declared.worker.TurnWorker.{TurnWorker}
 use Rattle.ken_node.specs.Down.{IsDown}
-use Rattle.ken_node.specs.Faults.{IsFaultOfWorker}
+use Rattle.ken_work.specs.Faults.{IsFaultOfWorker}
 use Rattle.ken_node.specs.NodeCalls.{EmitsNone, EmitStepsBy, HearSteps, PatchStepsBy, SendSteps, SettleStepsBy}
 use Rattle.ken_node.specs.NodeTurns.{HandlerSteps, SealFails, TurnStepsBy, TurnoverFails}
-use Rattle.ken_node.specs.Sealing.{is_full}
+use Rattle.ken_work.specs.Sealing.{is_full}
 use Rattle.ken_node.specs.Stages.{emissions_in}
 use Rattle.ken_node.specs.Up.{IsUp, MayBeCalled, MayBeCalledOn, MayTakeTurns}
 use Rattle.ken_flow.specs.Groups.{group_of, with_node}

@@ -60,7 +60,7 @@ use Rattle.ken_drive.proofs.Lifted.{ups-after, with-here, with-other}
 use Rattle.ken_drive.proofs.Moves.{work-same, work-turn}
 use Rattle.ken_drive.proofs.Posting.{posts-first, posts-few, posts-for}
 use Rattle.ken_drive.proofs.Quiet.{run-quiet, sends-quiet}
-use Rattle.ken_node.proofs.Quietly.{none_keeps, patch_keeps_sending, patch_keeps_turns, sends_keep, sync_keeps_sending, sync_keeps_turns}
+use Rattle.ken_whole.proofs.Quietly.{none_keeps, patch_keeps_sending, patch_keeps_turns, sends_keep, sync_keeps_sending, sync_keeps_turns}
 
 -- ---- a node that is up
 

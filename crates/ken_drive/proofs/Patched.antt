@@ -28,15 +28,15 @@ use Rattle.ken_ship.specs.declared.emit.Emit.TheVariants.{Done, Refused, Nothing
 use Rattle.ken_ship.specs.declared.faults.NodeFault.{NodeFault}
 use Rattle.ken_ship.specs.declared.faults.NodeFault.TheVariants.{Disk, Damaged, Outlet, Memory}
 use Rattle.ken_ship.specs.Laws.{packets_from}
-use Rattle.ken_node.specs.declared.items.Frozen.{Frozen}
+use Rattle.ken_work.specs.declared.items.Frozen.{Frozen}
 use Rattle.ken_node.specs.declared.stage.Stage.{Stage}
 use Rattle.ken_node.specs.declared.watched.Watched.{Watched}
 use Rattle.ken_node.specs.NodeCalls.{EmitStepsBy, EmitsNone, PatchStepsBy, SendSteps, SettleStepsBy, Steps}
-use Rattle.ken_node.specs.Patches.{waits_of}
+use Rattle.ken_work.specs.Patches.{waits_of}
 use Rattle.ken_node.specs.Stages.{HasDisks, image_told, turns_in}
 use Rattle.ken_node.specs.Synced.{HasMadeSync, KeepsSyncs}
 use Rattle.ken_node.specs.Up.{IsUp}
-use Rattle.ken_node.proofs.Quietly.{emit_keeps_ahead, none_keeps, sends_keep, sync_keeps_ahead, taken_keep_ahead}
+use Rattle.ken_whole.proofs.Quietly.{emit_keeps_ahead, none_keeps, sends_keep, sync_keeps_ahead, taken_keep_ahead}
 use Rattle.ken_drive.specs.declared.run.Run.{Run}
 use Rattle.ken_drive.specs.declared.station.Station.{Station}
 use Rattle.ken_drive.specs.Patched.{AllVisited, Changes, HasNoInput, HasPatched, HasSettled, IsCall, IsNotRestarted, IsPatched, IsPatchedAt, IsSettledSince, KeepsImage, MaySync, TriesBy, WasRestarted, WasVisited}

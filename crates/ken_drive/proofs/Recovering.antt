@@ -28,9 +28,9 @@ use Rattle.ken_store.specs.Recovered.{Whole}
 use Rattle.ken_store.specs.Standing.{RecoversTo}
 use Rattle.ken_store.specs.Turning.{state_in, turn_pages}
 use Rattle.ken_node.specs.declared.stage.Stage.{Stage}
-use Rattle.ken_node.specs.Created.{owner_of}
-use Rattle.ken_node.specs.Patches.{waits_of}
-use Rattle.ken_node.specs.declared.items.Frozen.{Frozen}
+use Rattle.ken_whole.specs.New.{owner_of}
+use Rattle.ken_work.specs.Patches.{waits_of}
+use Rattle.ken_work.specs.declared.items.Frozen.{Frozen}
 use Rattle.ken_node.specs.Stages.{HasDisks, image_told}
 use Rattle.ken_node.specs.Up.{IsUp}
 use Rattle.ken_node.proofs.GoesDown.{owner-is}

@@ -24,8 +24,8 @@ use Rattle.ken_ship.specs.Emitting.{outlet_answer}
 use Rattle.ken_ship.specs.Fates.{Fate, Follows, Suffers}
 use Rattle.ken_node.specs.declared.watched.Watched.{Watched}
 use Rattle.ken_node.specs.declared.stage.Stage.{Stage}
-use Rattle.ken_node.specs.declared.took.Took.{Took}
-use Rattle.ken_node.specs.declared.worker.TurnWorker.{TurnWorker}
+use Rattle.ken_work.specs.declared.took.Took.{Took}
+use Rattle.ken_work.specs.declared.worker.TurnWorker.{TurnWorker}
 use Rattle.ken_node.specs.NodeCalls.{EmitStepsBy, PatchStepsBy, SettleStepsBy, UnlessMemory}
 use Rattle.ken_node.specs.NodeTurns.{TurnStepsBy}
 use Rattle.ken_node.specs.Stages.{refusals_in}

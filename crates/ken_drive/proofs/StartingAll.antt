@@ -12,9 +12,9 @@ use Rattle.ken_model.specs.Limits.{IsWithinLimits}
 use Rattle.ken_app.specs.Oracles.{Telling}
 use Rattle.ken_ship.specs.Fates as ship
 use Rattle.ken_store.specs.declared.disks.Disks.{Disks}
-use Rattle.ken_node.specs.declared.parts.Parts.{Parts}
+use Rattle.ken_work.specs.declared.parts.Parts.{Parts}
 use Rattle.ken_node.specs.declared.watched.Watched.{Watched}
-use Rattle.ken_node.specs.First.{AreFirst}
+use Rattle.ken_work.specs.First.{AreFirst}
 use Rattle.ken_drive.specs.declared.faults.RunFault.{RunFault}
 use Rattle.ken_drive.specs.declared.faults.RunFault.TheVariants.{Down}
 use Rattle.ken_drive.specs.declared.faults.RunFault.TheVariants as run_faults

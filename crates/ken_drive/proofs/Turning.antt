@@ -20,13 +20,13 @@ use Rattle.ken_core.specs.Turns.{consumed_from, stamp_after}
 use Rattle.ken_ship.specs.declared.faults.NodeFault.{NodeFault}
 use Rattle.ken_ship.specs.declared.faults.NodeFault.TheVariants.{Disk, Damaged, Outlet, Memory}
 use Rattle.ken_ship.specs.Laws.{packets_from}
-use Rattle.ken_node.specs.declared.took.Took.{Took}
-use Rattle.ken_node.specs.declared.took.Took.TheVariants.{Turn, Idle, Capped}
+use Rattle.ken_work.specs.declared.took.Took.{Took}
+use Rattle.ken_work.specs.declared.took.Took.TheVariants.{Turn, Idle, Capped}
 use Rattle.ken_node.specs.declared.watched.Watched.{Watched}
-use Rattle.ken_node.specs.declared.worker.TurnWorker.{TurnWorker}
+use Rattle.ken_work.specs.declared.worker.TurnWorker.{TurnWorker}
 use Rattle.ken_node.specs.NodeTurns.{CappedSteps, IdleSteps, IsNotNext, SealFails, TurnoverFails, TurnSteps, TurnStepsBy}
 use Rattle.ken_node.specs.Remaining.{turns_to_make}
-use Rattle.ken_node.specs.Sealing.{is_full}
+use Rattle.ken_work.specs.Sealing.{is_full}
 use Rattle.ken_node.specs.Stages.{emissions_in, refusals_in}
 use Rattle.ken_node.specs.Up.{IsUp}
 use Rattle.ken_flow.specs.Groups.{with_node}
@@ -46,7 +46,7 @@ use Rattle.ken_drive.proofs.Moves.{work-turn}
 use Rattle.ken_drive.proofs.Moving.{emptied-box, less-down, moves-by, moves-turn, no-turn, none-taken, one-changed, own-up, placed, same-all, same-flow, sending-kept, to-make-is, was-own}
 use Rattle.ken_drive.proofs.Patched.{station-now, up-no-input}
 use Rattle.ken_drive.proofs.Quiet.{idle-quiet, run-quiet, turn-quiet}
-use Rattle.ken_node.proofs.Quietly.{idle_keeps_turns, none_keeps}
+use Rattle.ken_whole.proofs.Quietly.{idle_keeps_turns, none_keeps}
 use Rattle.ken_drive.proofs.Within.{puts-within}
 
 stamp-low : (most stamp : ℕ) (es : List Effects) → stamp ≤ most → AllByRecursion (λ (e : Effects). e.stamp ≤ most) es → stamp_after stamp es ≤ most

@@ -18,7 +18,7 @@ use Rattle.ken_store.specs.declared.disks.Disks.{Disks}
 use Rattle.ken_store.specs.Recovered.{Whole}
 use Rattle.ken_store.specs.Standing.{RecoversTo}
 use Rattle.ken_node.specs.declared.stage.Stage.{Stage}
-use Rattle.ken_node.specs.Created.{owner_of}
+use Rattle.ken_whole.specs.New.{owner_of}
 use Rattle.ken_node.specs.Stages.{HasDisks}
 use Rattle.ken_node.specs.Up.{IsUp}
 use Rattle.ken_flow.specs.Groups.{group_of}

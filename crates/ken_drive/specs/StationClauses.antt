@@ -14,7 +14,7 @@ use Rattle.ken_ship.specs.declared.emit.Emit.{Emit}
 use Rattle.ken_ship.specs.declared.faults.NodeFault.{NodeFault}
 use Rattle.ken_ship.specs.declared.outlet.Outlet as outlet
 use Rattle.ken_ship.specs.Outlets.{also_took}
-use Rattle.ken_node.specs.declared.took.Took.{Took}
+use Rattle.ken_work.specs.declared.took.Took.{Took}
 use Rattle.ken_node.specs.declared.watched.Watched.{Watched}
 use Rattle.ken_node.specs.Down.{IsDown, MayRestart}
 use Rattle.ken_node.specs.NodeCalls.{DisksFailBy, EmitStepsBy, HearSteps, SendSteps, UnlessMemory}

@@ -35,8 +35,9 @@ use crate::inboxes::InFlight;
 use crate::station::Station;
 use ken_app::{App, Oracle};
 use ken_disk::Disk;
-use ken_node::{Took, Watched};
+use ken_node::Watched;
 use ken_ship::{Emit, NodeFault, Outlet};
+use ken_work::Took;
 use std::alloc::Global;
 
 /// The nodes of a run with their devices, and what is on its way between them.

@@ -32,8 +32,9 @@ use crate::inboxes::{InFlight, end_of, give_back};
 use ken_app::{App, Oracle};
 use ken_disk::Disk;
 use ken_net::Links;
-use ken_node::{Node, Took, Watched};
+use ken_node::{Node, Watched};
 use ken_ship::{Emit, NodeFault, Outlet};
+use ken_work::Took;
 use std::alloc::{AllocError, Global};
 
 /// A node, its oracle and its outlet, and the links that leave it.

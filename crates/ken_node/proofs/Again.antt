@@ -15,11 +15,11 @@ use Rattle.ken_core.specs.Nodes.{Node}
 use Rattle.ken_core.specs.Packets.{Receipt, Mail, Answer}
 use Rattle.ken_core.specs.Turns.{consumed_from as count_from}
 use Rattle.ken_ship.specs.Laws.{packet_from, packets_from}
-use Rattle.ken_node.specs.declared.hearing.Heard.{Heard}
-use Rattle.ken_node.specs.declared.hearing.Heard.TheVariants.{Next, Again, Lost}
-use Rattle.ken_node.specs.Hearing.{ack_put, again_put, again_puts, heard, heard_mail}
+use Rattle.ken_work.specs.declared.hearing.Heard.{Heard}
+use Rattle.ken_work.specs.declared.hearing.Heard.TheVariants.{Next, Again, Lost}
+use Rattle.ken_work.specs.Hearing.{ack_put, again_put, again_puts, heard, heard_mail}
 use Rattle.ken_node.specs.NodeTurns.{IsAnsweredIn}
-use Rattle.ken_node.proofs.NextMails.{mail-numbered}
+use Rattle.ken_whole.proofs.NextMails.{mail-numbered}
 use Rattle.ken_node.proofs.TurnSpelled.{ack-spelled}
 
 -- at most one put a packet

@@ -29,17 +29,19 @@ use Rattle.ken_links.specs.declared.pop_end.PopEnd.{PopEnd}
 use Rattle.ken_links.specs.declared.push_end.PushEnd.{PushEnd}
 use Rattle.ken_ship.specs.declared.worker.SendWorker.{SendWorker}
 use Rattle.ken_ship.specs.Parts.{part_of}
-use Rattle.ken_node.specs.declared.parts.Parts.{Parts}
-use Rattle.ken_node.specs.declared.patcher.PatchWorker.{PatchWorker}
+use Rattle.ken_work.specs.declared.parts.Parts.{Parts}
+use Rattle.ken_work.specs.declared.patcher.PatchWorker.{PatchWorker}
 use Rattle.ken_node.specs.declared.stage.Stage.TheVariants.{Uncreated, Created}
-use Rattle.ken_node.specs.declared.worker.TurnWorker.{TurnWorker}
-use Rattle.ken_node.specs.Created.{AreNew, AreOver, IsCreation, IsNewNode, first_order, owner_of}
-use Rattle.ken_node.specs.Faults.{node_answer, store_answer}
-use Rattle.ken_node.specs.First.{AreFirst, IsNewRing}
+use Rattle.ken_work.specs.declared.worker.TurnWorker.{TurnWorker}
+use Rattle.ken_whole.specs.New.{AreNew, owner_of}
+use Rattle.ken_work.specs.Parts.{AreOver}
+use Rattle.ken_node.specs.Created.{IsCreation, IsNewNode, first_order}
+use Rattle.ken_work.specs.Faults.{node_answer, store_answer}
+use Rattle.ken_work.specs.First.{AreFirst, IsNewRing}
 use Rattle.ken_node.specs.Stages.{IsUncreated}
 use Rattle.ken_app.specs.Limits.{ComesTo, first}
-use Rattle.ken_node.specs.Workers.{Working}
-use Rattle.ken_node.proofs.Answered.{store_answer-node_answer}
+use Rattle.ken_work.specs.Workers.{Working}
+use Rattle.ken_work.proofs.StoreAnswers.{store_answer-node_answer}
 
 -- whose disks these parts tell
 abbrev owner_in : Parts → Owner

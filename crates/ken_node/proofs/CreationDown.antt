@@ -22,20 +22,20 @@ use Rattle.ken_store.specs.declared.faults.StoreFault.{StoreFault}
 use Rattle.ken_store.specs.Creations.{Creates, HoldsFirst, first_header}
 use Rattle.ken_store.specs.Numbers.{no_numbers}
 use Rattle.ken_store.proofs.Creating.{owned}
-use Rattle.ken_node.specs.declared.parts.Parts.{Parts}
+use Rattle.ken_work.specs.declared.parts.Parts.{Parts}
 use Rattle.ken_node.specs.declared.stage.Stage.{Stage}
 use Rattle.ken_node.specs.declared.stage.Stage.TheVariants.{Uncreated}
-use Rattle.ken_node.specs.Created.{owner_of}
+use Rattle.ken_whole.specs.New.{owner_of}
 use Rattle.ken_node.specs.Down.{AreReady, IsDown, IsSound, Left, MountedLog, TellsNode, a_log, nothing}
 use Rattle.ken_node.specs.DownLaws.{CreationGoesDown}
-use Rattle.ken_node.specs.First.{AreFirst, IsNewRing}
-use Rattle.ken_node.specs.Meeting.{IsEmptied}
-use Rattle.ken_node.specs.News.{AreInputs}
+use Rattle.ken_work.specs.First.{AreFirst, IsNewRing}
+use Rattle.ken_work.specs.Meeting.{IsEmptied}
+use Rattle.ken_work.specs.News.{AreInputs}
 use Rattle.ken_app.specs.Limits.{first}
-use Rattle.ken_node.proofs.Finding.{some_of}
-use Rattle.ken_node.proofs.InputsOf.{inputs_are}
-use Rattle.ken_node.proofs.NewWhole.{first-reads, first-sent, first-state, heap-sized, none-counted}
-use Rattle.ken_node.proofs.Paced.{paced-first}
+use Rattle.ken_work.proofs.Finding.{some_of}
+use Rattle.ken_whole.proofs.InputsOf.{inputs_are}
+use Rattle.ken_whole.proofs.NewWhole.{first-reads, first-sent, first-state, heap-sized, none-counted}
+use Rattle.ken_whole.proofs.Paced.{paced-first}
 use Rattle.std.proofs.lemmas.List.{length-replicate}
 use Rattle.ken_links.specs.declared.push_end.PushEnd.{PushEnd}
 use Rattle.ken_links.specs.declared.pop_end.PopEnd.{PopEnd}

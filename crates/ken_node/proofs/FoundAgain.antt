@@ -27,7 +27,7 @@ use Rattle.ken_store.specs.Recovered.{Recovery, Fresh, Whole, IsRefusedAt, recov
 use Rattle.ken_store.specs.Turning.{changed_in, live_layers, record_layer}
 use Rattle.ken_store.proofs.Creating.{fresh}
 use Rattle.ken_store.proofs.Standing.{found_over, recovered_by}
-use Rattle.ken_node.specs.Created.{owner_of}
+use Rattle.ken_whole.specs.New.{owner_of}
 use Rattle.ken_node.specs.Down.{ComesOut, Finds, HasLanded, IsSound, Left, MountedLog, TellsNode, a_log, nothing}
 use Rattle.ken_node.proofs.Creation.{size_is}
 
@@ -86,11 +86,6 @@ module _ (g : Game) (v : ℕ) (limits : IsWithinLimits g) where
       (subst (λ (n : ℕ). IsPossible m.patching (take n image)) (sym size) possible)
 
   module _ (given : List Packet) (n : Node) (doubt : Doubt) (log image second : List ℕ) where
-    -- nothing is found where the node was being created, and else a state and a value
-    pub left-is-found : Left g v given n doubt log image second → (recovered (owner_of g v) log image second ≡ Fresh) ⊎ ((state : State) × ((value : Value) × (recovered (owner_of g v) log image second ≡ Whole state value)))
-    left-is-found (nothing first calm no_log no_second) = inl (fresh (owner_of g v) log image second no_log no_second)
-    left-is-found (a_log landed m k comes newest sound tells finds possible) = inr (state_of v tells.numbers k.base k.records, (sound.value, log-is-found m k log image second sound tells finds possible))
-
     -- so nothing is refused
     pub left-is-sound : Left g v given n doubt log image second → (disk place : ℕ) → IsRefusedAt (recovered (owner_of g v) log image second) disk place → ⊥
     left-is-sound (nothing first calm no_log no_second) disk place refused = subst (λ (r : Recovery). IsRefusedAt r disk place) (fresh (owner_of g v) log image second no_log no_second) refused

@@ -23,19 +23,19 @@ use Rattle.ken_store.specs.Recovered.{Fresh, recovered}
 use Rattle.ken_ship.specs.declared.faults.NodeFault.{NodeFault}
 use Rattle.ken_ship.specs.declared.faults.NodeFault.TheVariants.{Disk, Damaged, Outlet, Memory}
 use Rattle.ken_ship.specs.Parts.{Part, part_of}
-use Rattle.ken_node.specs.declared.parts.Parts.{Parts}
+use Rattle.ken_work.specs.declared.parts.Parts.{Parts}
 use Rattle.ken_node.specs.declared.stage.Stage.{Stage}
 use Rattle.ken_node.specs.declared.stage.Stage.TheVariants.{Created, Moved, Uncreated}
 use Rattle.ken_node.specs.Created.{IsCreation}
 use Rattle.ken_node.specs.Down.{AreTold, IsDown}
-use Rattle.ken_node.specs.Faults.{IsFaultOfWorker, store_answer}
-use Rattle.ken_node.specs.First.{AreFirst, IsNewRing}
-use Rattle.ken_node.specs.Meeting.{IsEmptied}
+use Rattle.ken_work.specs.Faults.{IsFaultOfWorker, store_answer}
+use Rattle.ken_work.specs.First.{AreFirst, IsNewRing}
+use Rattle.ken_work.specs.Meeting.{IsEmptied}
 use Rattle.ken_node.specs.Restarting.{IsCreatedAnew, RecoversBy, none_made}
 use Rattle.ken_node.specs.Restarts.{IsUpAgain}
 use Rattle.ken_node.specs.Stages.{HasDisks, IsUncreated, emissions_in, refusals_in}
 use Rattle.ken_node.proofs.CreationDown.{creation_goes_down}
-use Rattle.ken_node.proofs.NewWhole.{new_are_whole}
+use Rattle.ken_whole.proofs.NewWhole.{new_are_whole}
 use Rattle.ken_node.proofs.Recovered.{fresh-first, owner_in, some-is, tell-now}
 
 -- a new ring holds nothing

@@ -34,17 +34,17 @@ use Rattle.ken_store.specs.Turning.{IsPassed, PassesOver, changed_in, live_layer
 use Rattle.ken_store.proofs.ApartPages.{hand_all-possible}
 use Rattle.ken_ship.specs.declared.worker.SendWorker.{SendWorker}
 use Rattle.ken_ship.specs.Laws.{IsStateOf}
-use Rattle.ken_node.specs.declared.patcher.PatchWorker.{PatchWorker}
+use Rattle.ken_work.specs.declared.patcher.PatchWorker.{PatchWorker}
 use Rattle.ken_node.specs.declared.stage.Stage.TheVariants.{Created}
-use Rattle.ken_node.specs.declared.worker.TurnWorker.{TurnWorker}
-use Rattle.ken_node.specs.Created.{owner_of}
+use Rattle.ken_work.specs.declared.worker.TurnWorker.{TurnWorker}
+use Rattle.ken_whole.specs.New.{owner_of}
 use Rattle.ken_node.specs.Down.{AreTold, ComesOut, Finds, HasLanded, IsDown, IsSound, LeavesLog, LeavesNode, MountedLog, TellsNode, a_log}
 use Rattle.ken_node.specs.DownLaws.{WholeGoesDown}
-use Rattle.ken_node.specs.Meeting.{AreJoined}
-use Rattle.ken_node.specs.Patches.{waits_of}
-use Rattle.ken_node.specs.Whole.{AreOfRun, AreWorkersOf, IsWhole}
+use Rattle.ken_work.specs.Meeting.{AreJoined}
+use Rattle.ken_work.specs.Patches.{waits_of}
+use Rattle.ken_whole.specs.Whole.{AreOfRun, AreWorkersOf, IsWhole}
 use Rattle.ken_app.specs.Limits.{ComesTo}
-use Rattle.ken_node.proofs.PatchesWhole.{covers-node}
+use Rattle.ken_whole.proofs.PatchesWhole.{covers-node}
 
 -- ---- which of two logs is current
 

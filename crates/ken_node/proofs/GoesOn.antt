@@ -11,14 +11,13 @@ use Rattle.ken_store.specs.declared.patching.PatchSide.{PatchSide}
 use Rattle.ken_store.specs.declared.turning.TurnSide.{TurnSide}
 use Rattle.ken_ship.specs.declared.worker.SendWorker.{SendWorker}
 use Rattle.ken_ship.specs.Parts.{part_of}
-use Rattle.ken_node.specs.declared.parts.Parts.{Parts}
-use Rattle.ken_node.specs.declared.patcher.PatchWorker.{PatchWorker}
-use Rattle.ken_node.specs.declared.worker.TurnWorker.{TurnWorker}
-use Rattle.ken_node.specs.Created.{AreOver}
+use Rattle.ken_work.specs.declared.parts.Parts.{Parts}
+use Rattle.ken_work.specs.declared.patcher.PatchWorker.{PatchWorker}
+use Rattle.ken_work.specs.declared.worker.TurnWorker.{TurnWorker}
+use Rattle.ken_work.specs.Parts.{AreOver, HaveResumed, IsSameParts}
 use Rattle.ken_node.specs.Down.{AreReady}
-use Rattle.ken_node.specs.Restarting.{HaveResumed, IsSameParts}
 use Rattle.ken_node.specs.Restarts.{GoOnFrom}
-use Rattle.ken_node.proofs.Rings.{bare_at}
+use Rattle.ken_whole.proofs.Rings.{bare_at}
 
 -- parts that are the same but for turns and what waits are ready as they were
 pub same-ready : (g : Game) (v : ℕ) (x y : Parts) → IsSameParts x y → AreReady g v x → AreReady g v y
@@ -41,11 +40,6 @@ same-ready g v x y same ready =
     })
 
 module _ {D : Type 0} where
-  -- the disks of workers over a store are the store's
-  pub over-disks : (x : Parts) (store : Store D) (order : Consumed) (t : TurnWorker D) (p : PatchWorker D) (s : SendWorker) → AreOver x store order t p s → disks_in store ≡ disks_apart t.side p.side
-  over-disks x store order t p s over =
-      ap (λ (y : TurnSide D). disks_apart y store.patches) (sym over.side) ∙ ap (λ (y : PatchSide D). disks_apart t.side y) (sym (ap (λ (w : PatchWorker D). w.side) over.patches))
-
   -- they go on from a state
   pub goes-on : (g : Game) (v : ℕ) (x y : Parts) (store : Store D) (state : State) (records : List Record) (order : Consumed) (t : TurnWorker D) (p : PatchWorker D) (s : SendWorker) → AreReady g v x → IsSameParts x y → HaveResumed state records x y
       → order ≡ record { nodes = y.nodes; stamp = state.stamp; consumed = state.consumed } → AreOver y store order t p s → GoOnFrom g v x.turns.items store state records t p s

@@ -12,11 +12,11 @@ use Rattle.ken_store.specs.declared.faults.StoreFault.{StoreFault}
 use Rattle.ken_store.specs.Patching.{disk_answer, patch_calls}
 use Rattle.ken_ship.specs.declared.faults.NodeFault.{NodeFault}
 use Rattle.ken_ship.specs.declared.worker.SendWorker.{SendWorker}
-use Rattle.ken_node.specs.declared.patcher.PatchWorker.{PatchWorker}
-use Rattle.ken_node.specs.declared.worker.TurnWorker.{TurnWorker}
-use Rattle.ken_node.specs.Faults.{store_answer}
-use Rattle.ken_node.specs.Meeting.{HaveMet}
-use Rattle.ken_node.specs.Patches.{PatchesOnce, SettlesOnce, went, no_room}
+use Rattle.ken_work.specs.declared.patcher.PatchWorker.{PatchWorker}
+use Rattle.ken_work.specs.declared.worker.TurnWorker.{TurnWorker}
+use Rattle.ken_work.specs.Faults.{store_answer}
+use Rattle.ken_work.specs.Meeting.{HaveMet}
+use Rattle.ken_work.specs.Patches.{PatchesOnce, SettlesOnce, went, no_room}
 use Rattle.ken_node.specs.Synced.{HasMadeSync, KeepsSyncs}
 use Rattle.ken_node.proofs.RestartSynced.{same-syncs}
 

@@ -7,11 +7,11 @@ use Rattle.ken_store.specs.Answers.{disks_from}
 use Rattle.ken_store.specs.Apart.{disks_apart}
 use Rattle.ken_ship.specs.declared.worker.SendWorker.{SendWorker}
 use Rattle.ken_ship.specs.Parts.{IsSameWorker as IsSameSender}
-use Rattle.ken_node.specs.declared.patcher.PatchWorker.{PatchWorker}
-use Rattle.ken_node.specs.declared.worker.TurnWorker.{TurnWorker}
+use Rattle.ken_work.specs.declared.patcher.PatchWorker.{PatchWorker}
+use Rattle.ken_work.specs.declared.worker.TurnWorker.{TurnWorker}
 use Rattle.ken_node.specs.DownLaws.{MeetingStaysDown}
-use Rattle.ken_node.specs.Meeting.{HaveMet}
-use Rattle.ken_node.specs.Whole.{AreOfRun}
+use Rattle.ken_work.specs.Meeting.{HaveMet}
+use Rattle.ken_whole.specs.Whole.{AreOfRun}
 
 module _ {D : Type 0} (told : D → Option Story) (size : D → ℕ) where
   of-run-met : (g : Game) (v : ℕ) (t t2 : TurnWorker D) (p p2 : PatchWorker D) (s s2 : SendWorker) → IsSameSender s s2 → HaveMet told size t t2 p p2 s s2 → AreOfRun g v t s → AreOfRun g v t2 s2

@@ -16,11 +16,11 @@ use Rattle.ken_store.specs.declared.numbers.Numbers.{Numbers}
 use Rattle.ken_store.specs.Answers.{disks_from}
 use Rattle.ken_store.specs.Apart.{disks_apart}
 use Rattle.ken_ship.specs.declared.worker.SendWorker.{SendWorker}
-use Rattle.ken_node.specs.declared.patcher.PatchWorker.{PatchWorker}
-use Rattle.ken_node.specs.declared.worker.TurnWorker.{TurnWorker}
-use Rattle.ken_node.specs.Capped.{HasHigh, IsCapped, stamp, consumed, sent, outputs, turns, numbers, generation, end, base}
+use Rattle.ken_work.specs.declared.patcher.PatchWorker.{PatchWorker}
+use Rattle.ken_work.specs.declared.worker.TurnWorker.{TurnWorker}
+use Rattle.ken_work.specs.Capped.{HasHigh, IsCapped, stamp, consumed, sent, outputs, turns, numbers, generation, end, base}
 use Rattle.ken_node.specs.Down.{AreTold}
-use Rattle.ken_node.specs.Whole.{AreNumbersOf, IsWhole}
+use Rattle.ken_whole.specs.Whole.{AreNumbersOf, IsWhole}
 use Rattle.ken_node.proofs.Bounds.{base-short, end-low, low-outputs, low-sent, turns-of-log}
 
 -- the disk of the current log tells

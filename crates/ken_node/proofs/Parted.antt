@@ -13,23 +13,23 @@ use Rattle.ken_store.specs.declared.disks.Disks.{Disks}
 use Rattle.ken_store.specs.Apart.{disks_apart}
 use Rattle.ken_ship.specs.declared.worker.SendWorker.{SendWorker}
 use Rattle.ken_ship.specs.Parts.{IsSameWorker as IsSameSender}
-use Rattle.ken_node.specs.declared.items.Settled.{Settled}
-use Rattle.ken_node.specs.declared.items.Frozen.{Frozen}
-use Rattle.ken_node.specs.declared.parts.Parts.{Parts}
-use Rattle.ken_node.specs.declared.patcher.PatchWorker.{PatchWorker}
+use Rattle.ken_work.specs.declared.items.Settled.{Settled}
+use Rattle.ken_work.specs.declared.items.Frozen.{Frozen}
+use Rattle.ken_work.specs.declared.parts.Parts.{Parts}
+use Rattle.ken_work.specs.declared.patcher.PatchWorker.{PatchWorker}
 use Rattle.ken_node.specs.declared.stage.Stage.{Stage}
 use Rattle.ken_node.specs.declared.stage.Stage.TheVariants.{Created}
-use Rattle.ken_node.specs.declared.worker.TurnWorker.{TurnWorker}
+use Rattle.ken_work.specs.declared.worker.TurnWorker.{TurnWorker}
 use Rattle.ken_node.specs.Down.{AreReady, IsDown, IsOfNode}
-use Rattle.ken_node.specs.Meeting.{AreEmpty, AreJoined, HaveMet}
-use Rattle.ken_node.specs.News.{AreInputs}
-use Rattle.ken_node.specs.Restarting.{ArePartsOf}
+use Rattle.ken_work.specs.Meeting.{AreEmpty, AreJoined, HaveMet}
+use Rattle.ken_work.specs.News.{AreInputs}
+use Rattle.ken_work.specs.Parts.{ArePartsOf}
 use Rattle.ken_node.specs.Stages.{HasDisks, turns_in}
-use Rattle.ken_node.specs.Whole.{AreOfRun}
-use Rattle.ken_node.specs.Workers.{IsSameWorker}
+use Rattle.ken_whole.specs.Whole.{AreOfRun}
+use Rattle.ken_work.specs.Workers.{IsSameWorker}
 use Rattle.ken_node.proofs.Creation.{size_is}
-use Rattle.ken_node.proofs.InputsOf.{inputs_are}
-use Rattle.ken_node.proofs.Rings.{bare_at}
+use Rattle.ken_whole.proofs.InputsOf.{inputs_are}
+use Rattle.ken_whole.proofs.Rings.{bare_at}
 
 -- the inputs of a node of a run
 pub are_given : (g : Game) (v : ℕ) (x : Parts) → IsWithinLimits g → x.node ≡ v → x.inputs.items ≡ inputs_for g v → AreInputs x.node x.inputs.items
@@ -47,12 +47,6 @@ module _ {D : Type 0} (told : D → Option Story) (size : D → ℕ) where
     sender = sender.node ∙ run.sender;
     receivers = sender.nodes ∙ run.receivers;
   }
-
-  -- they have the disks that they had
-  pub met-disks : (t t2 : TurnWorker D) (p p2 : PatchWorker D) (s s2 : SendWorker) → HaveMet told size t t2 p p2 s s2 → disks_apart t.side p.side ≡ disks_apart t2.side p2.side
-  met-disks t t2 p p2 s s2 met =
-      ap (λ (x : TurnWorker D). disks_apart x.side p.side) (sym met.handler)
-      ∙ ap (λ i. disks_apart t2.side (record p.side { image = i })) (sym met.patches.handed.image)
 
 -- and where they met, what they are made of is ready
 pub parts-ready : {D : Type 0} (g : Game) (v : ℕ) (t : TurnWorker D) (p : PatchWorker D) (s : SendWorker) (x : Parts) → IsWithinLimits g → AreOfRun g v t s → AreJoined t p s → AreEmpty t p s → ArePartsOf t p s x → AreReady g v x

@@ -26,20 +26,20 @@ use Rattle.ken_ship.specs.declared.faults.NodeFault.{NodeFault}
 use Rattle.ken_ship.specs.declared.faults.NodeFault.TheVariants.{Disk, Damaged, Outlet, Memory}
 use Rattle.ken_ship.specs.declared.worker.SendWorker.{SendWorker}
 use Rattle.ken_ship.specs.Parts.{IsSameWorker as IsSameSender}
-use Rattle.ken_node.specs.declared.items.Frozen.{Frozen}
-use Rattle.ken_node.specs.declared.patcher.PatchWorker.{PatchWorker}
+use Rattle.ken_work.specs.declared.items.Frozen.{Frozen}
+use Rattle.ken_work.specs.declared.patcher.PatchWorker.{PatchWorker}
 use Rattle.ken_node.specs.declared.stage.Stage.TheVariants.{Created}
-use Rattle.ken_node.specs.declared.worker.TurnWorker.{TurnWorker}
+use Rattle.ken_work.specs.declared.worker.TurnWorker.{TurnWorker}
 use Rattle.ken_node.specs.Down.{AreTold}
-use Rattle.ken_node.specs.Faults.{IsFaultOfWorker, store_answer}
-use Rattle.ken_node.specs.Meeting.{AreEmpty, AreJoined, HaveMet}
+use Rattle.ken_work.specs.Faults.{IsFaultOfWorker, store_answer}
+use Rattle.ken_work.specs.Meeting.{AreEmpty, AreJoined, HaveMet}
 use Rattle.ken_node.specs.NodeCalls.{DisksFailBy, GoesDown, PatchStepsBy, SettleStepsBy, Steps}
-use Rattle.ken_node.specs.Patches.{IsHandedOver, IsSamePatcher, PatchesOnce, SettlesOnce, waits_of, went, no_room}
-use Rattle.ken_node.specs.WholeLaws.{LeadsTo}
+use Rattle.ken_work.specs.Patches.{IsHandedOver, IsSamePatcher, PatchesOnce, SettlesOnce, waits_of, went, no_room}
+use Rattle.ken_whole.specs.WholeLaws.{LeadsTo}
 use Rattle.ken_node.proofs.GoesDown.{whole_goes_down}
 use Rattle.ken_node.proofs.MeetingDown.{meeting_stays_down}
-use Rattle.ken_node.proofs.PatchesWhole.{patch_keeps_whole, sync_keeps_whole}
-use Rattle.ken_node.proofs.Rings.{queue-moved, ring-popped, ring-pushed}
+use Rattle.ken_whole.proofs.PatchesWhole.{patch_keeps_whole, sync_keeps_whole}
+use Rattle.ken_whole.proofs.Rings.{queue-moved, ring-popped, ring-pushed}
 use Rattle.ken_node.proofs.Up.{AreUp, follows-same, image-failed, image-unfailed, met-disks, met-fronts, met-up, still-told, told-image}
 
 front-of-none : {A : Type 0} (xs ys : List A) → xs ++ ys ≡ [] → xs ≡ []

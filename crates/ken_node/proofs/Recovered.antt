@@ -21,12 +21,12 @@ use Rattle.ken_store.specs.Recovered.{Fresh, Recovery, recovered}
 use Rattle.ken_store.specs.Reads.{AreSame, ReadsDisks}
 use Rattle.ken_store.specs.Standing.{IsReady, IsReadyStore}
 use Rattle.ken_ship.specs.Fits.{IsMailFrom}
-use Rattle.ken_node.specs.declared.parts.Parts.{Parts}
+use Rattle.ken_work.specs.declared.parts.Parts.{Parts}
 use Rattle.ken_node.specs.declared.stage.Stage.TheVariants.{Uncreated}
-use Rattle.ken_node.specs.Created.{owner_of}
+use Rattle.ken_whole.specs.New.{owner_of}
 use Rattle.ken_node.specs.Down.{AreReady, AreTold, IsDown, LeavesLog, LeavesNode, Left}
-use Rattle.ken_node.specs.Faults.{IsFaultOfWorker, node_answer}
-use Rattle.ken_node.specs.First.{AreFirst}
+use Rattle.ken_work.specs.Faults.{IsFaultOfWorker, node_answer}
+use Rattle.ken_work.specs.First.{AreFirst}
 use Rattle.ken_node.specs.Restarting.{LeaveLess}
 use Rattle.ken_node.proofs.FoundAgain.{fresh-is-first, left-is-sound}
 use Rattle.ken_node.proofs.Mails.{log-mails}

@@ -17,8 +17,9 @@ use Rattle.ken_core.specs.Packets.{Packet, nothing}
 use Rattle.ken_core.specs.Runs.{NodeRun}
 use Rattle.ken_core.specs.Steps.{crashed_node}
 use Rattle.ken_core.proofs.Doubt.{seal_in_doubt, turnover_in_doubt}
-use Rattle.ken_node.specs.Down.{ComesOut, HasLanded, effects_in}
-use Rattle.ken_node.specs.Restarts.{AreOfRestart, kept_turns}
+use Rattle.ken_node.specs.Down.{ComesOut, HasLanded}
+use Rattle.ken_work.specs.Parts.{effects_in, kept_turns}
+use Rattle.ken_node.specs.Restarts.{AreOfRestart}
 
 -- ---- the events
 

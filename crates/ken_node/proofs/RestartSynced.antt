@@ -30,14 +30,15 @@ use Rattle.ken_store.proofs.Worked.{creation_works}
 use Rattle.ken_ship.specs.declared.faults.NodeFault.{NodeFault}
 use Rattle.ken_ship.specs.declared.faults.NodeFault.TheVariants.{Disk, Damaged, Outlet, Memory}
 use Rattle.ken_ship.specs.declared.worker.SendWorker.{SendWorker}
-use Rattle.ken_node.specs.declared.parts.Parts.{Parts}
-use Rattle.ken_node.specs.declared.patcher.PatchWorker.{PatchWorker}
+use Rattle.ken_work.specs.declared.parts.Parts.{Parts}
+use Rattle.ken_work.specs.declared.patcher.PatchWorker.{PatchWorker}
 use Rattle.ken_node.specs.declared.stage.Stage.{Stage}
 use Rattle.ken_node.specs.declared.stage.Stage.TheVariants.{Created}
-use Rattle.ken_node.specs.declared.worker.TurnWorker.{TurnWorker}
-use Rattle.ken_node.specs.Created.{AreOver, owner_of}
+use Rattle.ken_work.specs.declared.worker.TurnWorker.{TurnWorker}
+use Rattle.ken_work.specs.Parts.{AreOver}
+use Rattle.ken_whole.specs.New.{owner_of}
 use Rattle.ken_node.specs.Down.{AreTold, Finds, MountedLog}
-use Rattle.ken_node.specs.First.{AreFirst}
+use Rattle.ken_work.specs.First.{AreFirst}
 use Rattle.ken_node.specs.NodeCalls.{UnlessMemory}
 use Rattle.ken_node.specs.Restarting.{HaveCounts, LeaveLess}
 use Rattle.ken_node.specs.Stages.{HasDisks}

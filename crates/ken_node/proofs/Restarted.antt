@@ -14,7 +14,7 @@ use Rattle.ken_store.specs.declared.disks.Disks.{Disks}
 use Rattle.ken_store.specs.Answers.{AreAtRest}
 use Rattle.ken_ship.specs.declared.faults.NodeFault.{NodeFault}
 use Rattle.ken_ship.specs.declared.faults.NodeFault.TheVariants.{Disk, Damaged, Outlet, Memory}
-use Rattle.ken_node.specs.declared.parts.Parts.{Parts}
+use Rattle.ken_work.specs.declared.parts.Parts.{Parts}
 use Rattle.ken_node.specs.declared.stage.Stage.TheVariants.{Uncreated}
 use Rattle.ken_node.specs.Down.{AreTold, IsDown, LeavesLog, LeavesNode}
 use Rattle.ken_node.specs.Restarting.{LeaveLess, LeavesLess, RecoversBy}
@@ -22,21 +22,9 @@ use Rattle.ken_node.specs.Restarts.{RestartsBy, WereRestarted}
 
 -- ---- what a crash leaves then
 
--- of a disk that went down
-went-less : (a b : Story) → WentDown a b → (image : List ℕ) → IsImage b.now image → IsImage a.now image
-went-less a b went image is =
-    let up = came_up a b went in
-    subst (IsImage a.now) (sym (image_at_rest b.now up.1 image is)) up.0
-
-pub down-less : (old new : Option Story) → Follows WentDown old new → LeavesLess old new
-down-less old new follows = weakened WentDown (λ (a b : Story). (image : List ℕ) → IsImage b.now image → IsImage a.now image) old new follows (λ a b was went. went-less a b went)
-
 -- of one that saw no call
 pub same-less : (old new : Option Story) → new ≡ old → LeavesLess old new
 same-less old new is = by_none (λ (a b : Story). (image : List ℕ) → IsImage b.now image → IsImage a.now image) old new is (λ a image left. left)
-
-pub down-rests : (old new : Option Story) → Follows WentDown old new → Tells new (λ h. IsAtRest h.now)
-down-rests old new follows = tells_after WentDown (λ (h : Story). IsAtRest h.now) old new follows (λ a b was went. let up = came_up a b went in up.1)
 
 less-told : (old new : Option Story) → LeavesLess old new → IsSome old → IsSome new
 less-told None new less some = absurd (let no : ⊥ = cc some in no)
@@ -84,13 +72,6 @@ module _ {D : Type 0} (told : D → Option Story) where
       }
 
   module _ (count : D → ℕ) (fate : D → Option Fate) where
-    pub restarted-rest : (pick : ℕ) (old new : Disks D) → WereRestarted told count fate pick old new → AreAtRest told new
-    restarted-rest pick old new were = record {
-      log = down-rests (told old.log) (told new.log) were.log.story;
-      image = down-rests (told old.image) (told new.image) were.image.story;
-      second = down-rests (told old.second) (told new.second) were.second.story;
-    }
-
     -- what becomes of the disks in a restart
     pub restarts-by : {T : Type 0} (pick : ℕ) (r : Result T NodeFault) (old mid new : Disks D) → WereRestarted told count fate pick old mid → RecoversBy told count fate r mid new → RestartsBy told count fate pick r old new
     restarts-by pick (Ok x) old mid new were by = (mid, (were, by))

@@ -38,24 +38,24 @@ use Rattle.ken_store.proofs.SealMeanwhile.{changed_within}
 use Rattle.ken_store.proofs.Sealing.{live_more, numbers_more, told_before}
 use Rattle.ken_ship.specs.declared.worker.SendWorker.{SendWorker}
 use Rattle.ken_ship.specs.Laws.{packets_from}
-use Rattle.ken_node.specs.declared.patcher.PatchWorker.{PatchWorker}
+use Rattle.ken_work.specs.declared.patcher.PatchWorker.{PatchWorker}
 use Rattle.ken_node.specs.declared.stage.Stage.TheVariants.{Created}
-use Rattle.ken_node.specs.declared.worker.TurnWorker.{TurnWorker}
-use Rattle.ken_node.specs.Calls.{IsQuiet}
-use Rattle.ken_node.specs.Created.{owner_of}
+use Rattle.ken_work.specs.declared.worker.TurnWorker.{TurnWorker}
+use Rattle.ken_work.specs.Calls.{IsQuiet}
+use Rattle.ken_whole.specs.New.{owner_of}
 use Rattle.ken_node.specs.Down.{AreTold, IsDown, IsSound, MountedLog, TellsNode}
 use Rattle.ken_node.specs.DownLaws.{SealGoesDown}
-use Rattle.ken_node.specs.Making.{IsMade}
-use Rattle.ken_node.specs.Sealing.{SealsTurn, coming_pages, coming_turn}
-use Rattle.ken_node.specs.TurnLaws.{turn_made}
-use Rattle.ken_node.specs.Whole.{IsWhole}
+use Rattle.ken_work.specs.Making.{IsMade}
+use Rattle.ken_work.specs.Sealing.{SealsTurn, coming_pages, coming_turn}
+use Rattle.ken_whole.specs.TurnLaws.{turn_made}
+use Rattle.ken_whole.specs.Whole.{IsWhole}
 use Rattle.ken_app.specs.Limits.{IsCall, next}
 use Rattle.ken_node.proofs.GoesDown.{FoundLog, LeavesLogs, comes, finds-current, found-over, is-down, leaves-by, live-recounted, log-of, owner-is, possible-now}
-use Rattle.ken_node.proofs.Paced.{paced-more}
-use Rattle.ken_node.proofs.PatchesWhole.{covers-node}
-use Rattle.ken_node.proofs.SealsWhole.{after, begun-heap, comes-of, coming, counted-after, handler-made, number-is, own-after, sent-after, stands-after, state-after, turn, turns-are}
-use Rattle.ken_node.proofs.ShortMails.{came-known, came-short}
-use Rattle.ken_node.proofs.TurnoversWhole.{joined-side, of-run-side}
+use Rattle.ken_whole.proofs.Paced.{paced-more}
+use Rattle.ken_whole.proofs.PatchesWhole.{covers-node}
+use Rattle.ken_whole.proofs.SealsWhole.{after, begun-heap, comes-of, coming, counted-after, handler-made, number-is, own-after, sent-after, stands-after, state-after, turn, turns-are}
+use Rattle.ken_whole.proofs.ShortMails.{came-known, came-short}
+use Rattle.ken_whole.proofs.TurnoversWhole.{joined-side, of-run-side}
 
 module _ {D : Type 0} (told : D → Option Story) (size : D → ℕ) (g : Game) (v : ℕ) (n : Node) (t : TurnWorker D) (p : PatchWorker D) (s : SendWorker) (whole : IsWhole told size g v n t p s) (m : Message) (e : Effects) (begun : TurnSide D) (made : IsMade g.handler m e t.side begun)
     (may : MaySealOn begun e) where
@@ -133,9 +133,6 @@ module _ {D : Type 0} (told : D → Option Story) (size : D → ℕ) (g : Game) 
 
     owner-new : new.owner ≡ t.side.owner
     owner-new = sealing.others.owner ∙ made.same.owner
-
-    which-new : new.which ≡ t.side.which
-    which-new = sealing.others.which ∙ made.same.which
 
     other-new : new.other ≡ t.side.other
     other-new = sealing.others.other ∙ made.same.other

@@ -38,16 +38,16 @@ use Rattle.ken_ship.specs.Taking.{Heard, TellsRisen, ack_in, acks_in}
 use Rattle.ken_ship.proofs.Dues.{sends_are_events}
 use Rattle.ken_ship.proofs.Lines.{mails_from, sends_are_mails}
 use Rattle.ken_ship.proofs.Numbered.{get_drop}
-use Rattle.ken_node.specs.declared.patcher.PatchWorker.{PatchWorker}
+use Rattle.ken_work.specs.declared.patcher.PatchWorker.{PatchWorker}
 use Rattle.ken_node.specs.declared.stage.Stage.TheVariants.{Created}
-use Rattle.ken_node.specs.declared.worker.TurnWorker.{TurnWorker}
-use Rattle.ken_node.specs.Meeting.{AreEmpty, AreFronts, AreJoined, HaveMet}
+use Rattle.ken_work.specs.declared.worker.TurnWorker.{TurnWorker}
+use Rattle.ken_work.specs.Meeting.{AreEmpty, AreFronts, AreJoined, HaveMet}
 use Rattle.ken_node.specs.NodeCalls.{AreSpelled, EmitStepsBy, EmitsNone, GoesNoFurther, HearSteps, IsSpelled, SendSteps}
-use Rattle.ken_node.specs.WholeLaws.{LeadsTo}
-use Rattle.ken_node.proofs.AcksWhole.{acks_keep_whole}
-use Rattle.ken_node.proofs.EmissionsWhole.{emission_keeps_whole}
-use Rattle.ken_node.proofs.Rings.{queue-moved}
-use Rattle.ken_node.proofs.SendsWhole.{sends_keep_whole}
+use Rattle.ken_whole.specs.WholeLaws.{LeadsTo}
+use Rattle.ken_whole.proofs.AcksWhole.{acks_keep_whole}
+use Rattle.ken_whole.proofs.EmissionsWhole.{emission_keeps_whole}
+use Rattle.ken_whole.proofs.Rings.{queue-moved}
+use Rattle.ken_whole.proofs.SendsWhole.{sends_keep_whole}
 use Rattle.ken_node.proofs.Up.{AreUp, met-fronts, met-up}
 
 back-of-none : {A : Type 0} (xs ys : List A) → xs ++ ys ≡ [] → ys ≡ []

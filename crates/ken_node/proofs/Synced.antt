@@ -33,13 +33,13 @@ use Rattle.ken_store.specs.Turning.{KeepsLog, PassesOver, Turning, IsPassed}
 use Rattle.ken_store.specs.Work.{HaveWorked, MayHaveChanged}
 use Rattle.ken_store.proofs.Worked.{seal_works, turnover_works}
 use Rattle.ken_ship.specs.declared.worker.SendWorker.{SendWorker}
-use Rattle.ken_node.specs.declared.patcher.PatchWorker.{PatchWorker}
+use Rattle.ken_work.specs.declared.patcher.PatchWorker.{PatchWorker}
 use Rattle.ken_node.specs.declared.stage.Stage.{Stage}
 use Rattle.ken_node.specs.declared.stage.Stage.TheVariants.{Created}
-use Rattle.ken_node.specs.declared.worker.TurnWorker.{TurnWorker}
-use Rattle.ken_node.specs.Created.{owner_of}
+use Rattle.ken_work.specs.declared.worker.TurnWorker.{TurnWorker}
+use Rattle.ken_whole.specs.New.{owner_of}
 use Rattle.ken_node.specs.Down.{AreTold, ComesOut, Finds, IsDown, LeavesLog, LeavesNode, Left, MountedLog, a_log, nothing}
-use Rattle.ken_node.specs.Sealing.{RenewsBy, SealsTurn}
+use Rattle.ken_work.specs.Sealing.{RenewsBy, SealsTurn}
 use Rattle.ken_node.specs.Stages.{HasDisks}
 use Rattle.ken_node.specs.Synced.{HasSynced, LeavesSynced, UpHasSynced}
 use Rattle.ken_node.proofs.Fresh.{has-one}

@@ -24,14 +24,14 @@ use Rattle.ken_store.specs.Turning.{KeepsLog, SealsOn, log_answer}
 use Rattle.ken_store.specs.Turnovers.{ReplacesOn}
 use Rattle.ken_ship.specs.declared.faults.NodeFault.{NodeFault}
 use Rattle.ken_ship.specs.declared.faults.NodeFault.TheVariants.{Disk, Damaged, Outlet, Memory}
-use Rattle.ken_node.specs.declared.took.Took.{Took}
-use Rattle.ken_node.specs.declared.took.Took.TheVariants.{Turn, Idle, Capped}
-use Rattle.ken_node.specs.declared.worker.TurnWorker.{TurnWorker}
-use Rattle.ken_node.specs.Calls.{IsTurnInDoubt, IsTurnoverInDoubt, RanTurn, TakesTurn}
+use Rattle.ken_work.specs.declared.took.Took.{Took}
+use Rattle.ken_work.specs.declared.took.Took.TheVariants.{Turn, Idle, Capped}
+use Rattle.ken_work.specs.declared.worker.TurnWorker.{TurnWorker}
+use Rattle.ken_work.specs.Calls.{IsTurnInDoubt, IsTurnoverInDoubt, RanTurn, TakesTurn}
 use Rattle.ken_node.specs.Down.{AreTold}
 use Rattle.ken_node.specs.NodeCalls.{DisksFailBy}
 use Rattle.ken_node.specs.Restarts.{AreUnfailed, OneHasFailed}
-use Rattle.ken_node.specs.Sealing.{RenewsBy, SealsTurn, is_full}
+use Rattle.ken_work.specs.Sealing.{RenewsBy, SealsTurn, is_full}
 use Rattle.ken_node.proofs.Up.{follows-same, still-told, unfailed-still}
 
 -- ---- the two logs of a side: the current one and the other, as the first and the second

@@ -4,16 +4,16 @@ use Rattle.ken_disk.specs.Fates.{Fate}
 use Rattle.ken_disk.specs.Story.{Story}
 use Rattle.ken_net.specs.Puts.{Put}
 use Rattle.ken_ship.specs.declared.faults.NodeFault.TheVariants.{Disk}
-use Rattle.ken_node.specs.declared.worker.TurnWorker.{TurnWorker}
-use Rattle.ken_node.specs.Calls.{IsTurnInDoubt, IsTurnoverInDoubt}
+use Rattle.ken_work.specs.declared.worker.TurnWorker.{TurnWorker}
+use Rattle.ken_work.specs.Calls.{IsTurnInDoubt, IsTurnoverInDoubt, Drew}
 use Rattle.ken_node.specs.DownLaws.{TurnGoesDown}
-use Rattle.ken_node.specs.Sealing.{is_full}
-use Rattle.ken_node.specs.Whole.{IsWhole}
-use Rattle.ken_node.specs.TurnLaws.{DoubtsSeal, DoubtsTurnover, Drew}
+use Rattle.ken_work.specs.Sealing.{is_full}
+use Rattle.ken_whole.specs.Whole.{IsWhole}
+use Rattle.ken_whole.specs.TurnLaws.{DoubtsSeal, DoubtsTurnover}
 use Rattle.ken_node.proofs.SealDown.{seal_goes_down}
 use Rattle.ken_node.proofs.TurnoverDown.{turnover_goes_down}
-use Rattle.ken_node.proofs.TurnoversWhole.{may-turn}
-use Rattle.ken_node.proofs.TurnsWhole.{doubt-from, doubt-leads, heard-whole, ready-by}
+use Rattle.ken_whole.proofs.TurnoversWhole.{may-turn}
+use Rattle.ken_whole.proofs.TurnsWhole.{doubt-from, doubt-leads, heard-whole, ready-by}
 
 module _ {D O N : Type 0} (told : D → Option Story) (size count : D → ℕ) (fate : D → Option Fate) (clocks words : O → Option (List ℕ)) (given_between : N → N → List (List ℕ) → Type 0) (put_between : N → N → List Put → Type 0) where
   pub turn_goes_down : TurnGoesDown told size count fate clocks words given_between put_between

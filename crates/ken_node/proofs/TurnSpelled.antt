@@ -22,9 +22,9 @@ use Rattle.ken_core.specs.Runs.{NodeRun}
 use Rattle.ken_core.specs.Steps.{NodeStep}
 use Rattle.ken_core.specs.Turns.{consumed_from as count_from}
 use Rattle.ken_ship.specs.Laws.{packet_from}
-use Rattle.ken_node.specs.Hearing.{ack_put}
+use Rattle.ken_work.specs.Hearing.{ack_put}
 use Rattle.ken_node.specs.NodeCalls.{AreSpelled, IsSpelled}
-use Rattle.ken_node.specs.TurnLaws.{acks_out}
+use Rattle.ken_whole.specs.TurnLaws.{acks_out}
 
 -- ---- lists of puts
 

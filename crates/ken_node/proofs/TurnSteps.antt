@@ -32,35 +32,35 @@ use Rattle.ken_ship.specs.declared.faults.NodeFault.TheVariants.{Disk, Damaged, 
 use Rattle.ken_ship.specs.declared.worker.SendWorker.{SendWorker}
 use Rattle.ken_ship.specs.Laws.{packet_from, packets_from}
 use Rattle.ken_ship.specs.Parts.{IsSameWorker as IsSameSender}
-use Rattle.ken_node.specs.declared.hearing.Heard.TheVariants.{Next, Again, Lost}
-use Rattle.ken_node.specs.declared.patcher.PatchWorker.{PatchWorker}
+use Rattle.ken_work.specs.declared.hearing.Heard.TheVariants.{Next, Again, Lost}
+use Rattle.ken_work.specs.declared.patcher.PatchWorker.{PatchWorker}
 use Rattle.ken_node.specs.declared.stage.Stage.TheVariants.{Created}
-use Rattle.ken_node.specs.declared.took.Took.{Took}
-use Rattle.ken_node.specs.declared.took.Took.TheVariants.{Turn, Idle, Capped}
-use Rattle.ken_node.specs.declared.worker.TurnWorker.{TurnWorker}
-use Rattle.ken_node.specs.Calls.{IsTurnInDoubt, IsTurnoverInDoubt, TakesTurn}
-use Rattle.ken_node.specs.Capped.{IsCapped}
-use Rattle.ken_node.specs.Capped as caps
+use Rattle.ken_work.specs.declared.took.Took.{Took}
+use Rattle.ken_work.specs.declared.took.Took.TheVariants.{Turn, Idle, Capped}
+use Rattle.ken_work.specs.declared.worker.TurnWorker.{TurnWorker}
+use Rattle.ken_work.specs.Calls.{IsTurnInDoubt, IsTurnoverInDoubt, TakesTurn, Drew}
+use Rattle.ken_work.specs.Capped.{IsCapped}
+use Rattle.ken_work.specs.Capped as caps
 use Rattle.ken_node.specs.Down.{AreTold}
 use Rattle.ken_node.specs.DownLaws.{SealIsDown, TurnoverIsDown}
-use Rattle.ken_node.specs.Hearing.{ArePassed, EndsWith, IsPassed, ack_put, again_puts, chosen, heard, heard_mail}
-use Rattle.ken_node.specs.Meeting.{AreEmpty, AreFronts, AreJoined, HaveMet}
+use Rattle.ken_work.specs.Hearing.{ArePassed, EndsWith, IsPassed, ack_put, again_puts, chosen, heard, heard_mail}
+use Rattle.ken_work.specs.Meeting.{AreEmpty, AreFronts, AreJoined, HaveMet}
 use Rattle.ken_node.specs.NodeCalls.{DisksFailBy}
 use Rattle.ken_node.specs.NodeTurns.{CappedSteps, HandlerSteps, IdleSteps, IsAnsweredIn, IsMailOf, IsNotNext, NoneIsLeft, SealFails, TurnSteps, TurnStepsBy, TurnoverFails}
-use Rattle.ken_node.specs.Sealing.{coming_pages, is_full}
-use Rattle.ken_node.specs.TurnLaws.{Drew, HandlerLeadsTo, acks_out, told_of}
-use Rattle.ken_node.specs.Whole.{IsWhole}
-use Rattle.ken_node.specs.Workers.{HearsNews, IsSameWorker}
+use Rattle.ken_work.specs.Sealing.{coming_pages, is_full}
+use Rattle.ken_whole.specs.TurnLaws.{HandlerLeadsTo, acks_out, told_of}
+use Rattle.ken_whole.specs.Whole.{IsWhole}
+use Rattle.ken_work.specs.Workers.{HearsNews, IsSameWorker}
 use Rattle.ken_node.proofs.Again.{again-answered, again-few, more-left, none-in, one-in}
 use Rattle.ken_node.proofs.MeetingDown.{meeting_stays_down}
-use Rattle.ken_node.proofs.NextMails.{next-mail}
+use Rattle.ken_whole.proofs.NextMails.{next-mail}
 use Rattle.ken_node.proofs.Over.{capped_over}
-use Rattle.ken_node.proofs.Quietly.{idle_keeps_sending, idle_keeps_turns}
-use Rattle.ken_node.proofs.Rings.{ring-popped, ring-pushed}
+use Rattle.ken_whole.proofs.Quietly.{idle_keeps_sending, idle_keeps_turns}
+use Rattle.ken_whole.proofs.Rings.{ring-popped, ring-pushed}
 use Rattle.ken_node.proofs.TurnDisks.{disk-failed, turn-disks, turn-told}
 use Rattle.ken_node.proofs.TurnDown.{turn_goes_down}
 use Rattle.ken_node.proofs.TurnSpelled.{handler-spelled}
-use Rattle.ken_node.proofs.TurnsWhole.{heard-whole, idle_listens, turn_keeps_whole, turn_listens}
+use Rattle.ken_whole.proofs.TurnsWhole.{heard-whole, idle_listens, turn_keeps_whole, turn_listens}
 use Rattle.ken_node.proofs.Up.{AreUp, met-disks, met-fronts, met-up}
 
 -- the workers are joined still, so they may meet

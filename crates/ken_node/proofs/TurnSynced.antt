@@ -20,31 +20,31 @@ use Rattle.ken_ship.specs.declared.faults.NodeFault.{NodeFault}
 use Rattle.ken_ship.specs.declared.faults.NodeFault.TheVariants.{Disk, Damaged, Outlet, Memory}
 use Rattle.ken_ship.specs.declared.worker.SendWorker.{SendWorker}
 use Rattle.ken_ship.specs.Laws.{packets_from}
-use Rattle.ken_node.specs.declared.patcher.PatchWorker.{PatchWorker}
+use Rattle.ken_work.specs.declared.patcher.PatchWorker.{PatchWorker}
 use Rattle.ken_node.specs.declared.stage.Stage.TheVariants.{Created}
-use Rattle.ken_node.specs.declared.took.Took.{Took}
-use Rattle.ken_node.specs.declared.took.Took.TheVariants.{Turn, Idle, Capped}
-use Rattle.ken_node.specs.declared.worker.TurnWorker.{TurnWorker}
-use Rattle.ken_node.specs.Calls.{IsTurnInDoubt, IsTurnoverInDoubt, TakesTurn}
-use Rattle.ken_node.specs.Capped.{IsCapped}
-use Rattle.ken_node.specs.Capped as caps
-use Rattle.ken_node.specs.Created.{owner_of}
+use Rattle.ken_work.specs.declared.took.Took.{Took}
+use Rattle.ken_work.specs.declared.took.Took.TheVariants.{Turn, Idle, Capped}
+use Rattle.ken_work.specs.declared.worker.TurnWorker.{TurnWorker}
+use Rattle.ken_work.specs.Calls.{IsTurnInDoubt, IsTurnoverInDoubt, TakesTurn, Drew}
+use Rattle.ken_work.specs.Capped.{IsCapped}
+use Rattle.ken_work.specs.Capped as caps
+use Rattle.ken_whole.specs.New.{owner_of}
 use Rattle.ken_node.specs.Down.{AreTold, Finds, IsDown, MountedLog}
 use Rattle.ken_node.specs.DownLaws.{SealIsDown, TurnoverIsDown}
-use Rattle.ken_node.specs.Meeting.{AreFronts}
+use Rattle.ken_work.specs.Meeting.{AreFronts}
 use Rattle.ken_node.specs.NodeCalls.{UnlessMemory}
-use Rattle.ken_node.specs.Sealing.{RenewsBy, coming_pages, is_full}
+use Rattle.ken_work.specs.Sealing.{RenewsBy, coming_pages, is_full}
 use Rattle.ken_node.specs.Synced.{HasSynced, LeavesSynced}
-use Rattle.ken_node.specs.TurnLaws.{DoubtsTurnover, Drew, told_of}
-use Rattle.ken_node.specs.Whole.{IsWhole}
-use Rattle.ken_node.specs.Workers.{HearsNews, IsSameWorker}
+use Rattle.ken_whole.specs.TurnLaws.{DoubtsTurnover, told_of}
+use Rattle.ken_whole.specs.Whole.{IsWhole}
+use Rattle.ken_work.specs.Workers.{HearsNews, IsSameWorker}
 use Rattle.ken_node.proofs.GoesDown.{owner-is, whole_goes_down}
 use Rattle.ken_node.proofs.Synced.{WorkedAt, begun-work, calm-turns, doubted-work, has-synced, landed-changed, landed-work, leaves-by, leaves-synced, renewed-work, same-turns, seal-turns, sealed-work, turnover-turns, unsealed-work, worked-from, worked-less, worked-to}
 use Rattle.ken_node.proofs.TurnDisks.{disk-failed, turn-told}
 use Rattle.ken_node.proofs.TurnDown.{turn_goes_down}
 use Rattle.ken_node.proofs.TurnoverDown.{turnover_goes_down}
-use Rattle.ken_node.proofs.TurnoversWhole.{may-turn}
-use Rattle.ken_node.proofs.TurnsWhole.{heard-whole, turn_keeps_whole}
+use Rattle.ken_whole.proofs.TurnoversWhole.{may-turn}
+use Rattle.ken_whole.proofs.TurnsWhole.{heard-whole, turn_keeps_whole}
 use Rattle.ken_node.proofs.Up.{AreUp}
 
 -- a turnover keeps the owner

@@ -40,20 +40,20 @@ use Rattle.ken_store.proofs.Sealing.{told_before}
 use Rattle.ken_store.proofs.Turned.{next_numbers, turned_state}
 use Rattle.ken_ship.specs.declared.worker.SendWorker.{SendWorker}
 use Rattle.ken_ship.specs.Laws.{IsStateOf}
-use Rattle.ken_node.specs.declared.patcher.PatchWorker.{PatchWorker}
+use Rattle.ken_work.specs.declared.patcher.PatchWorker.{PatchWorker}
 use Rattle.ken_node.specs.declared.stage.Stage.TheVariants.{Created}
-use Rattle.ken_node.specs.declared.worker.TurnWorker.{TurnWorker}
-use Rattle.ken_node.specs.Capped.{base_in}
-use Rattle.ken_node.specs.Created.{owner_of}
+use Rattle.ken_work.specs.declared.worker.TurnWorker.{TurnWorker}
+use Rattle.ken_work.specs.Capped.{base_in}
+use Rattle.ken_whole.specs.New.{owner_of}
 use Rattle.ken_node.specs.Down.{AreTold, IsDown, IsSound, MountedLog, TellsNode}
 use Rattle.ken_node.specs.DownLaws.{TurnoverGoesDown}
-use Rattle.ken_node.specs.Sealing.{RenewsBy, TurnsOver, is_full}
-use Rattle.ken_node.specs.TurnLaws.{told_of}
-use Rattle.ken_node.specs.Whole.{IsWhole}
+use Rattle.ken_work.specs.Sealing.{RenewsBy, TurnsOver, is_full}
+use Rattle.ken_whole.specs.TurnLaws.{told_of}
+use Rattle.ken_whole.specs.Whole.{IsWhole}
 use Rattle.ken_node.proofs.GoesDown.{FoundLog, LeavesLogs, comes, finds-current, finds-other, found-over, is-down, leaves-by, log-of, owner-is, possible-now}
-use Rattle.ken_node.proofs.Paced.{paced-next}
-use Rattle.ken_node.proofs.PatchesWhole.{covers-node}
-use Rattle.ken_node.proofs.TurnoversWhole.{joined-side, of-run-side, raised-long, sent-turned, state-turned, turned}
+use Rattle.ken_whole.proofs.Paced.{paced-next}
+use Rattle.ken_whole.proofs.PatchesWhole.{covers-node}
+use Rattle.ken_whole.proofs.TurnoversWhole.{joined-side, of-run-side, raised-long, sent-turned, state-turned, turned}
 use Rattle.ken_store.proofs.Mounted.{front_none, front_whole}
 
 -- the pages of a base, each counted as changed by the base's last turn
@@ -136,9 +136,6 @@ module _ {D : Type 0} (told : D → Option Story) (size : D → ℕ) (g : Game) 
 
     abbrev ReplacesFrom : Story → Story → Type 0
     ReplacesFrom h x = Replaces {T = Unit {0}} (mounts.Whole head (Some base) []) (Err seals.Disk) h x
-
-    which-new : new.which ≡ t.side.which
-    which-new = over.unturned.which
 
     either-left : (l o i : Story) → told new.log.disk ≡ Some l → told new.other ≡ Some o → told p.side.image.disk ≡ Some i → (log image other : List ℕ) → IsImage l.now log → IsImage i.now image → IsImage o.now other
         → FoundLog g v given n doubt (log_on new.which log other) image (log_on new.which other log)

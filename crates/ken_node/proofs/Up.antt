@@ -17,17 +17,17 @@ use Rattle.ken_store.specs.Creations.{HasFailed, IsUnfailed}
 use Rattle.ken_ship.specs.declared.worker.SendWorker.{SendWorker}
 use Rattle.ken_ship.specs.Parts.{Part, part_of}
 use Rattle.ken_ship.specs.Parts.{IsSameWorker as IsSameSender}
-use Rattle.ken_node.specs.declared.patcher.PatchWorker.{PatchWorker}
+use Rattle.ken_work.specs.declared.patcher.PatchWorker.{PatchWorker}
 use Rattle.ken_node.specs.declared.stage.Stage.{Stage}
 use Rattle.ken_node.specs.declared.stage.Stage.TheVariants.{Uncreated, Created, Moved}
-use Rattle.ken_node.specs.declared.worker.TurnWorker.{TurnWorker}
+use Rattle.ken_work.specs.declared.worker.TurnWorker.{TurnWorker}
 use Rattle.ken_node.specs.Down.{AreTold}
-use Rattle.ken_node.specs.Meeting.{AreEmpty, AreFronts, AreJoined, HaveMet}
+use Rattle.ken_work.specs.Meeting.{AreEmpty, AreFronts, AreJoined, HaveMet}
 use Rattle.ken_node.specs.Restarts.{AreUnfailed, OneHasFailed}
 use Rattle.ken_node.specs.Stages.{HasDisks}
 use Rattle.ken_node.specs.Up.{IsUp}
-use Rattle.ken_node.specs.Whole.{IsWhole}
-use Rattle.ken_node.proofs.MeetingWhole.{meeting_keeps_whole}
+use Rattle.ken_whole.specs.Whole.{IsWhole}
+use Rattle.ken_whole.proofs.MeetingWhole.{meeting_keeps_whole}
 
 -- ---- the disks of a node
 
@@ -123,14 +123,3 @@ module _ {D : Type 0} (told : D → Option Story) (size : D → ℕ) where
       empty = empty;
       tell = subst (AreTold told) (sym met-disks) tell;
     }
-
-    -- and has emitted the same
-    pub met-emissions : (part_of s2).emissions ≡ (part_of s).emissions
-    met-emissions = ap (λ (x : Part). x.emissions) met.rest
-
--- what is said of the disks of workers is said of the disks of a stage
-pub disks-in : {D : Type 0} (P : Disks D → Disks D → Type 0) (stage : Stage D) (t t2 : TurnWorker D) (p p2 : PatchWorker D) (s : SendWorker) → stage ≡ Created t p s → P (disks_apart t.side p.side) (disks_apart t2.side p2.side)
-    → (old new : Disks D) → HasDisks old stage → new ≡ disks_apart t2.side p2.side → P old new
-disks-in {D} P stage t t2 p p2 s is holds old new has now =
-    let was : old ≡ disks_apart t.side p.side = subst (HasDisks old) is has in
-    subst (λ (d : Disks D). P d new) (sym was) (subst (P (disks_apart t.side p.side)) (sym now) holds)

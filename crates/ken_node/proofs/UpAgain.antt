@@ -52,20 +52,21 @@ use Rattle.ken_store.proofs.Recovering.{seen_on}
 use Rattle.ken_ship.specs.declared.worker.SendWorker.{SendWorker}
 use Rattle.ken_ship.specs.Laws.{HasSent, IsDueOf, IsStateOf}
 use Rattle.ken_ship.proofs.Resumed.{resumed_is_due}
-use Rattle.ken_node.specs.declared.items.Feedback.{Feedback}
-use Rattle.ken_node.specs.declared.patcher.PatchWorker.{PatchWorker}
-use Rattle.ken_node.specs.declared.worker.TurnWorker.{TurnWorker}
-use Rattle.ken_node.specs.Created.{owner_of}
+use Rattle.ken_work.specs.declared.items.Feedback.{Feedback}
+use Rattle.ken_work.specs.declared.patcher.PatchWorker.{PatchWorker}
+use Rattle.ken_work.specs.declared.worker.TurnWorker.{TurnWorker}
+use Rattle.ken_whole.specs.New.{owner_of}
 use Rattle.ken_node.specs.Down.{Left, MountedLog}
-use Rattle.ken_node.specs.Meeting.{IsEmptied}
-use Rattle.ken_node.specs.Paced.{IsPaced}
-use Rattle.ken_node.specs.Restarts.{AreOfRestart, GoOnFrom, kept_turns}
-use Rattle.ken_node.specs.Whole.{AreNumbersOf, HasReached, IsSettledAt, IsWhole, WereTold}
+use Rattle.ken_work.specs.Meeting.{IsEmptied}
+use Rattle.ken_whole.specs.Paced.{IsPaced}
+use Rattle.ken_node.specs.Restarts.{AreOfRestart, GoOnFrom}
+use Rattle.ken_work.specs.Parts.{kept_turns}
+use Rattle.ken_whole.specs.Whole.{AreNumbersOf, HasReached, IsSettledAt, IsWhole, WereTold}
 use Rattle.ken_app.specs.Limits.{ComesTo}
-use Rattle.ken_node.specs.Workers.{Working, progress_told, turn_settled}
+use Rattle.ken_work.specs.Workers.{Working, progress_told, turn_settled}
 use Rattle.ken_node.proofs.Creation.{size_is}
 use Rattle.ken_node.proofs.FoundAgain.{HasLog, log-is-found, whole-has-log}
-use Rattle.ken_node.proofs.NewWhole.{zero-at}
+use Rattle.ken_whole.proofs.NewWhole.{zero-at}
 use Rattle.ken_node.proofs.RestartEvents.{restart-call, turns-kept}
 
 -- ---- pages that are recovered

@@ -6,12 +6,12 @@ use Rattle.ken_core.specs.Nodes.{Node}
 use Rattle.ken_ship.specs.declared.worker.SendWorker.{SendWorker}
 use Rattle.ken_ship.specs.Parts.{part_of}
 use Rattle.ken_ship.proofs.Handed.{with_turns_emitted}
-use Rattle.ken_node.specs.declared.patcher.PatchWorker.{PatchWorker}
+use Rattle.ken_work.specs.declared.patcher.PatchWorker.{PatchWorker}
 use Rattle.ken_node.specs.declared.stage.Stage.{Stage}
 use Rattle.ken_node.specs.declared.stage.Stage.TheVariants.{Created}
-use Rattle.ken_node.specs.declared.worker.TurnWorker.{TurnWorker}
+use Rattle.ken_work.specs.declared.worker.TurnWorker.{TurnWorker}
 use Rattle.ken_node.specs.Up.{IsUp}
-use Rattle.ken_node.specs.Whole.{AreNumbersOf, IsWhole}
+use Rattle.ken_whole.specs.Whole.{AreNumbersOf, IsWhole}
 use Rattle.ken_node.proofs.Up.{are-up}
 
 module _ {D : Type 0} (told : D → Option Story) (size : D → ℕ) (g : Game) (v : ℕ) (n : Node) (stage : Stage D) (t : TurnWorker D) (p : PatchWorker D) (s : SendWorker) (is : stage ≡ Created t p s) (up : IsUp told size g v n stage) where
@@ -20,6 +20,3 @@ module _ {D : Type 0} (told : D → Option Story) (size : D → ℕ) (g : Game) 
 
   pub up_numbers : AreNumbersOf v n.turning.turns t.side.numbers
   up_numbers = up_whole.workers.turns.counted
-
-  pub up_emitted : (part_of s).due.emitted ≡ n.sending.emitted
-  up_emitted = let sends = up_whole.workers.sends in sym (with_turns_emitted v sends.queue (part_of s).due) ∙ sends.due.emitted

@@ -24,12 +24,13 @@ use Rattle.ken_store.specs.Reads.{AreSame}
 use Rattle.ken_store.specs.Recovered.{Whole, recovered}
 use Rattle.ken_store.specs.Standing.{IsReadyStore}
 use Rattle.ken_ship.specs.declared.faults.NodeFault.{NodeFault}
-use Rattle.ken_node.specs.declared.parts.Parts.{Parts}
+use Rattle.ken_work.specs.declared.parts.Parts.{Parts}
 use Rattle.ken_node.specs.declared.stage.Stage.{Stage}
 use Rattle.ken_node.specs.declared.stage.Stage.TheVariants.{Uncreated}
 use Rattle.ken_node.specs.Down.{AreTold, IsDown}
-use Rattle.ken_node.specs.First.{AreFirst, IsNewRing}
-use Rattle.ken_node.specs.Restarting.{AreUnchanged, GoesOn, IsPutBack}
+use Rattle.ken_work.specs.First.{AreFirst, IsNewRing}
+use Rattle.ken_work.specs.Parts.{AreUnchanged}
+use Rattle.ken_node.specs.Restarting.{GoesOn, IsPutBack}
 use Rattle.ken_node.specs.Restarts.{IsUpAgain}
 use Rattle.ken_node.proofs.GoesOn.{same-ready}
 use Rattle.ken_node.proofs.Recovered.{left-now, owner-ready, owner_in, read-less, tell-now}

@@ -18,7 +18,7 @@ use Rattle.ken_ship.specs.declared.faults.NodeFault.{NodeFault}
 use Rattle.ken_ship.specs.declared.outlet.Outlet as outlet
 use Rattle.ken_ship.specs.Outlets.{also_took}
 use Rattle.ken_node.specs.declared.stage.Stage.{Stage}
-use Rattle.ken_node.specs.declared.took.Took.{Took}
+use Rattle.ken_work.specs.declared.took.Took.{Took}
 use Rattle.ken_node.specs.declared.watched.Watched.{Watched}
 use Rattle.ken_node.specs.Down.{IsDown}
 use Rattle.ken_node.specs.NodeCalls.{DisksFailBy, EmitStepsBy, HearSteps, PatchStepsBy, SendSteps, SettleStepsBy, UnlessMemory}
@@ -26,7 +26,7 @@ use Rattle.ken_node.specs.NodeTurns.{TurnStepsBy}
 use Rattle.ken_node.specs.Restarts.{IsUpAgain, RestartsBy, pick_of}
 use Rattle.ken_node.specs.Stages.{HasDisks}
 use Rattle.ken_node.specs.Synced.{IsSynced, LeavesSynced}
-use Rattle.ken_node.specs.TurnLaws.{Drew}
+use Rattle.ken_work.specs.Calls.{Drew}
 use Rattle.ken_node.specs.Up.{IsUp}
 
 -- ---- calls of a node that was up, whichever of a run it was, by their answers

@@ -34,17 +34,18 @@ use Rattle.ken_store.specs.Logs.{is_owned, log_on, other_log, front_of}
 use Rattle.ken_store.specs.Recovered.{numbers_of, state_of}
 use Rattle.ken_store.specs.Turning.{live_layers, IsPassed}
 use Rattle.ken_ship.specs.Laws.{HasSent, IsStateOf}
-use Rattle.ken_node.specs.declared.parts.Parts.{Parts}
+use Rattle.ken_work.specs.declared.parts.Parts.{Parts}
 use Rattle.ken_node.specs.declared.stage.Stage.{Stage}
 use Rattle.ken_node.specs.declared.stage.Stage.TheVariants.{Uncreated, Created, Moved}
-use Rattle.ken_node.specs.Created.{owner_of}
-use Rattle.ken_node.specs.First.{AreFirst}
-use Rattle.ken_node.specs.Meeting.{AreJoined, IsEmptied}
-use Rattle.ken_node.specs.News.{AreInputs}
-use Rattle.ken_node.specs.Paced.{IsPaced}
+use Rattle.ken_whole.specs.New.{owner_of}
+use Rattle.ken_work.specs.First.{AreFirst}
+use Rattle.ken_work.specs.Meeting.{AreJoined, IsEmptied}
+use Rattle.ken_work.specs.News.{AreInputs}
+use Rattle.ken_whole.specs.Paced.{IsPaced}
 use Rattle.ken_node.specs.Stages.{HasDisks, turns_in}
-use Rattle.ken_node.specs.Whole.{AreNumbersOf, AreOfRun}
+use Rattle.ken_whole.specs.Whole.{AreNumbersOf, AreOfRun}
 use Rattle.ken_app.specs.Limits.{ComesTo}
+use Rattle.ken_work.specs.Parts.{effects_in}
 
 -- ---- what the logs of a node hold
 
@@ -98,10 +99,6 @@ abbrev pub ComesOut : Game → ℕ → List Packet → Node → Doubt → Bool �
 ComesOut g v given n no_doubt landed m = m ≡ n
 ComesOut g v given n (seal from draws pages) landed m = (t : Turn) × (MaySeal g (Contains given) v n from draws pages t × (m ≡ sealed_if landed v t pages n))
 ComesOut g v given n (turnover told) landed m = MayTurn g n told × (m ≡ turned_if landed (heap_pages g) told n)
-
--- what a node keeps of the turn of a record
-abbrev pub effects_in : Record → Effects
-effects_in r = record { from = r.from; number = r.number; stamp = r.stamp; draws = r.draws; sends = r.sends; outs = r.outs }
 
 -- a turn that landed is the log's last record
 abbrev pub HasLanded : Doubt → Bool → Node → Node → List Record → Type 0

@@ -16,18 +16,18 @@ use Rattle.ken_ship.specs.declared.faults.NodeFault.TheVariants.{Disk}
 use Rattle.ken_ship.specs.declared.worker.SendWorker.{SendWorker}
 use Rattle.ken_ship.specs.Laws.{packets_from}
 use Rattle.ken_ship.specs.Parts.{IsSameWorker as IsSameSender}
-use Rattle.ken_node.specs.declared.patcher.PatchWorker.{PatchWorker}
+use Rattle.ken_work.specs.declared.patcher.PatchWorker.{PatchWorker}
 use Rattle.ken_node.specs.declared.stage.Stage.{Stage}
 use Rattle.ken_node.specs.declared.stage.Stage.TheVariants.{Created}
-use Rattle.ken_node.specs.declared.worker.TurnWorker.{TurnWorker}
-use Rattle.ken_node.specs.Calls.{IsTurnoverInDoubt, TakesTurn}
+use Rattle.ken_work.specs.declared.worker.TurnWorker.{TurnWorker}
+use Rattle.ken_work.specs.Calls.{IsTurnoverInDoubt, TakesTurn, Drew}
 use Rattle.ken_node.specs.Created.{IsCreation}
 use Rattle.ken_node.specs.Down.{AreTold, IsDown}
-use Rattle.ken_node.specs.Meeting.{AreFronts, AreJoined, HaveMet}
-use Rattle.ken_node.specs.Sealing.{coming_pages}
-use Rattle.ken_node.specs.TurnLaws.{DoubtsSeal, DoubtsTurnover, Drew, told_of}
-use Rattle.ken_node.specs.Whole.{IsWhole}
-use Rattle.ken_node.specs.Workers.{HearsNews, IsSameWorker}
+use Rattle.ken_work.specs.Meeting.{AreFronts, AreJoined, HaveMet}
+use Rattle.ken_work.specs.Sealing.{coming_pages}
+use Rattle.ken_whole.specs.TurnLaws.{DoubtsSeal, DoubtsTurnover, told_of}
+use Rattle.ken_whole.specs.Whole.{IsWhole}
+use Rattle.ken_work.specs.Workers.{HearsNews, IsSameWorker}
 
 module _ {D : Type 0} (told : D → Option Story) (size : D → ℕ) where
   -- a node that is up, with nothing in doubt

@@ -21,13 +21,13 @@ use Rattle.ken_ship.specs.declared.faults.NodeFault.TheVariants.{Disk, Damaged, 
 use Rattle.ken_ship.specs.declared.hearing.TheConstants.{MOST_TAKEN}
 use Rattle.ken_ship.specs.Laws.{packet_from, packets_from}
 use Rattle.ken_node.specs.declared.stage.Stage.{Stage}
-use Rattle.ken_node.specs.declared.took.Took.{Took}
-use Rattle.ken_node.specs.declared.took.Took.TheVariants.{Turn, Idle, Capped}
-use Rattle.ken_node.specs.declared.worker.TurnWorker.{TurnWorker}
-use Rattle.ken_node.specs.Capped.{IsCapped}
+use Rattle.ken_work.specs.declared.took.Took.{Took}
+use Rattle.ken_work.specs.declared.took.Took.TheVariants.{Turn, Idle, Capped}
+use Rattle.ken_work.specs.declared.worker.TurnWorker.{TurnWorker}
+use Rattle.ken_work.specs.Capped.{IsCapped}
 use Rattle.ken_node.specs.NodeCalls.{GoesDown, Steps}
-use Rattle.ken_node.specs.Sealing.{is_full}
-use Rattle.ken_node.specs.Workers.{HearsNews}
+use Rattle.ken_work.specs.Sealing.{is_full}
+use Rattle.ken_work.specs.Workers.{HearsNews}
 
 -- a packet that node v, which is n now, can't take as its next mail: a mail to it that isn't the one after those that it has
 -- consumed of its sender, or whose stamp has used up half of its range

@@ -13,30 +13,16 @@ use Rattle.ken_ship.specs.declared.faults.NodeFault.{NodeFault}
 use Rattle.ken_ship.specs.declared.faults.NodeFault.TheVariants.{Disk, Damaged, Outlet, Memory}
 use Rattle.ken_ship.specs.declared.worker.SendWorker.{SendWorker}
 use Rattle.ken_ship.specs.Parts.{part_of}
-use Rattle.ken_node.specs.declared.parts.Parts.{Parts}
-use Rattle.ken_node.specs.declared.patcher.PatchWorker.{PatchWorker}
+use Rattle.ken_work.specs.declared.parts.Parts.{Parts}
+use Rattle.ken_work.specs.declared.patcher.PatchWorker.{PatchWorker}
 use Rattle.ken_node.specs.declared.stage.Stage.{Stage}
 use Rattle.ken_node.specs.declared.stage.Stage.TheVariants.{Uncreated, Created}
-use Rattle.ken_node.specs.declared.worker.TurnWorker.{TurnWorker}
+use Rattle.ken_work.specs.declared.worker.TurnWorker.{TurnWorker}
 use Rattle.ken_node.specs.Created.{IsCreation}
-use Rattle.ken_node.specs.Restarts.{AreUnfailed, GoOnFrom, OneHasFailed, kept_turns}
+use Rattle.ken_node.specs.Restarts.{AreUnfailed, GoOnFrom, OneHasFailed}
+use Rattle.ken_work.specs.Parts.{kept_turns, AreUnchanged}
 
 -- ---- a node is taken apart
-
--- a handler, a patcher and an externaliser are made of these, and of a store
-pub record ArePartsOf {D : Type 0} (t : TurnWorker D) (p : PatchWorker D) (s : SendWorker) (x : Parts) : Type 0 where
-  pub node : x.node ≡ t.node
-  pub nodes : x.nodes ≡ t.nodes
-  pub size : x.size ≡ t.side.owner.pages
-  pub cap : x.cap ≡ t.cap
-  pub inputs : x.inputs.items ≡ t.inputs.items
-  pub turns : x.turns.items ≡ t.turns.items
-  pub news : (vec_capacity x.news ≡ vec_capacity t.news) × (vec_len x.news ≡ vec_len t.news)
-  pub pages : x.pages ≡ (t.pages, p.pages)
-  pub settled : x.settled ≡ (p.settled, t.settled)
-  pub sealed : x.sealed ≡ t.sealed
-  pub progress : x.progress ≡ t.progress
-  pub sends : x.sends ≡ s
 
 -- the node taken apart, or left as it is
 abbrev pub stage_of : {D : Type 0} → Result (Disks D × Parts) (Stage D) → Stage D
@@ -83,32 +69,6 @@ pub record IsCreatedAnew {D : Type 0} (told : D → Option Story) (size count : 
   pub creation : IsCreation told size count fate g v answer old stage
 
 -- ---- its workers go on from a recovered state
-
--- with one turn more, where there is one
-abbrev pub with_turn : List Effects → Option Effects → List Effects
-with_turn turns (Some e) = turns ++ e ∷ []
-with_turn turns None = turns
-
--- only the turns and what waits at the externaliser may have changed
-pub record IsSameParts (old new : Parts) : Type 0 where
-  pub rest : new ≡ record old { turns = new.turns; sends = new.sends }
-  pub sender : new.sends.backlog.node ≡ old.sends.backlog.node
-  pub receivers : new.sends.nodes ≡ old.sends.nodes
-  pub sealed : new.sends.sealed ≡ old.sends.sealed
-  pub told : new.sends.told ≡ old.sends.told
-  pub emissions : (part_of new.sends).emissions ≡ (part_of old.sends).emissions
-
--- neither did, though there may be more room
-pub record AreUnchanged (old new : Parts) : Type 0 where
-  pub same : IsSameParts old new
-  pub turns : new.turns.items ≡ old.turns.items
-  pub part : part_of new.sends ≡ part_of old.sends
-
--- they are what a state and the records of its log tell
-pub record HaveResumed (state : State) (records : List Record) (old new : Parts) : Type 0 where
-  pub turns : new.turns.items ≡ kept_turns old.turns.items state.turns records
-  pub due : (part_of new.sends).due ≡ resumed 8 state
-  pub handed : (part_of new.sends).handed ≡ state.turns
 
 -- the node is created, and its workers go on
 pub record GoesOn {D : Type 0} (g : Game) (v : ℕ) (turns : List Effects) (store : Store D) (state : State) (records : List Record) (stage : Stage D) : Type 0 where

@@ -21,26 +21,20 @@ use Rattle.ken_ship.specs.declared.faults.NodeFault.{NodeFault}
 use Rattle.ken_ship.specs.declared.faults.NodeFault.TheVariants.{Disk, Damaged, Outlet, Memory}
 use Rattle.ken_ship.specs.declared.worker.SendWorker.{SendWorker}
 use Rattle.ken_ship.specs.Parts.{part_of}
-use Rattle.ken_node.specs.declared.patcher.PatchWorker.{PatchWorker}
+use Rattle.ken_work.specs.declared.patcher.PatchWorker.{PatchWorker}
 use Rattle.ken_node.specs.declared.stage.Stage.{Stage}
 use Rattle.ken_node.specs.declared.stage.Stage.TheVariants.{Created}
 use Rattle.ken_node.specs.declared.watched.Watched.{Watched}
-use Rattle.ken_node.specs.declared.worker.TurnWorker.{TurnWorker}
-use Rattle.ken_node.specs.Created.{nothing_told}
+use Rattle.ken_work.specs.declared.worker.TurnWorker.{TurnWorker}
+use Rattle.ken_work.specs.Parts.{nothing_told, kept_turns}
 use Rattle.ken_node.specs.Down.{AreTold}
-pub use Rattle.ken_node.specs.Down.{effects_in}
-use Rattle.ken_node.specs.Meeting.{AreEmpty, AreJoined}
-use Rattle.ken_node.specs.Whole.{IsWhole}
+use Rattle.ken_work.specs.Meeting.{AreEmpty, AreJoined}
+use Rattle.ken_whole.specs.Whole.{IsWhole}
 
 -- the events of a restart of node v, which stood for n: what was in doubt, the crash and the recovery. Where there was no log the node
 -- is created anew, which is no event
 abbrev pub AreOfRestart : Game → ℕ → Node → Doubt → List Event → Type 0
 AreOfRestart g v n doubt es = IsRestart v doubt es ⊎ ((n ≡ first_node g) × (es ≡ []))
-
--- the turns of a node that goes on from a recovered state: those that it keeps, and the one of the last record where that was in
--- doubt and landed
-abbrev pub kept_turns : List Effects → ℕ → List Record → List Effects
-kept_turns turns count records = if nat_lt (length turns) count then turns ++ map effects_in (drop (length records - 1) records) else turns
 
 -- workers of node v that go on over a store that was recovered, with nothing on its way in the rings
 pub record GoOnFrom {D : Type 0} (g : Game) (v : ℕ) (turns : List Effects) (store : Store D) (state : State) (records : List Record) (t : TurnWorker D) (p : PatchWorker D) (s : SendWorker) : Type 0 where

@@ -9,7 +9,7 @@ use Rattle.ken_store.specs.declared.numbers.Numbers.{Numbers}
 use Rattle.ken_store.specs.Recovered.{numbers_of}
 use Rattle.ken_store.specs.Work.{HaveWorked}
 use Rattle.ken_node.specs.declared.stage.Stage.{Stage}
-use Rattle.ken_node.specs.Created.{owner_of}
+use Rattle.ken_whole.specs.New.{owner_of}
 use Rattle.ken_node.specs.Down.{Finds, MountedLog}
 use Rattle.ken_node.specs.Stages.{HasDisks}
 use Rattle.ken_node.specs.Up.{IsUp}

@@ -7,13 +7,13 @@ use Rattle.ken_model.specs.Limits.{IsWithinLimits}
 use Rattle.ken_core.specs.Nodes.{Node}
 use Rattle.ken_store.specs.Apart.{disks_apart}
 use Rattle.ken_ship.specs.declared.worker.SendWorker.{SendWorker}
-use Rattle.ken_node.specs.declared.patcher.PatchWorker.{PatchWorker}
+use Rattle.ken_work.specs.declared.patcher.PatchWorker.{PatchWorker}
 use Rattle.ken_node.specs.declared.stage.Stage.{Stage}
 use Rattle.ken_node.specs.declared.stage.Stage.TheVariants.{Created}
-use Rattle.ken_node.specs.declared.worker.TurnWorker.{TurnWorker}
+use Rattle.ken_work.specs.declared.worker.TurnWorker.{TurnWorker}
 use Rattle.ken_node.specs.Down.{AreTold}
-use Rattle.ken_node.specs.Meeting.{AreEmpty}
-use Rattle.ken_node.specs.Whole.{IsWhole}
+use Rattle.ken_work.specs.Meeting.{AreEmpty}
+use Rattle.ken_whole.specs.Whole.{IsWhole}
 use Rattle.ken_app.specs.Limits.{KeepsLimits}
 
 module _ {D : Type 0} (told : D → Option Story) (size : D → ℕ) where

@@ -2,16 +2,14 @@
 ghost use Rattle.std.specs.Prelude.{◌≡◌};
 ghost use Rattle.ken_node.specs.declared.stage.Stage.TheVariants.{Moved};
 
-use crate::parts::Parts;
-use crate::patcher::PatchWorker;
 use crate::stage::Stage;
 use crate::watched::Watched;
-use crate::worker::TurnWorker;
 use ken_disk::Disk;
 use ken_model::{Emission, Facts, Value};
 use ken_record::Effects;
 use ken_ship::{NodeFault, SendWorker};
-use ken_store::{Disks, Store};
+use ken_store::Disks;
+use ken_work::{Parts, PatchWorker, TurnWorker};
 use std::alloc::{AllocError, Global};
 use std::mem;
 
@@ -28,7 +26,7 @@ impl<D: Disk> Node<D> {
     ghost use Rattle.ken_model.specs.Limits.{IsWithinLimits};
     ghost use Rattle.ken_node.specs.Created.{IsCreation};
     ghost use Rattle.ken_node.specs.Down.{AreTold};
-    ghost use Rattle.ken_node.specs.Faults.{IsFaultOfWorker};
+    ghost use Rattle.ken_work.specs.Faults.{IsFaultOfWorker};
     ghost use Rattle.ken_node.specs.Clauses.{ComesUp, KeepsSynced, RestartsDisks, StaysDown};
     ghost use Rattle.ken_node.specs.Stages.{HasDisks, HasValue, IsCreated, IsUncreated, MayBeCreated, emissions_in, turns_in};
     ghost use Rattle.ken_node.specs.Synced.{IsSynced};
@@ -98,7 +96,7 @@ impl<D: Disk> Node<D> {
         let Node { stage } = self;
         match stage {
             Stage::Uncreated(disks, _) => disks,
-            Stage::Created(turns, patches, _) => Store::join(turns.side, patches.side).release(),
+            Stage::Created(turns, patches, sends) => Parts::of(turns, patches, sends).0,
             Stage::Moved => unreachable!(),
         }
     }
@@ -131,7 +129,7 @@ impl<D: Disk> Node<D> {
         ensures { IfOk result (λ value. HasValue value self.now.stage) }
     {
         match &self.stage {
-            Stage::Created(turns, _, _) => turns.side.value(alloc),
+            Stage::Created(turns, _, _) => turns.side().value(alloc),
             Stage::Uncreated(..) | Stage::Moved => unreachable!(),
         }
     }
@@ -141,7 +139,7 @@ impl<D: Disk> Node<Watched<D>> {
     ghost use Rattle.std.specs.Prelude.{◌≡◌, ◌≤◌};
     ghost use Rattle.ken_node.specs.Clauses.{ComesUp, KeepsSynced, RestartsDisks, StaysDown};
     ghost use Rattle.ken_node.specs.Down.{MayRestart};
-    ghost use Rattle.ken_node.specs.Faults.{IsFaultOfWorker};
+    ghost use Rattle.ken_work.specs.Faults.{IsFaultOfWorker};
     ghost use Rattle.ken_node.specs.Stages.{emissions_in, refusals_in};
 
     /// Restarts the node: its workers meet, all its disks are restarted, and the node goes on with what they hold then. It

@@ -13,28 +13,24 @@ ghost use Rattle.ken_node.specs.Clauses.{ComesUp, KeepsDisksSynced, KeepsSynced,
 ghost use Rattle.ken_ship.specs.Fits.{IsMailFrom};
 ghost use Rattle.ken_ship.specs.Parts.{part_of};
 ghost use Rattle.ken_node.specs.Down.{AreReady, AreTold, IsDown, IsOfNode, MayRestart};
-ghost use Rattle.ken_node.specs.Faults.{IsFaultOfWorker};
-ghost use Rattle.ken_node.specs.Meeting.{AreJoined};
-ghost use Rattle.ken_node.specs.News.{AreInputs};
+ghost use Rattle.ken_work.specs.Faults.{IsFaultOfWorker};
+ghost use Rattle.ken_work.specs.Meeting.{AreJoined};
+ghost use Rattle.ken_work.specs.News.{AreInputs};
 ghost use Rattle.ken_node.specs.Restarting.{GoesOn, HaveCounts, IsCreatedAnew, IsPutBack, LeaveLess, RecoversBy, none_made, stage_of};
 ghost use Rattle.ken_node.specs.Restarts.{RestartsBy, WereRestarted, pick_of};
 ghost use Rattle.ken_node.specs.Stages.{HasDisks, IsUncreated, MayBeCreated, emissions_in, refusals_in, turns_in};
 ghost use Rattle.ken_node.specs.Synced.{IsSynced, KeepSyncs};
-ghost use Rattle.ken_node.specs.Whole.{AreOfRun};
+ghost use Rattle.ken_whole.specs.Whole.{AreOfRun};
 
-use crate::faults::answered;
-use crate::meeting::meet;
-use crate::parts::Parts;
-use crate::patcher::PatchWorker;
 use crate::stage::Stage;
 use crate::watched::Watched;
-use crate::worker::TurnWorker;
 use ken_disk::Disk;
 use ken_model::State;
 use ken_order::Order;
 use ken_record::Record;
 use ken_ship::{NodeFault, SendWorker};
 use ken_store::{Disks, Recovered, Store, recover};
+use ken_work::{Parts, PatchWorker, TurnWorker, answered, meet};
 use std::alloc::AllocError;
 
 // The pick that the lowest disk proposes which has failed since the last try of a restart, or 0.

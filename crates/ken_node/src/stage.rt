@@ -3,18 +3,15 @@ ghost use Rattle.std.specs.Prelude.{◌≡◌, ℕ};
 ghost use Rattle.ken_model.specs.Game.{Game};
 ghost use Rattle.ken_node.specs.Created.{IsCreation};
 ghost use Rattle.ken_node.specs.Down.{AreTold};
-ghost use Rattle.ken_node.specs.Faults.{IsFaultOfWorker};
+ghost use Rattle.ken_work.specs.Faults.{IsFaultOfWorker};
 ghost use Rattle.ken_node.specs.Stages.{IsUncreated, MayBeCreated};
 ghost use Rattle.ken_node.specs.Synced.{IsSynced};
 
-use crate::faults::answered;
-use crate::parts::Parts;
-use crate::patcher::PatchWorker;
-use crate::worker::TurnWorker;
 use ken_disk::Disk;
 use ken_order::Order;
 use ken_ship::{NodeFault, SendWorker};
 use ken_store::{Disks, create};
+use ken_work::{Parts, PatchWorker, TurnWorker, answered};
 
 #[derive(Drop)]
 pub(crate) enum Stage<D> {

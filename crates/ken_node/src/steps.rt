@@ -3,11 +3,11 @@
 use crate::node::Node;
 use crate::stage::Stage;
 use crate::together;
-use crate::took::Took;
 use ken_app::{App, Oracle};
 use ken_disk::Disk;
 use ken_net::Net;
 use ken_ship::{Emit, NodeFault, Outlet};
+use ken_work::Took;
 use std::alloc::AllocError;
 
 impl<D: Disk> Node<D> {

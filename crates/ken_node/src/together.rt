@@ -12,14 +12,11 @@ ghost use Rattle.ken_node.specs.Synced.{HasMadeSync, KeepsSyncs};
 ghost use Rattle.ken_node.specs.declared.stage.Stage.TheVariants.{Created};
 ghost use Rattle.ken_node.specs.Up.{MayBeCalled, MayBeCalledOn, MayTakeTurns};
 
-use crate::meeting::meet;
-use crate::patcher::PatchWorker;
-use crate::took::Took;
-use crate::worker::TurnWorker;
 use ken_app::{App, Oracle};
 use ken_disk::Disk;
 use ken_net::Net;
 use ken_ship::{Emit, NodeFault, Outlet, SendWorker};
+use ken_work::{PatchWorker, Took, TurnWorker, meet};
 use std::alloc::AllocError;
 
 // A page is written.

@@ -1,4 +1,4 @@
-use Rattle.ken_node.proofs.ShortKinds.{kinds_keep_limits}
+use Rattle.ken_whole.proofs.ShortKinds.{kinds_keep_limits}
 use Rattle.ken_drive.proofs.Texts.{kinds_keep_lines}
 use Rattle.ken_drive.proofs.laws.kinds_serve.Goals as goal
 

@@ -1,6 +1,6 @@
 use Rattle.std.proofs.Common.{refl, subst, sym}
-use Rattle.ken_node.specs.declared.parts.Parts.{Parts}
-use Rattle.ken_node.specs.News.{AreInputs}
+use Rattle.ken_work.specs.declared.parts.Parts.{Parts}
+use Rattle.ken_work.specs.News.{AreInputs}
 use Rattle.ken_node.proofs.GoesOn.{goes-on}
 use Rattle.ken_node.proofs.restarting.gone_on.Goals as goal
 

@@ -7,7 +7,7 @@ use Rattle.ken_store.specs.declared.store.Recovered.{Recovered}
 use Rattle.ken_store.specs.declared.store.Recovered.TheVariants as found
 use Rattle.ken_store.specs.Answers.{disks_in}
 use Rattle.ken_ship.specs.declared.faults.NodeFault.{NodeFault}
-use Rattle.ken_node.specs.Faults.{IsFaultOfWorker}
+use Rattle.ken_work.specs.Faults.{IsFaultOfWorker}
 use Rattle.ken_node.specs.Restarting.{GoesOn}
 use Rattle.ken_node.proofs.Fresh.{found-by, found-down, found-emissions, found-refusals, found-up, uncreated}
 use Rattle.ken_node.proofs.Recovered.{IsFound, on-err, read-less, recovers-sound, state-mails, tell-now}

@@ -6,14 +6,15 @@ use Rattle.ken_store.specs.declared.disks.Disks.{Disks}
 use Rattle.ken_store.specs.declared.faults.StoreFault.{StoreFault}
 use Rattle.ken_order.specs.Consumed.{Consumed}
 use Rattle.ken_ship.specs.declared.faults.NodeFault.{NodeFault}
-use Rattle.ken_node.specs.declared.parts.Parts.{Parts}
+use Rattle.ken_work.specs.declared.parts.Parts.{Parts}
 use Rattle.ken_node.specs.declared.stage.Stage.TheVariants.{Created, Uncreated}
-use Rattle.ken_node.specs.Created.{AreOver, IsCreation, first_order}
-use Rattle.ken_node.specs.Faults.{node_answer}
-use Rattle.ken_node.specs.First.{AreFirst}
-use Rattle.ken_node.specs.News.{AreInputs}
+use Rattle.ken_work.specs.Parts.{AreOver}
+use Rattle.ken_node.specs.Created.{IsCreation, first_order}
+use Rattle.ken_work.specs.Faults.{node_answer}
+use Rattle.ken_work.specs.First.{AreFirst}
+use Rattle.ken_work.specs.News.{AreInputs}
 use Rattle.ken_node.proofs.Creation.{created_ok, created_err}
-use Rattle.ken_node.proofs.InputsOf.{inputs_are}
+use Rattle.ken_whole.proofs.InputsOf.{inputs_are}
 use Rattle.ken_node.proofs.stage.Stage.created.Goals as goal
 
 pub create-requires-clause-none : goal.create-requires-clause-none

@@ -1,5 +1,0 @@
-use Rattle.ken_node.proofs.SendsWhole.{sends_keep_whole}
-use Rattle.ken_node.proofs.laws.sends_keep_the_whole.Goals as goal
-
-pub returns : goal.returns
-returns g c = sends_keep_whole g.D.Disk.told g.D.Disk.size g.N.Net.put_between

@@ -1,0 +1,12 @@
+pub mod Faults
+pub mod News
+pub mod Workers
+pub mod Capped
+pub mod Hearing
+pub mod Making
+pub mod Sealing
+pub mod Calls
+pub mod Patches
+pub mod Meeting
+pub mod First
+pub mod Parts
