@@ -20,7 +20,7 @@ impl<D: Disk> Node<D> {
         ensures { (g : Game) (v : ℕ) (n : core.Node) → IsUp D.told D.size g v n self.now.stage → result ≡ length (inputs_for g v) }
     {
         match &self.stage {
-            Stage::Created(turns, _, _) => turns.inputs().len() as u64,
+            Stage::Created(turns, _, _) => turns.inputs.len() as u64,
             Stage::Uncreated(..) | Stage::Moved => unreachable!(),
         }
     }
@@ -31,7 +31,7 @@ impl<D: Disk> Node<D> {
         ensures { (g : Game) (v : ℕ) (n : core.Node) → IsUp D.told D.size g v n self.now.stage → IsSender 8 from → result ≡ consumed_from from n.turning.turns }
     {
         match &self.stage {
-            Stage::Created(turns, _, _) => turns.side().consumed_from(from),
+            Stage::Created(turns, _, _) => turns.side.consumed_from(from),
             Stage::Uncreated(..) | Stage::Moved => unreachable!(),
         }
     }
@@ -43,7 +43,7 @@ impl<D: Disk> Node<D> {
         ensures { (g : Game) (v : ℕ) (n : core.Node) → IsUp D.told D.size g v n self.now.stage → result ≡ length (mails_to v to n.turning.turns) }
     {
         match &self.stage {
-            Stage::Created(turns, _, _) => turns.side().sent_to(to),
+            Stage::Created(turns, _, _) => turns.side.sent_to(to),
             Stage::Uncreated(..) | Stage::Moved => unreachable!(),
         }
     }
@@ -55,7 +55,7 @@ impl<D: Disk> Node<D> {
             → IsTrue result ↔ (last_of (emissions_in self.now.stage) < length (outs_of n.turning.turns)) }
     {
         match &self.stage {
-            Stage::Created(turns, _, sends) => sends.last_emitted() < turns.side().outputs(),
+            Stage::Created(turns, _, sends) => sends.last_emitted() < turns.side.outputs(),
             Stage::Uncreated(..) | Stage::Moved => unreachable!(),
         }
     }
@@ -66,7 +66,7 @@ impl<D: Disk> Node<D> {
         ensures { (g : Game) (v : ℕ) (n : core.Node) → IsUp D.told D.size g v n self.now.stage → IsTrue result ↔ (g.turns ≤ length n.turning.turns) }
     {
         match &self.stage {
-            Stage::Created(turns, _, _) => turns.cap() <= turns.side().turns(),
+            Stage::Created(turns, _, _) => turns.cap <= turns.side.turns(),
             Stage::Uncreated(..) | Stage::Moved => unreachable!(),
         }
     }

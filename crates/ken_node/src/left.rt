@@ -13,7 +13,7 @@ impl<D: Disk> Node<D> {
     {
         match &self.stage {
             Stage::Uncreated(_, parts) => parts.cap.saturating_sub(parts.turns.len() as u64),
-            Stage::Created(turns, _, _) => turns.cap().saturating_sub(turns.turns().len() as u64),
+            Stage::Created(turns, _, _) => turns.cap.saturating_sub(turns.turns().len() as u64),
             Stage::Moved => unreachable!(),
         }
     }

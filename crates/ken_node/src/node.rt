@@ -129,7 +129,7 @@ impl<D: Disk> Node<D> {
         ensures { IfOk result (λ value. HasValue value self.now.stage) }
     {
         match &self.stage {
-            Stage::Created(turns, _, _) => turns.side().value(alloc),
+            Stage::Created(turns, _, _) => turns.side.value(alloc),
             Stage::Uncreated(..) | Stage::Moved => unreachable!(),
         }
     }

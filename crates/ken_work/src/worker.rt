@@ -18,11 +18,12 @@ pub struct TurnWorker<D> {
     pub(crate) alloc: Global,
     pub(crate) node: u8,
     pub(crate) nodes: u8,
-    // The most turns.
-    pub(crate) cap: u64,
-    // The node's inputs, oldest first.
-    pub(crate) inputs: Vec<Message>,
-    pub(crate) side: TurnSide<D>,
+    /// The most turns.
+    pub cap: u64,
+    /// The node's inputs, oldest first.
+    pub inputs: Vec<Message>,
+    /// Its side of the store.
+    pub side: TurnSide<D>,
     // By which mail is judged.
     pub(crate) order: Order,
     // All sealed turns, oldest first.
@@ -80,27 +81,6 @@ impl<D> TurnWorker<D> {
         ensures { result.now ≡ self.now.turns.items }
     {
         self.turns.as_slice()
-    }
-
-    /// The most turns that the node makes.
-    pub fn cap(&self) -> u64
-        ensures { result ≡ self.now.cap }
-    {
-        self.cap
-    }
-
-    /// The node's inputs, oldest first.
-    pub fn inputs(&self) -> &[Message]
-        ensures { result.now ≡ self.now.inputs.items }
-    {
-        self.inputs.as_slice()
-    }
-
-    /// Its side of the store.
-    pub fn side(&self) -> &TurnSide<D>
-        ensures { result.now ≡ self.now.side }
-    {
-        &self.side
     }
 
     // Takes all that its externaliser told: then all slots of that ring are known to be free. Takes no memory.
