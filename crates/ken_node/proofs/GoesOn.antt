@@ -5,10 +5,6 @@ use Rattle.ken_model.specs.declared.states.State.{State}
 use Rattle.ken_record.specs.declared.record.Record.{Record}
 use Rattle.ken_order.specs.Consumed.{Consumed}
 use Rattle.ken_store.specs.declared.store.Store.{Store}
-use Rattle.ken_store.specs.Apart.{disks_apart}
-use Rattle.ken_store.specs.Answers.{disks_in}
-use Rattle.ken_store.specs.declared.patching.PatchSide.{PatchSide}
-use Rattle.ken_store.specs.declared.turning.TurnSide.{TurnSide}
 use Rattle.ken_ship.specs.declared.worker.SendWorker.{SendWorker}
 use Rattle.ken_ship.specs.Parts.{part_of}
 use Rattle.ken_work.specs.declared.parts.Parts.{Parts}

@@ -2,16 +2,13 @@
 use Rattle.std.proofs.Common.{◌≡◌, ℕ, List, inl, inr, ⊎_elim, refl, sym, subst, ◌∙◌, Option, Some, None, Result, Ok, Err}
 use Rattle.std.specs.Prelude.{IsSome}
 use Rattle.ken_disk.specs.Fates.{Fate}
-use Rattle.ken_disk.specs.Steps.{WentDown}
-use Rattle.ken_disk.specs.Story.{Story, Follows, IsImage, IsAtRest, Tells}
-use Rattle.ken_disk.proofs.Images.{came_up, image_at_rest}
-use Rattle.ken_disk.proofs.Told.{by_none, some_is, tells_after, weakened}
+use Rattle.ken_disk.specs.Story.{Story, IsImage}
+use Rattle.ken_disk.proofs.Told.{by_none, some_is}
 use Rattle.ken_model.specs.Game.{Game}
 use Rattle.ken_core.specs.Calls.{Doubt}
 use Rattle.ken_core.specs.Nodes.{Node}
 use Rattle.ken_core.specs.Packets.{Packet}
 use Rattle.ken_store.specs.declared.disks.Disks.{Disks}
-use Rattle.ken_store.specs.Answers.{AreAtRest}
 use Rattle.ken_ship.specs.declared.faults.NodeFault.{NodeFault}
 use Rattle.ken_ship.specs.declared.faults.NodeFault.TheVariants.{Disk, Damaged, Outlet, Memory}
 use Rattle.ken_work.specs.declared.parts.Parts.{Parts}

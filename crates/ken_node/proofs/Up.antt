@@ -15,7 +15,7 @@ use Rattle.ken_store.specs.Answers.{disks_from}
 use Rattle.ken_store.specs.Apart.{disks_apart}
 use Rattle.ken_store.specs.Creations.{HasFailed, IsUnfailed}
 use Rattle.ken_ship.specs.declared.worker.SendWorker.{SendWorker}
-use Rattle.ken_ship.specs.Parts.{Part, part_of}
+use Rattle.ken_ship.specs.Parts.{Part}
 use Rattle.ken_ship.specs.Parts.{IsSameWorker as IsSameSender}
 use Rattle.ken_work.specs.declared.patcher.PatchWorker.{PatchWorker}
 use Rattle.ken_node.specs.declared.stage.Stage.{Stage}
@@ -24,7 +24,6 @@ use Rattle.ken_work.specs.declared.worker.TurnWorker.{TurnWorker}
 use Rattle.ken_node.specs.Down.{AreTold}
 use Rattle.ken_work.specs.Meeting.{AreEmpty, AreFronts, AreJoined, HaveMet}
 use Rattle.ken_node.specs.Restarts.{AreUnfailed, OneHasFailed}
-use Rattle.ken_node.specs.Stages.{HasDisks}
 use Rattle.ken_node.specs.Up.{IsUp}
 use Rattle.ken_whole.specs.Whole.{IsWhole}
 use Rattle.ken_whole.proofs.MeetingWhole.{meeting_keeps_whole}

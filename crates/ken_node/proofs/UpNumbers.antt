@@ -1,11 +1,9 @@
 -- How far a node that is up has come, as its workers tell it.
-use Rattle.std.proofs.Common.{◌≡◌, ℕ, Option, sym, subst, ◌∙◌}
+use Rattle.std.proofs.Common.{◌≡◌, ℕ, Option, subst}
 use Rattle.ken_disk.specs.Story.{Story}
 use Rattle.ken_model.specs.Game.{Game}
 use Rattle.ken_core.specs.Nodes.{Node}
 use Rattle.ken_ship.specs.declared.worker.SendWorker.{SendWorker}
-use Rattle.ken_ship.specs.Parts.{part_of}
-use Rattle.ken_ship.proofs.Handed.{with_turns_emitted}
 use Rattle.ken_work.specs.declared.patcher.PatchWorker.{PatchWorker}
 use Rattle.ken_node.specs.declared.stage.Stage.{Stage}
 use Rattle.ken_node.specs.declared.stage.Stage.TheVariants.{Created}

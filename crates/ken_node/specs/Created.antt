@@ -1,34 +1,20 @@
 -- The creation of a node: its workers, and what its disks saw.
-use Rattle.std.specs.Prelude.{◌≡◌, ℕ, [], replicate, Option, Result, OnOk, OnErr}
+use Rattle.std.specs.Prelude.{◌≡◌, ℕ, replicate, Option, Result, OnOk, OnErr}
 use Rattle.ken_disk.specs.Fates.{Fate}
 use Rattle.ken_disk.specs.Story.{Story, Tells}
 use Rattle.ken_model.specs.Game.{Game}
-use Rattle.ken_model.specs.Handler.{Handler}
-use Rattle.ken_model.specs.Layout.{first_heap}
-use Rattle.ken_model.specs.Network.{empty_heap, inputs_for}
-use Rattle.ken_cover.specs.Sides.{first_image_pages}
-use Rattle.ken_core.specs.Nodes.{heap_pages}
 use Rattle.ken_order.specs.Consumed.{Consumed}
 use Rattle.ken_store.specs.declared.disks.Disks.{Disks}
-use Rattle.ken_store.specs.declared.owner.Owner.{Owner}
-use Rattle.ken_store.specs.declared.store.Store.{Store}
 use Rattle.ken_store.specs.Answers.{TellsAll}
-use Rattle.ken_store.specs.Creations.{Creates, FailsBy, IsNew, TellsStill}
-use Rattle.ken_store.specs.Standing.{Standing}
+use Rattle.ken_store.specs.Creations.{Creates, FailsBy, TellsStill}
 use Rattle.ken_ship.specs.declared.faults.NodeFault.{NodeFault}
-use Rattle.ken_ship.specs.declared.items.Progress.{Progress}
 use Rattle.ken_ship.specs.declared.worker.SendWorker.{SendWorker}
-use Rattle.ken_ship.specs.Parts.{part_of}
-use Rattle.ken_work.specs.declared.items.Feedback.{Feedback}
-use Rattle.ken_work.specs.declared.parts.Parts.{Parts}
 use Rattle.ken_work.specs.declared.patcher.PatchWorker.{PatchWorker}
 use Rattle.ken_node.specs.declared.stage.Stage.{Stage}
 use Rattle.ken_node.specs.declared.stage.Stage.TheVariants.{Created}
 use Rattle.ken_work.specs.declared.worker.TurnWorker.{TurnWorker}
 use Rattle.ken_work.specs.Faults.{store_answer}
-use Rattle.ken_work.specs.First.{IsNewRing, first_part}
 use Rattle.ken_node.specs.Stages.{HasDisks, IsUncreated}
-use Rattle.ken_work.specs.Workers.{Working}
 use Rattle.ken_whole.specs.New.{AreNew, owner_of}
 
 -- by which a node of so many judges mail that consumed none yet

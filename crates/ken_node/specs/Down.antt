@@ -8,7 +8,6 @@ use Rattle.ken_model.specs.Limits.{IsWithinLimits}
 use Rattle.ken_model.specs.Network.{Turn, inputs_for}
 use Rattle.ken_model.specs.Reading.{read_value}
 use Rattle.ken_record.specs.declared.base.Base.{Base}
-use Rattle.ken_record.specs.declared.effects.Effects.{Effects}
 use Rattle.ken_record.specs.declared.header.Header.{Header}
 use Rattle.ken_record.specs.declared.page.Page.{Page}
 use Rattle.ken_record.specs.declared.record.Record.{Record}

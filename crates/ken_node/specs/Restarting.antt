@@ -1,18 +1,16 @@
 -- The parts of a restart.
-use Rattle.std.specs.Prelude.{◌≡◌, ℕ, ◌∷◌, [], ◌++◌, List, Option, Some, None, Result, Ok, Err, vec_capacity, vec_len}
+use Rattle.std.specs.Prelude.{◌≡◌, ℕ, List, Option, Result, Ok, Err}
 use Rattle.ken_disk.specs.Fates.{Fate}
 use Rattle.ken_disk.specs.Story.{Story, Follows, IsImage}
 use Rattle.ken_model.specs.Game.{Game}
 use Rattle.ken_model.specs.declared.states.State.{State}
 use Rattle.ken_record.specs.declared.effects.Effects.{Effects}
 use Rattle.ken_record.specs.declared.record.Record.{Record}
-use Rattle.ken_outbox.specs.Waiting.{resumed}
 use Rattle.ken_store.specs.declared.disks.Disks.{Disks}
 use Rattle.ken_store.specs.declared.store.Store.{Store}
 use Rattle.ken_ship.specs.declared.faults.NodeFault.{NodeFault}
 use Rattle.ken_ship.specs.declared.faults.NodeFault.TheVariants.{Disk, Damaged, Outlet, Memory}
 use Rattle.ken_ship.specs.declared.worker.SendWorker.{SendWorker}
-use Rattle.ken_ship.specs.Parts.{part_of}
 use Rattle.ken_work.specs.declared.parts.Parts.{Parts}
 use Rattle.ken_work.specs.declared.patcher.PatchWorker.{PatchWorker}
 use Rattle.ken_node.specs.declared.stage.Stage.{Stage}
@@ -20,7 +18,7 @@ use Rattle.ken_node.specs.declared.stage.Stage.TheVariants.{Uncreated, Created}
 use Rattle.ken_work.specs.declared.worker.TurnWorker.{TurnWorker}
 use Rattle.ken_node.specs.Created.{IsCreation}
 use Rattle.ken_node.specs.Restarts.{AreUnfailed, GoOnFrom, OneHasFailed}
-use Rattle.ken_work.specs.Parts.{kept_turns, AreUnchanged}
+use Rattle.ken_work.specs.Parts.{AreUnchanged}
 
 -- ---- a node is taken apart
 

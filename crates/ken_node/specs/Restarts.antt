@@ -1,5 +1,5 @@
 -- The restart of a node.
-use Rattle.std.specs.Prelude.{◌≡◌, ℕ, ◌-◌, ◌⊎◌, nat_lt, if◌then◌else◌, List, [], ◌++◌, length, map, drop, Option, Result, Ok, Err}
+use Rattle.std.specs.Prelude.{◌≡◌, ℕ, ◌⊎◌, if◌then◌else◌, List, [], length, Option, Result, Ok, Err}
 use Rattle.ken_disk.specs.Fates.{Fate, Raised}
 use Rattle.ken_disk.specs.Steps.{WentDown}
 use Rattle.ken_disk.specs.Story.{Story, Follows}

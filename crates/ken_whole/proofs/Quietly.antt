@@ -3,12 +3,11 @@
 use Rattle.std.proofs.Common.{◌≡◌, ℕ, ◌==◌, if◌then◌else◌, List, [], ◌∷◌, ◌++◌, map, Bool, true, false, sym, ap, subst, ◌∙◌}
 use Rattle.std.specs.List.{AllByRecursion, Contains, flat_map, range_with_len}
 use Rattle.ken_model.specs.Game.{Game}
-use Rattle.ken_model.specs.Network.{outside}
 use Rattle.ken_core.specs.declared.events.Event.{Event}
 use Rattle.ken_core.specs.declared.events.Event.TheVariants.{Seal, SealCut, Patch, SyncImage, Turnover, Send, Ack, TakeAck, Emit, Crash, Recover}
 use Rattle.ken_core.specs.declared.events.Outcome.TheVariants.{Whole, Landed, Lost}
 use Rattle.ken_core.specs.declared.events.Told.{Told}
-use Rattle.ken_core.specs.Calls.{Call, AreSends, AreTaken, IsAck, IsEmit, IsIdle, IsNone, IsPatchOf, IsRenewed, IsSync, IsTurn, answer_to, due_to, sends_of, taken_from}
+use Rattle.ken_core.specs.Calls.{Call, AreSends, AreTaken, IsAck, IsEmit, IsIdle, IsNone, IsPatchOf, IsRenewed, IsSync, due_to, sends_of, taken_from}
 use Rattle.ken_core.specs.Nodes.{Node}
 use Rattle.ken_core.specs.Packets.{Answer, Mail, Outgoing, Packet}
 use Rattle.ken_core.specs.Runs.{NodeRun}

@@ -4,10 +4,8 @@ use Rattle.std.specs.List.{Contains, range_with_len}
 use Rattle.ken_disk.specs.Fates.{Fate}
 use Rattle.ken_disk.specs.Story.{Story}
 use Rattle.ken_model.specs.declared.messages.Message.{Message}
-use Rattle.ken_app.specs.Oracles.{Answers}
 use Rattle.ken_model.specs.Effects.{Effect}
 use Rattle.ken_model.specs.Game.{Game}
-use Rattle.ken_model.specs.Handler.{Handler}
 use Rattle.ken_model.specs.Network.{Turn as Made}
 use Rattle.ken_record.specs.declared.effects.Effects.{Effects}
 use Rattle.ken_net.specs.Puts.{Put}

@@ -1,16 +1,13 @@
 -- A worker goes on with the ends of its rings.
-use Rattle.std.proofs.Common.{◌≡◌, ◌≤◌, vec_capacity, vec_len, refl, sym, ap, subst, ◌∙◌}
+use Rattle.std.proofs.Common.{◌≡◌, ◌≤◌, vec_capacity, vec_len, sym, ap, ◌∙◌}
 use Rattle.std.proofs.Props.{props}
-use Rattle.ken_links.specs.declared.pop_end.PopEnd.{PopEnd}
 use Rattle.ken_links.specs.declared.push_end.PushEnd.{PushEnd}
-use Rattle.ken_links.specs.Rings.{SamePopEnd, SamePushEnd}
 use Rattle.ken_ship.specs.declared.items.Sealed.{Sealed}
 use Rattle.ken_store.specs.declared.turning.TurnSide.{TurnSide}
 use Rattle.ken_work.specs.declared.items.Frozen.{Frozen}
 use Rattle.ken_work.specs.declared.worker.TurnWorker.{TurnWorker}
 use Rattle.ken_work.specs.Calls.{IsQuiet}
 use Rattle.ken_work.specs.News.{AreInputs}
-use Rattle.ken_work.specs.Workers.{IsSameWorker}
 
 -- the facts that a worker keeps of its fields have one proof each
 pub same_worker : {D : Type 0} (w : TurnWorker D) (few : w.nodes ≤ 8) (most : w.cap ≤ 100000) (room : (64 ≤ vec_capacity w.news) × (vec_len w.news ≡ 0)) (given : AreInputs w.node w.inputs.items) → record w { few = few; most = most; room = room; given = given } ≡ w

@@ -1,10 +1,8 @@
 -- A store's answer as a worker's, and back.
 use Rattle.std.proofs.Common.{◌≡◌, Result, Ok, Err, refl, ap}
-use Rattle.std.specs.Prelude.{IfErr}
 use Rattle.ken_store.specs.declared.faults.StoreFault.{StoreFault}
 use Rattle.ken_store.specs.declared.faults.StoreFault.TheVariants.{Disk, Memory, Damaged}
-use Rattle.ken_store.specs.Patching.{IsFaultOfCall}
-use Rattle.ken_work.specs.Faults.{IsFaultOfWorker, node_answer, store_answer}
+use Rattle.ken_work.specs.Faults.{node_answer, store_answer}
 
 pub store_answer-node_answer : {T : Type 0} (r : Result T StoreFault) → store_answer (node_answer r) ≡ r
 store_answer-node_answer (Ok x) = refl

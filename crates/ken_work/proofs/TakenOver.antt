@@ -1,12 +1,12 @@
 -- Turns that leave the ring one by one are handed to the patcher's side.
-use Rattle.std.proofs.Common.{◌≡◌, ℕ, ◌+◌, List, [], ◌∷◌, ◌++◌, length, Option, refl, sym, ap, ◌∙◌, subst, append_assoc, append-nil}
+use Rattle.std.proofs.Common.{◌≡◌, ℕ, ◌+◌, List, [], ◌∷◌, ◌++◌, length, Option, refl, sym, ap, ◌∙◌, subst, append_assoc}
 use Rattle.std.proofs.lemmas.List.{length_push}
 use Rattle.ken_disk.specs.Story.{Story}
 use Rattle.ken_cover.specs.Sides.{ImagePages, handed_pages}
 use Rattle.ken_image.specs.declared.image.Image.{Image}
 use Rattle.ken_store.specs.declared.patching.PatchSide.{PatchSide}
 use Rattle.ken_store.specs.Ahead.{frame_pages}
-use Rattle.ken_store.specs.Apart.{MayHand, hand_all, known_after}
+use Rattle.ken_store.specs.Apart.{hand_all, known_after}
 use Rattle.ken_store.specs.Patching.{Patching, TakesPatches}
 use Rattle.ken_work.specs.declared.items.Frozen.{Frozen}
 use Rattle.ken_work.specs.Patches.{IsHandedOver, MayFollow, waits_of}
