@@ -12,14 +12,14 @@ use std::alloc::{AllocError, Global};
 // From this stamp on a mail is taken for an early one.
 const HIGH: u64 = 1 << 63;
 
-// What a packet is to a node's handler.
+/// What a packet is to a node's handler.
 #[derive(Debug, Drop)]
-pub(crate) enum Heard {
-    // The next mail of its sender.
+pub enum Heard {
+    /// The next mail of its sender.
     Next(Message),
-    // A mail of this node that was consumed before.
+    /// A mail of this node that was consumed before.
     Again(u8),
-    // What is let go.
+    /// What is let go.
     Lost,
 }
 

@@ -19,6 +19,7 @@ mod took;
 mod worker;
 
 pub use faults::answered;
+pub use hearing::Heard;
 pub use items::{Frozen, Settled};
 pub use meeting::meet;
 pub use parts::Parts;
