@@ -1,0 +1,4 @@
+mod Back
+mod Following
+mod Rows
+mod Told

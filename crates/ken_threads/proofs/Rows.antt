@@ -1,0 +1,73 @@
+-- The ends of one node more.
+use Rattle.std.proofs.Common.{◌≡◌, ◌∙◌, ℕ, ◌+◌, ◌<◌, List, [], ◌∷◌, ◌++◌, length, refl, sym, ap, subst, inl, inr, arith}
+use Rattle.std.specs.Prelude.{slice_index_or}
+use Rattle.std.proofs.lemmas.Bool.{cases_lt}
+use Rattle.std.proofs.lemmas.List.{get_or_append_left}
+use Rattle.std.proofs.Math.Seq.{get_or-append_seam}
+use Rattle.ken_wire.specs.declared.send_end.SendEnd.{SendEnd}
+use Rattle.ken_wire.specs.declared.take_end.TakeEnd.{TakeEnd}
+use Rattle.ken_wire.specs.Ends.{SameTaker}
+use Rattle.ken_wire.specs.Nets.{AreFrom}
+use Rattle.ken_wire.specs.Rounds.{AreUnused, AtEach, IsSeated}
+use Rattle.ken_threads.specs.Wires.{IsRow, IsUnused, of_node}
+
+-- an element at a place that there is
+pub some_at : {X : Type 0} (xs : List X) (k : ℕ) → k < length xs → X
+some_at [] k low = absurd (omega (arith, low))
+some_at (x ∷ xs) k low = x
+
+pub row_stays : (n v : ℕ) (old new : List TakeEnd) (ends : List SendEnd) → IsRow n v old ends
+    → ((k : ℕ) (d : TakeEnd) → k < n → SameTaker (slice_index_or old k d) (slice_index_or new k d)) → IsRow n v new ends
+row_stays n v old new ends row same = record {
+  count = row.count;
+  own = row.own;
+  wires = λ k d e low.
+      let is = row.wires k d e low in
+      let stays = same k d low in
+      (is.0 ∙ sym stays.0, is.1 ∙ sym stays.1);
+}
+
+-- a row of new ends
+pub record IsNewRow (n v : ℕ) (takes : List TakeEnd) (ends : List SendEnd) : Type 0 where
+  pub row : IsRow n v takes ends
+  pub unused : IsUnused ends
+
+pub new_row : (n v : ℕ) (old new : List TakeEnd) (ends : List SendEnd) → length ends ≡ n → length new ≡ n → AreFrom v ends → AtEach IsSeated old new ends → IsNewRow n v new ends
+new_row n v old new ends count takers own seated = record {
+  row = record { count = count; own = own; wires = λ k d e low. (seated k d e (omega (arith, low, count))).5 };
+  unused = λ k e low.
+      let is = seated k (some_at new k (omega (arith, low, count, takers))) e low in
+      (is.6, is.7);
+}
+
+pub same_takers : (n : ℕ) (old new : List TakeEnd) (ends : List SendEnd) → length ends ≡ n → AtEach IsSeated old new ends → (k : ℕ) (d : TakeEnd) → k < n → SameTaker (slice_index_or old k d) (slice_index_or new k d)
+same_takers n old new ends count seated k d low =
+    let there : k < length ends = omega (arith, low, count) in
+    (seated k d (some_at ends k there) there).0
+
+pub still_unused : (n : ℕ) (old new : List TakeEnd) (ends : List SendEnd) → length ends ≡ n → length new ≡ n → length old ≡ n → AtEach IsSeated old new ends → AreUnused old → AreUnused new
+still_unused n old new ends count takers before seated unused k d low =
+    let there : k < length ends = omega (arith, low, count, takers) in
+    let is = seated k d (some_at ends k there) there in
+    let was = unused k d (omega (arith, low, takers, before)) in
+    (is.1 ∙ was.0, is.2 ∙ was.1)
+
+-- the last of rows
+last : (rows : List (List SendEnd)) (row : List SendEnd) (v : ℕ) → v ≡ length rows → of_node v (rows ++ row ∷ []) ≡ row
+last rows row v is = ap (λ (i : ℕ). of_node i (rows ++ row ∷ [])) is ∙ get_or-append_seam rows row [] []
+
+pub rows_more : (n node : ℕ) (old new : List TakeEnd) (rows : List (List SendEnd)) (row : List SendEnd) → length rows ≡ node
+    → ((v : ℕ) → v < node → IsNewRow n v old (of_node v rows)) → ((k : ℕ) (d : TakeEnd) → k < n → SameTaker (slice_index_or old k d) (slice_index_or new k d))
+    → IsNewRow n node new row → (v : ℕ) → v < node + 1 → IsNewRow n v new (of_node v (rows ++ row ∷ []))
+rows_more n node old new rows row count before same one v low = elim (cases_lt v node) [
+  | inl lt ↦
+      let was = before v lt in
+      subst (IsNewRow n v new) (sym (get_or_append_left rows (row ∷ []) [] v (omega (arith, lt, count)))) (record { row = row_stays n v old new (of_node v rows) was.row same; unused = was.unused })
+  | inr le ↦
+      let is : v ≡ node = omega (arith, low, le) in
+      subst (IsNewRow n v new) (sym (last rows row v (omega (arith, is, count)))) (subst (λ (u : ℕ). IsNewRow n u new row) (sym is) one)
+]
+
+pub none_left : {X : Type 0} (xs : List X) → length xs ≡ 0 → xs ≡ []
+none_left [] none = refl
+none_left (x ∷ xs) none = absurd (omega (arith, none))

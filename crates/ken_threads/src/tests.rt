@@ -1,0 +1,99 @@
+ghost use Rattle.std.specs.Prelude.{◌≡◌, ◌+◌, ℕ, ⊤};
+
+use crate::{Gate, OpenGate, Role, Seat, Works, run_crowd};
+use ken_ship::NodeFault;
+use std::sync::atomic::{AtomicU64, Ordering};
+use std::thread;
+
+// Counts its steps, and fails at the one of this number, from 1.
+#[derive(Drop)]
+struct Counter {
+    steps: u64,
+    fails_at: u64,
+}
+
+impl Works for Counter {
+    ghost use Rattle.std.specs.Prelude.{◌≡◌, ◌+◌, ℕ, ⊤};
+
+    ghost may = { λ count a. ⊤ };
+
+    ghost steps = { λ a b. b.fails_at ≡ a.fails_at };
+
+    ghost fails = { λ fault a b. ⊤ };
+
+    fn step(&mut self) -> Result<(), NodeFault> {
+        self.steps = self.steps.saturating_add(1);
+        if self.steps == self.fails_at {
+            return Err(NodeFault::Disk);
+        }
+        Ok(())
+    }
+}
+
+fn seat(node: u8, fails_at: u64) -> Seat<Counter> {
+    Seat {
+        node,
+        worker: Counter { steps: 0, fails_at },
+        fault: None,
+    }
+}
+
+// Node 0's handler waits before its first step until node 1's externaliser is asked for its first.
+#[derive(Drop)]
+struct Meeting {
+    asked: AtomicU64,
+    met: AtomicU64,
+}
+
+impl Gate for Meeting {
+    fn pass(&self, node: u8, role: Role, step: u8) {
+        if step != 0 {
+            return;
+        }
+        if role == Role::Externaliser && node == 1 {
+            self.asked.store(1, Ordering::SeqCst);
+        }
+        if role == Role::Handler && node == 0 {
+            for _look in 0..1_000_000 {
+                if self.asked.load(Ordering::SeqCst) == 1 {
+                    self.met.store(1, Ordering::SeqCst);
+                    return;
+                }
+                thread::yield_now();
+            }
+        }
+    }
+}
+
+#[test]
+fn workers_of_two_nodes_meet(rt: HostRuntime) {
+    let gate = Meeting {
+        asked: AtomicU64::new(0),
+        met: AtomicU64::new(0),
+    };
+    let mut handlers = [seat(0, 0), seat(1, 0)];
+    let mut patchers = [seat(0, 0), seat(1, 0)];
+    let mut externalisers = [seat(0, 0), seat(1, 0)];
+    run_crowd(&rt, &mut handlers, &mut patchers, &mut externalisers, &gate);
+    assert_eq!(rt; gate.met.load(Ordering::SeqCst), 1);
+    assert_eq!(rt; externalisers[1].worker.steps, 16);
+}
+
+#[test]
+fn a_worker_stops_at_its_first_fault(rt: HostRuntime) {
+    let mut handlers = [seat(0, 3)];
+    let mut patchers = [seat(0, 17)];
+    let mut externalisers = [seat(0, 16)];
+    run_crowd(
+        &rt,
+        &mut handlers,
+        &mut patchers,
+        &mut externalisers,
+        &OpenGate,
+    );
+    assert_eq!(rt; handlers[0].worker.steps, 3);
+    assert_eq!(rt; handlers[0].fault, Some(NodeFault::Disk));
+    assert_eq!(rt; patchers[0].worker.steps, 16);
+    assert_eq!(rt; patchers[0].fault, None);
+    assert_eq!(rt; externalisers[0].fault, Some(NodeFault::Disk));
+}

@@ -1,0 +1,80 @@
+// The wires of one kind between the nodes of a round.
+ghost use Rattle.std.specs.Prelude.{◌≡◌, ◌≤◌, ℕ, length, map, IfOk};
+ghost use Rattle.std.specs.List.{All};
+ghost use Rattle.ken_wire.specs.Ends.{heard_of, joined_of, made_of, taker_of, WasHandedIn};
+ghost use Rattle.ken_wire.specs.Rounds.{AreNext, AreUnused};
+ghost use Rattle.ken_threads.specs.Wires.{AreBack, AreNew, AreWired, Carry, ends_of};
+
+use ken_wire::{SendEnd, TakeEnd, hand_out, take_back, takers};
+use std::alloc::{AllocError, Global};
+
+/// A wire to each node from all nodes: the taking end of each, by number, and the sending ends of each node, by number.
+#[derive(Drop)]
+pub struct Wiring {
+    pub takes: Vec<TakeEnd>,
+    pub sends: Vec<Vec<SendEnd>>,
+}
+
+impl Wiring {
+    /// New wires between so many nodes.
+    pub fn new(alloc: Global, nodes: u8) -> Result<Wiring, AllocError>
+        requires { nodes ≤ 8 }
+        ensures { IfOk result (λ w. AreNew nodes w.takes.items (ends_of w.sends.items)) }
+    {
+        let mut takes = takers(alloc, nodes)?;
+        let sends = hand_out_all(alloc, nodes, takes.as_mut_slice())?;
+        Ok(Wiring { takes, sends })
+    }
+
+    /// Takes all ends back, and tells what the wires carried: each packet that was taken is one that its node may have put. What the
+    /// wires hold still is lost. Takes no memory.
+    pub fn close(self)
+        requires { (n : ℕ) × AreWired n self.takes.items (ends_of self.sends.items) }
+        ensures { (n : ℕ) → AreWired n self.takes.items (ends_of self.sends.items)
+            → Carry n self.takes.items (ends_of self.sends.items) }
+    {
+        let Wiring { mut takes, sends } = self;
+        bring_back(takes.as_mut_slice(), sends);
+        tell_all(takes);
+    }
+}
+
+// The sending ends of all nodes, one of each wire for each node. After an error some wires may have more ends than before.
+fn hand_out_all(
+    alloc: Global,
+    nodes: u8,
+    takes: &mut [TakeEnd],
+) -> Result<Vec<Vec<SendEnd>>, AllocError>
+    requires few { nodes ≤ 8 }
+    requires count { length takes.old ≡ nodes }
+    requires next { AreNext 0 takes.old }
+    requires new { AreUnused takes.old }
+    ensures new { IfOk result (λ sends. AreNew nodes takes.new (ends_of sends.items)) }
+    ensures count { length takes.new ≡ length takes.old }
+{
+    let mut sends = Vec::with_capacity(alloc, usize::from(nodes))?;
+    for node in 0..nodes {
+        sends.push(hand_out(alloc, node, takes)?)?;
+    }
+    Ok(sends)
+}
+
+// Takes the sending ends of all nodes back.
+fn bring_back(takes: &mut [TakeEnd], sends: Vec<Vec<SendEnd>>)
+    requires { (n : ℕ) × AreWired n takes.old (ends_of sends.items) }
+    ensures { (n : ℕ) → AreWired n takes.old (ends_of sends.items) → AreBack n (ends_of sends.items) takes.old takes.new }
+{
+    for ends in sends {
+        take_back(takes, ends);
+    }
+}
+
+// Each wire tells what it carried.
+fn tell_all(takes: Vec<TakeEnd>)
+    requires { All (λ t. length (joined_of t) ≡ made_of t) takes.items }
+    ensures { All (λ t. WasHandedIn (taker_of t) (joined_of t) (heard_of t)) takes.items }
+{
+    for mut take in takes {
+        take.total();
+    }
+}
