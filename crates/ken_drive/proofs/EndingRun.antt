@@ -28,9 +28,9 @@ use Rattle.ken_node.specs.Stages.{HasValue, IsCreated, emissions_in, turns_in}
 use Rattle.ken_node.specs.Up.{IsUp}
 use Rattle.ken_flow.specs.Groups.{group_of}
 use Rattle.ken_flow.specs.Standstill.{sent_on, waits_on}
-use Rattle.ken_drive.specs.declared.lines.Summary.{Summary}
-use Rattle.ken_drive.specs.declared.run.Run.{Run}
-use Rattle.ken_drive.specs.declared.station.Station.{Station}
+use Rattle.ken_drive.specs.declared.report.Summary.{Summary}
+use Rattle.ken_run.specs.declared.run.Run.{Run}
+use Rattle.ken_run.specs.declared.station.Station.{Station}
 use Rattle.ken_drive.proofs.RestartOrder.{restarts_by_node}
 use Rattle.ken_drive.specs.Ended.{AddsHeap, AreWords, HaveSaid, IsEnded, IsReportOf, emissions_of, ending_of, restart_lines, restarts_from, waits_for, waits_in}
 use Rattle.ken_drive.proofs.EndingCounts.{emissions_from, in_range-le}

@@ -5,7 +5,7 @@ use Rattle.std.proofs.lemmas.List.{length-append}
 use Rattle.ken_store.specs.declared.disks.Disks.{Disks}
 use Rattle.ken_node.specs.declared.watched.Watched.{Watched}
 use Rattle.ken_node.specs.Stages.{HasDisks}
-use Rattle.ken_drive.specs.declared.station.Station.{Station}
+use Rattle.ken_run.specs.declared.station.Station.{Station}
 use Rattle.ken_drive.specs.Finishing.{WasKept}
 
 -- the first so many of these were given, each to its place, and the others are to come

@@ -29,20 +29,20 @@ use Rattle.ken_node.specs.Stages.{HasDisks, emissions_in, turns_in}
 use Rattle.ken_node.specs.Synced.{HasSynced, UpHasSynced}
 use Rattle.ken_node.specs.Up.{IsUp}
 use Rattle.ken_flow.specs.Groups.{group_of}
-use Rattle.ken_drive.specs.declared.run.Run.{Run}
-use Rattle.ken_drive.specs.declared.station.Station.{Station}
-use Rattle.ken_drive.specs.Accounts.{AreAccounted, AreOwnDisks, IsAccounted, TellsAtMost, Terms, draws_of, emitted_through, faults_of, numbers_of}
+use Rattle.ken_run.specs.declared.run.Run.{Run}
+use Rattle.ken_run.specs.declared.station.Station.{Station}
+use Rattle.ken_run.specs.Accounts.{AreAccounted, AreOwnDisks, IsAccounted, TellsAtMost, Terms, draws_of, emitted_through, faults_of, numbers_of}
 use Rattle.ken_drive.specs.Driven.{HaveCauses, KeepsNode, KeepsRun, Views, out_numbers, steps_at}
 use Rattle.ken_drive.specs.Ended.{IsEnded, IsReportOf, restarts_from}
 use Rattle.ken_drive.specs.Finishing.{WasKept, unwatched}
-use Rattle.ken_drive.specs.Patched.{HasGoneOn, HasItsImage, HaveImages}
+use Rattle.ken_run.specs.Patched.{HasGoneOn, HasItsImage, HaveImages}
 use Rattle.ken_drive.specs.Recovering.{HoldsHeapAt, RecoversAt}
-use Rattle.ken_drive.specs.Refusals.{AreRefused, IsRefused}
-use Rattle.ken_drive.specs.Running.{IsRunning}
-use Rattle.ken_drive.specs.Worlds.{IsTold, MayFailAt}
+use Rattle.ken_run.specs.Refusals.{AreRefused, IsRefused}
+use Rattle.ken_run.specs.Running.{IsRunning}
+use Rattle.ken_run.specs.Devices.{IsTold, MayFailAt}
 use Rattle.ken_app.specs.declared.turn.TheConstants.{MAX_DRAWS}
-use Rattle.ken_drive.proofs.Fewer.{few-turns}
-use Rattle.ken_drive.specs.Sequences.{IsSubsequence, descents}
+use Rattle.ken_run.proofs.Fewer.{few-turns}
+use Rattle.ken_run.specs.Sequences.{IsSubsequence, descents}
 use Rattle.ken_drive.proofs.Recovering.{up-recovers, up-image}
 
 -- an element of a list

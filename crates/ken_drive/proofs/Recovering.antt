@@ -35,7 +35,7 @@ use Rattle.ken_node.specs.Stages.{HasDisks, image_told}
 use Rattle.ken_node.specs.Up.{IsUp}
 use Rattle.ken_node.proofs.GoesDown.{owner-is}
 use Rattle.ken_flow.specs.Groups.{group_of}
-use Rattle.ken_drive.specs.Patched.{IsPatched}
+use Rattle.ken_run.specs.Patched.{IsPatched}
 use Rattle.ken_drive.specs.Recovering.{HoldsHeapAt, IsStateAt, KeepsWaiting, RecoversAt}
 
 -- what a node has consumed is counted by its turns as it keeps them

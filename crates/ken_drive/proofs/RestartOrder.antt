@@ -2,7 +2,7 @@
 use Rattle.std.proofs.Common.{ℕ, ◌+◌, ◌<◌, ◌≤◌, List, [], ◌∷◌, ◌++◌, length, arith}
 use Rattle.ken_model.specs.declared.reports.RestartLine.{RestartLine}
 use Rattle.ken_model.specs.Restarts.{AreRestartsByNode}
-use Rattle.ken_drive.specs.declared.station.Station.{Station}
+use Rattle.ken_run.specs.declared.station.Station.{Station}
 use Rattle.ken_drive.specs.Ended.{restart_lines, restarts_from}
 
 -- those of later nodes

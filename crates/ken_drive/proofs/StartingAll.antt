@@ -1,5 +1,5 @@
 -- The nodes of a script's run join one after the other.
-use Rattle.std.proofs.Common.{◌≡◌, ℕ, ◌+◌, ◌<◌, ◌≤◌, List, [], ◌∷◌, length, slice_index_or, Bool, Option, None, Result, Ok, Err, refl, sym, ap, subst, ◌∙◌, arith}
+use Rattle.std.proofs.Common.{◌≡◌, ℕ, ◌+◌, ◌<◌, ◌≤◌, List, [], ◌∷◌, length, replicate, slice_index_or, Bool, Option, None, Result, Ok, Err, refl, sym, ap, subst, ◌∙◌, arith}
 use Rattle.std.specs.Prelude.{IfOk}
 use Rattle.std.specs.Result.{IsErrAnd}
 use Rattle.std.proofs.lemmas.List.{length-append}
@@ -15,17 +15,20 @@ use Rattle.ken_store.specs.declared.disks.Disks.{Disks}
 use Rattle.ken_work.specs.declared.parts.Parts.{Parts}
 use Rattle.ken_node.specs.declared.watched.Watched.{Watched}
 use Rattle.ken_work.specs.First.{AreFirst}
-use Rattle.ken_drive.specs.declared.faults.RunFault.{RunFault}
-use Rattle.ken_drive.specs.declared.faults.RunFault.TheVariants.{Down}
-use Rattle.ken_drive.specs.declared.faults.RunFault.TheVariants as run_faults
-use Rattle.ken_drive.specs.declared.run.Run.{Run}
+use Rattle.ken_run.specs.declared.faults.RunFault.{RunFault}
+use Rattle.ken_run.specs.declared.faults.RunFault.TheVariants.{Down}
+use Rattle.ken_run.specs.declared.faults.RunFault.TheVariants as run_faults
+use Rattle.ken_run.specs.declared.run.Run.{Run}
 use Rattle.ken_script.specs.declared.scripts.Script.{Script}
-use Rattle.ken_drive.specs.declared.station.Station.{Station}
-use Rattle.ken_drive.specs.Accounts.{IsUsedUp, Terms}
+use Rattle.ken_run.specs.declared.station.Station.{Station}
+use Rattle.ken_run.specs.Accounts.{IsUsedUp, Terms}
 use Rattle.ken_drive.specs.Finishing.{WasKept}
-use Rattle.ken_drive.specs.Starting.{AddsBy, FillsBy, HasFailedAt, FillsAccountsBy, HasModestActs, HasOwn, HaveStarted, IsBorn, IsGivenBack, IsKeptDown, IsKeptUp, IsLast, IsStarted, Joins, JoinsAccountsBy, JoinsBy, StartsAccountsBy, StartsBy, fails_for, game_by}
-use Rattle.ken_drive.specs.Worlds.{HasKeptNothing, MayFailAt}
-use Rattle.ken_drive.proofs.StartingRun.{each-more, new-modest}
+use Rattle.ken_run.specs.Creating.{AddsBy, IsBorn, IsLast, IsStarted, Joins, JoinsAccountsBy, JoinsBy}
+use Rattle.ken_drive.specs.Starting.{FillsBy, HasFailedAt, FillsAccountsBy, HasModestActs, HasOwn, HaveStarted, IsGivenBack, IsKeptDown, IsKeptUp, Serves, StartsAccountsBy, StartsBy, fails_for, game_by}
+use Rattle.ken_drive.specs.Worlds.{HasKeptNothing}
+use Rattle.ken_run.specs.Devices.{MayFailAt}
+use Rattle.ken_run.proofs.StartingRun.{each-more, none-started}
+use Rattle.ken_drive.proofs.StartingDevices.{new-modest}
 
 -- an error is no Ok
 pub failed-not-ok : {T E : Type 0} (P : E → Type 0) (Q : T → Type 0) (result : Result T E) → IsErrAnd result P → IfOk result Q
@@ -110,6 +113,15 @@ born-of told h script v s born =
       no_restart = born.no_restart;
       no_line = born.no_line;
     }
+
+module _ {D O U A E : Type 0} (told : Watched D → Option Story) (size : Watched D → ℕ) (took : U → Option (List Out)) (handles : A → Handler) where
+  -- a run of which no node was made has started
+  pub empty-started : (app : A) (script : Script) (result : Result (Run D O U A) E) → IsWithinLimits (game_of script.facts) → Serves (handles app) script
+      → IfOk result (λ r. r.app ≡ app) → IfOk result (λ r. (r.nodes ≡ 0) × (r.stations.items ≡ [])) → IfOk result (λ r. r.waiting.mail ≡ replicate script.facts.nodes []) → IfOk result (λ r. r.waiting.acks ≡ replicate script.facts.nodes [])
+      → IfOk result (λ r. IsStarted told size took handles (game_by (handles app) script) 0 r)
+  empty-started app script (Err e) limits serves same none mail acks = tt
+  empty-started app script (Ok r) limits serves same none mail acks =
+      none-started told size took handles (game_by (handles app) script) r (limits-by (handles app) script limits) serves.keeps serves.lines none.0 (ap handles same) none.1 mail acks
 
 module _ {D O U A : Type 0} (told : Watched D → Option Story) (size : Watched D → ℕ) (took : U → Option (List Out)) (handles : A → Handler) (scripted : Bool) (telling : Telling O) (faults : U → ℕ) (fate : U → Option ship.Fate) (h : Handler) (script : Script) where
   -- a creation leaves the devices of a node but its disks

@@ -20,18 +20,18 @@ use Rattle.ken_ship.specs.Fates.{Fate}
 use Rattle.ken_store.specs.declared.disks.Disks.{Disks}
 use Rattle.ken_node.specs.declared.watched.Watched.{Watched}
 use Rattle.ken_node.specs.Stages.{HasDisks}
-use Rattle.ken_drive.specs.declared.faults.RunFault.{RunFault}
-use Rattle.ken_drive.specs.declared.faults.RunFault.TheVariants.{Damaged, Down, Memory}
-use Rattle.ken_drive.specs.declared.run.Run.{Run}
-use Rattle.ken_drive.specs.declared.station.Station.{Station}
-use Rattle.ken_drive.specs.Accounts.{AccountsRunFault, AreAccounted, AreOwnDisks, HasBooks, IsHeld, IsUsedUp, Terms, faults_of}
+use Rattle.ken_run.specs.declared.faults.RunFault.{RunFault}
+use Rattle.ken_run.specs.declared.faults.RunFault.TheVariants.{Damaged, Down, Memory}
+use Rattle.ken_run.specs.declared.run.Run.{Run}
+use Rattle.ken_run.specs.declared.station.Station.{Station}
+use Rattle.ken_run.specs.Accounts.{AccountsRunFault, AreAccounted, AreOwnDisks, HasBooks, IsHeld, IsUsedUp, Terms, faults_of}
 use Rattle.ken_drive.specs.Driven.{DrivesBy, EndsBy, HasStoppedAt, IsKept, ShowsDown, Views}
 use Rattle.ken_drive.specs.Finishing.{WasKept, unwatched}
-use Rattle.ken_drive.specs.Refusals.{AreRefused, HasFailedLast, IsWornOut, RefusedRunFault, StopsBy}
-use Rattle.ken_drive.specs.Running.{IsRunning, IsStopped, LeavesRunFault}
+use Rattle.ken_run.specs.Refusals.{AreRefused, HasFailedLast, IsWornOut, RefusedRunFault, StopsBy}
+use Rattle.ken_run.specs.Running.{IsRunning, IsStopped, LeavesRunFault}
 use Rattle.ken_drive.specs.Sparing.{FailsInARow, IsLetBy, LetsGoDown}
 use Rattle.ken_drive.specs.Starting.{StartsAccountsBy, StartsBy, fails_for, game_by, terms_of}
-use Rattle.ken_drive.specs.Worlds.{MayFailAt}
+use Rattle.ken_run.specs.Devices.{MayFailAt}
 use Rattle.ken_drive.proofs.StartingAll.{one-of}
 
 -- ---- the calls of outlets that a script lets fail

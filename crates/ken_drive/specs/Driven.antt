@@ -20,20 +20,21 @@ use Rattle.ken_model.specs.Laws.{steps_of}
 use Rattle.ken_model.specs.Restarts.{NeverFall, restarts_of}
 use Rattle.ken_node.specs.declared.watched.Watched.{Watched}
 use Rattle.ken_script.specs.declared.scripts.Script.{Script}
-use Rattle.ken_drive.specs.declared.faults.RunFault.{RunFault}
-use Rattle.ken_drive.specs.declared.faults.RunFault.TheVariants.{Down}
-use Rattle.ken_drive.specs.declared.faults.RunFault.TheVariants as run_faults
-use Rattle.ken_drive.specs.declared.run.Run.{Run}
-use Rattle.ken_drive.specs.declared.station.Station.{Station}
-use Rattle.ken_drive.specs.Accounts.{AreAccounted, AreOwnDisks, HasBooks, IsUsedUp, Terms, faults_of}
+use Rattle.ken_run.specs.declared.faults.RunFault.{RunFault}
+use Rattle.ken_run.specs.declared.faults.RunFault.TheVariants.{Down}
+use Rattle.ken_run.specs.declared.faults.RunFault.TheVariants as run_faults
+use Rattle.ken_run.specs.declared.run.Run.{Run}
+use Rattle.ken_run.specs.declared.station.Station.{Station}
+use Rattle.ken_run.specs.Accounts.{AreAccounted, AreOwnDisks, HasBooks, IsUsedUp, Terms, faults_of}
 use Rattle.ken_drive.specs.Ended.{IsEnded, IsReportOf, IsRunOf}
 use Rattle.ken_drive.specs.Finishing.{WasKept}
-use Rattle.ken_drive.specs.Patched.{HaveImages}
+use Rattle.ken_run.specs.Patched.{HaveImages}
 use Rattle.ken_drive.specs.Recovering.{HoldsHeapAt, RecoversAt}
-use Rattle.ken_drive.specs.Refusals.{AreRefused, IsWornOut}
-use Rattle.ken_drive.specs.Sequences.{IsSubsequence, descents}
+use Rattle.ken_run.specs.Refusals.{AreRefused, IsWornOut}
+use Rattle.ken_run.specs.Sequences.{IsSubsequence, descents}
 use Rattle.ken_drive.specs.Starting.{game_by, terms_of}
-use Rattle.ken_drive.specs.Worlds.{HasKeptNothing, IsOf, IsTold, MayFailAt}
+use Rattle.ken_drive.specs.Worlds.{HasKeptNothing}
+use Rattle.ken_run.specs.Devices.{IsOf, IsTold, MayFailAt}
 
 -- what contracts see of a node's devices: the stories of its disks, with their faults and fates; what its oracle tells; what its outlet
 -- took, with its faults and its fate; and whether it is a scripted world's, whose devices tell whose they are

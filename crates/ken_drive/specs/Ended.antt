@@ -28,10 +28,10 @@ use Rattle.ken_node.specs.declared.watched.Watched.{Watched}
 use Rattle.ken_node.specs.Stages.{HasValue, emissions_in, turns_in}
 use Rattle.ken_flow.specs.Groups.{group_of}
 use Rattle.ken_flow.specs.Standstill.{HasEnded, waits_on}
-use Rattle.ken_drive.specs.declared.lines.Summary.{Summary}
-use Rattle.ken_drive.specs.declared.run.Run.{Run}
-use Rattle.ken_drive.specs.declared.station.Station.{Station}
-use Rattle.ken_drive.specs.Running.{IsRunning}
+use Rattle.ken_drive.specs.declared.report.Summary.{Summary}
+use Rattle.ken_run.specs.declared.run.Run.{Run}
+use Rattle.ken_run.specs.declared.station.Station.{Station}
+use Rattle.ken_run.specs.Running.{IsRunning}
 
 -- the lines are the report of a run: a legal schedule, what playing it shows, legal emissions, restarts of its nodes, and its ending
 pub record IsRunOf (g : Game) (l : Lines) : Type 0 where

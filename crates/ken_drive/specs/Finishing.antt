@@ -3,7 +3,7 @@ use Rattle.std.specs.Prelude.{◌≡◌, Option, Some}
 use Rattle.ken_store.specs.declared.disks.Disks.{Disks}
 use Rattle.ken_node.specs.declared.watched.Watched.{Watched}
 use Rattle.ken_node.specs.Stages.{HasDisks}
-use Rattle.ken_drive.specs.declared.station.Station.{Station}
+use Rattle.ken_run.specs.declared.station.Station.{Station}
 
 module _ {D : Type 0} where
   -- the disks of a node without their watch

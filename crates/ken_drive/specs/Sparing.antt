@@ -2,8 +2,8 @@
 use Rattle.std.specs.Prelude.{ℕ, ◌+◌, ◌<◌, ◌≤◌, ◌⊎◌, List, ⊤}
 use Rattle.std.specs.List.{Contains}
 use Rattle.ken_script.specs.declared.scripts.Script.{Script}
-use Rattle.ken_drive.specs.declared.faults.RunFault.{RunFault}
-use Rattle.ken_drive.specs.declared.faults.RunFault.TheVariants.{Damaged, Down, Memory}
+use Rattle.ken_run.specs.declared.faults.RunFault.{RunFault}
+use Rattle.ken_run.specs.declared.faults.RunFault.TheVariants.{Damaged, Down, Memory}
 use Rattle.ken_drive.specs.Starting.{cut_count, fails_for}
 
 -- an outlet that fails at these calls fails 65 times, one after the other

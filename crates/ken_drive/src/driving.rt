@@ -1,18 +1,18 @@
 // A whole run.
-ghost use Rattle.std.specs.Prelude.{◌≡◌, ◌<◌, ◌≤◌, true, IfErr, OnOk};
+ghost use Rattle.std.specs.Prelude.{◌≡◌, ◌<◌, true, IfErr, OnOk};
 ghost use Rattle.ken_model.specs.Kinds.{handler_of};
 ghost use Rattle.ken_script.specs.Within.{KeepsRules};
 ghost use Rattle.ken_drive.specs.Driven.{DrivesBy};
-ghost use Rattle.ken_drive.specs.Patched.{HaveImages};
+ghost use Rattle.ken_run.specs.Patched.{HaveImages};
 ghost use Rattle.ken_drive.specs.Sparing.{IsLetBy};
 ghost use Rattle.ken_drive.specs.Starting.{Serves};
 ghost use Rattle.ken_drive.specs.Worlds.{HasKeptNothing};
-ghost use Rattle.ken_drive.specs.Clauses.{Drains, TellsRun, views_of};
+ghost use Rattle.ken_run.specs.Clauses.{Drains};
+ghost use Rattle.ken_drive.specs.Clauses.{TellsRun, views_of};
 
-use crate::faults::RunFault;
 use crate::finishing::finish;
 use crate::laws::{ended_runs_keep, kinds_serve};
-use crate::run::Run;
+use crate::report::lines;
 use crate::starting::start;
 use crate::world::World;
 use ken_app::{App, Oracle};
@@ -20,20 +20,22 @@ use ken_apps::KindApp;
 use ken_disk::Disk;
 use ken_model::Lines;
 use ken_node::Watched;
+use ken_run::{Run, RunFault};
 use ken_script::Script;
 use ken_ship::Outlet;
 use std::alloc::Global;
 
-impl<D: Disk, O: Oracle, U: Outlet, A: App> Run<D, O, U, A> {
-    /// Drains the run, and answers what it says then. The errors are those of `drain` and `lines`.
-    fn told(&mut self) -> Result<Lines, RunFault>
-        requires { Drains D.Disk U.Outlet A.App self.old }
-        ensures tells { TellsRun D.Disk O.Oracle U.Outlet A.App self.old result self.new }
-        ensures images { OnOk result (HaveImages ⟦<Watched<D> as Disk>⟧.told self.new) }
-    {
-        self.drain()?;
-        Ok(self.lines()?)
-    }
+/// Drains a run, and answers what it says then. The errors are those of `drain` and `lines`.
+fn told<D: Disk, O: Oracle, U: Outlet, A: App>(
+    alloc: Global,
+    run: &mut Run<D, O, U, A>,
+) -> Result<Lines, RunFault>
+    requires { Drains D.Disk U.Outlet A.App run.old }
+    ensures tells { TellsRun D.Disk O.Oracle U.Outlet A.App run.old result run.new }
+    ensures images { OnOk result (HaveImages ⟦<Watched<D> as Disk>⟧.told run.new) }
+{
+    run.drain()?;
+    Ok(lines(alloc, run)?)
 }
 
 /// Runs a script with an application over the devices of a world, and answers the lines of its report. The script's kind isn't
@@ -54,7 +56,7 @@ pub fn drive<W: World, A: App + Drop>(
     ensures lets { W.scripted ≡ true → IfErr result (IsLetBy script.now) }
 {
     let mut run = start(alloc, app, script, world)?;
-    match run.told() {
+    match told(alloc, &mut run) {
         Ok(lines) => {
             finish(run, world);
             ended_runs_keep::<W::Dev, W::Luck, W::Out, A>();

@@ -1,13 +1,12 @@
 // How a run ends.
 ghost use Rattle.std.specs.Prelude.{◌≡◌, ◌≢◌, ◌<◌, ◌≤◌, ℕ, length, slice_index_or};
 ghost use Rattle.ken_model.specs.declared.facts.TheConstants.{MAX_NODES};
-ghost use Rattle.ken_drive.specs.declared.station.Station.{Station as Stood};
+ghost use Rattle.ken_run.specs.declared.station.Station.{Station as Stood};
 ghost use Rattle.ken_drive.specs.Finishing.{WasKept};
 
-use crate::run::Run;
-use crate::station::Station;
 use crate::world::World;
 use ken_disk::Disk;
+use ken_run::{Run, Station};
 use ken_store::Disks;
 
 /// Gives the devices of a node to the world.
@@ -38,7 +37,7 @@ pub fn finish<W: World, A: Drop>(run: Run<W::Dev, W::Luck, W::Out, A>, world: &m
         → WasKept (slice_index_or run.stations.items v d) (W.kept world.new v) }
     ensures others { (v : ℕ) → length run.stations.items ≤ v → W.kept world.new v ≡ W.kept world.old v }
 {
-    for (node, station) in (0..).zip(run.stations) {
+    for (node, station) in (0..).zip(run.into_stations()) {
         keep_station(station, node, world);
     }
 }

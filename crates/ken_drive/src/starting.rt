@@ -4,60 +4,32 @@ ghost use Rattle.ken_model.specs.Game.{game_of};
 ghost use Rattle.ken_model.specs.Limits.{IsWithinLimits};
 ghost use Rattle.ken_drive.specs.Starting.{HasModestActs, Serves, game_by};
 ghost use Rattle.ken_drive.specs.Worlds.{HasKeptNothing};
-ghost use Rattle.ken_drive.specs.Clauses.{AccountsFilled, AccountsJoined, AccountsStarted, AddsStation, FillsRun, JoinsRun, MayAdd, RefusesJoined, RefusesStarted, Started, StartsRun};
+ghost use Rattle.ken_drive.specs.Clauses.{AccountsFilled, AccountsStarted, FillsRun, RefusesStarted, StartsRun};
+ghost use Rattle.ken_run.specs.Clauses.{Started};
 
 use crate::devices::station;
-use crate::faults::RunFault;
 use crate::finishing::finish;
-use crate::inboxes::InFlight;
-use crate::run::Run;
-use crate::station::Station;
 use crate::world::World;
 use ken_app::{App, Oracle};
 use ken_disk::Disk;
-use ken_net::Inboxes;
 use ken_node::Watched;
+use ken_run::{Run, RunFault};
 use ken_script::Script;
 use ken_ship::Outlet;
 use std::alloc::{AllocError, Global};
 
-impl<D: Disk + Drop, O: Oracle + Drop, U: Outlet + Drop, A: App + Drop> Run<D, O, U, A> {
-    /// The run of a script without its nodes.
-    fn empty(alloc: Global, app: A, script: &Script) -> Result<Self, AllocError>
-        requires limits { IsWithinLimits (game_of script.now.facts) }
-        requires serves { Serves (A.handler app) script.now }
-        ensures started { IfOk result (λ r. Started D.Disk U.Outlet A.App (game_by (A.handler app) script.now) 0 r) }
-        ensures most { IfOk result (λ r. r.restarts ≡ script.now.restarts) }
-    {
-        let nodes = script.facts.nodes;
-        Ok(Run {
-            alloc,
-            nodes: 0,
-            app,
-            restarts: script.restarts,
-            stations: Vec::new(alloc),
-            waiting: InFlight {
-                mail: Inboxes::new(alloc, nodes)?,
-                acks: Inboxes::new(alloc, nodes)?,
-            },
-        })
-    }
-
-    /// Creates the next node of the run. `Down`: its disks failed once more than it may be restarted, and it has joined still.
-    fn join(&mut self, mut station: Station<D, O, U>) -> Result<(), RunFault>
-        requires { MayAdd D.Disk U.Outlet A.App station self.old }
-        ensures joins { JoinsRun D.Disk U.Outlet A.App station self.old result self.new }
-        ensures adds { AddsStation D.Disk U.Outlet A.App station self.old result self.new }
-        ensures accounts { AccountsJoined D.Disk O.Oracle U.Outlet A.App station self.old result self.new }
-        ensures refused { RefusesJoined D.Disk U.Outlet A.App station self.old result self.new }
-        ensures most { self.new.restarts ≡ self.old.restarts }
-    {
-        self.stations.reserve(1)?;
-        let started = station.start(self.nodes, self.restarts);
-        self.stations.push_reserved(station);
-        self.nodes += 1;
-        started
-    }
+/// The run of a script without its nodes.
+fn empty<D: Disk + Drop, O: Oracle + Drop, U: Outlet + Drop, A: App + Drop>(
+    alloc: Global,
+    app: A,
+    script: &Script,
+) -> Result<Run<D, O, U, A>, AllocError>
+    requires limits { IsWithinLimits (game_of script.now.facts) }
+    requires serves { Serves (A.handler app) script.now }
+    ensures started { IfOk result (λ r. Started D.Disk U.Outlet A.App (game_by (A.handler app) script.now) 0 r) }
+    ensures most { IfOk result (λ r. r.restarts ≡ script.now.restarts) }
+{
+    Run::new(alloc, app, script.facts.nodes, script.restarts)
 }
 
 /// Creates the nodes of a run, in rising order, up to the first that can't be.
@@ -103,7 +75,7 @@ pub fn start<W: World, A: App + Drop>(
         W.scripted (A.handler app) script.now result (W.kept world.new) }
     ensures refused { IfOk result (RefusesStarted W.Out.Outlet W.scripted script.now) }
 {
-    let mut run = Run::empty(alloc, app, script)?;
+    let mut run = empty(alloc, app, script)?;
     match fill(&mut run, alloc, script, world) {
         Ok(()) => Ok(run),
         Err(RunFault::Memory) => Err(RunFault::Memory),

@@ -4,7 +4,8 @@ ghost use Rattle.ken_disk.specs.Story.{blank};
 ghost use Rattle.ken_model.specs.declared.facts.TheConstants.{MAX_NODES};
 ghost use Rattle.ken_app.specs.Oracles.{HasTold};
 ghost use Rattle.ken_store.specs.declared.disks.Disks.{Disks};
-ghost use Rattle.ken_drive.specs.Worlds.{IsFatedDisk, IsFatedOutlet, IsNewOracle, TellsNothing};
+ghost use Rattle.ken_drive.specs.Worlds.{IsFatedDisk, IsFatedOutlet};
+ghost use Rattle.ken_run.specs.Devices.{IsNewOracle, TellsNothing};
 
 use ken_app::Oracle;
 use ken_disk::Disk;

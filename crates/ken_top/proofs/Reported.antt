@@ -28,9 +28,9 @@ use Rattle.ken_check.specs.Judged.{IsJudged}
 use Rattle.ken_check.specs.Right.{AreRestartsSoFar}
 use Rattle.ken_check.proofs.Reports.{reports_are_right}
 use Rattle.ken_store.specs.declared.disks.Disks.{Disks}
-use Rattle.ken_drive.specs.declared.faults.RunFault.{RunFault}
-use Rattle.ken_drive.specs.declared.faults.RunFault.TheVariants as running
-use Rattle.ken_drive.specs.Accounts.{Terms}
+use Rattle.ken_run.specs.declared.faults.RunFault.{RunFault}
+use Rattle.ken_run.specs.declared.faults.RunFault.TheVariants as running
+use Rattle.ken_run.specs.Accounts.{Terms}
 use Rattle.ken_drive.specs.Driven.{DrivesBy, HasDriven, KeepsRun, Views}
 use Rattle.ken_drive.specs.Ended.{IsRunOf}
 use Rattle.ken_drive.specs.Starting.{terms_of}

@@ -1,7 +1,7 @@
 -- The statuses of faults, and the exit codes and texts of statuses.
 use Rattle.std.specs.Prelude.{ℕ, List, [], ◌++◌, codes, decimal}
-use Rattle.ken_drive.specs.declared.faults.RunFault.{RunFault}
-use Rattle.ken_drive.specs.declared.faults.RunFault.TheVariants as running
+use Rattle.ken_run.specs.declared.faults.RunFault.{RunFault}
+use Rattle.ken_run.specs.declared.faults.RunFault.TheVariants as running
 use Rattle.ken_io.specs.declared.faults.ReadFault.{ReadFault}
 use Rattle.ken_io.specs.declared.faults.ReadFault.TheVariants as reading
 use Rattle.ken_model.specs.declared.reports.Ending.{Ending}

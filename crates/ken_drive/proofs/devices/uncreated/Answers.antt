@@ -1,7 +1,7 @@
 -- A node that isn't created yet, over empty disks.
 use Rattle.ken_model.specs.Game.{game_of}
 use Rattle.ken_drive.specs.Starting.{terms_of}
-use Rattle.ken_drive.proofs.StartingNode.{fresh-blank}
+use Rattle.ken_run.proofs.StartingNode.{fresh-blank}
 use Rattle.ken_drive.proofs.devices.uncreated.Goals as goal
 
 pub returns-in-Ok-clause-blank : goal.returns-in-Ok-clause-blank

@@ -1,8 +1,9 @@
 -- A run of a script, from its start to its end.
 use Rattle.std.proofs.Common.{◌∙◌, Err, refl, subst, arith}
-use Rattle.ken_drive.specs.declared.faults.RunFault.TheVariants.{Down}
+use Rattle.ken_run.specs.declared.faults.RunFault.TheVariants.{Down}
 use Rattle.ken_drive.specs.Driven.{EndsBy}
-use Rattle.ken_drive.specs.Starting.{game_by, running_of, terms_of}
+use Rattle.ken_drive.specs.Starting.{game_by, terms_of}
+use Rattle.ken_run.specs.Creating.{running_of}
 use Rattle.ken_drive.proofs.Acts.{script-modest}
 use Rattle.ken_drive.proofs.Stopping.{end-drives, end-lets, start-drives, start-lets}
 use Rattle.ken_drive.proofs.driving.drive.Goals as goal
@@ -26,7 +27,7 @@ returns-in-Ok-clause-drives g c =
     let told = c.in-Ok.ensures.tells (terms_of g.W.World.scripted c.args.script.now) (game_by (g.A.App.handler c.args.app) c.args.script.now) c.args.script.now.facts.nodes (running_of (λ w. g.W.Dev.Disk.told w.disk) (λ w. g.W.Dev.Disk.size w.disk) g.W.Out.Outlet.took g.A.App.handler (game_by (g.A.App.handler c.args.app) c.args.script.now) c.args.script.now.facts.nodes c.in_ok-run.run' c.in_ok-run.ensures.starts.0.started) refl c.in_ok-run.ensures.accounts c.in_ok-run.ensures.refused c.requires.rules.plain in
     record {
       run = told.report.run;
-      keeps = c.ended_runs_keep.ensures g.W.World.scripted (game_by (g.A.App.handler c.args.app) c.args.script.now) c.told.new.self (terms_of g.W.World.scripted c.args.script.now) c.in-Ok.lines told.ended told.report told.accounts told.refusals c.in-Ok.ensures.images c.requires.rules.restarts (g.W.World.kept c.finish.new.world) c.finish.ensures.given
+      keeps = c.ended_runs_keep.ensures g.W.World.scripted (game_by (g.A.App.handler c.args.app) c.args.script.now) c.told.new.run (terms_of g.W.World.scripted c.args.script.now) c.in-Ok.lines told.ended told.report told.accounts told.refusals c.in-Ok.ensures.images c.requires.rules.restarts (g.W.World.kept c.finish.new.world) c.finish.ensures.given
           (λ v high. c.finish.ensures.others v high ∙ c.in_ok-run.ensures.starts.1 v);
     }
 
@@ -40,28 +41,28 @@ returns-in_err-run-clause-lets g c = λ tells.
 
 pub finish-requires-in-Err-Down : goal.finish-requires-in-Err-Down
 finish-requires-in-Err-Down g c =
-    let stopped = subst (λ x. EndsBy (λ w. g.W.Dev.Disk.told w.disk) (λ w. g.W.Dev.Disk.size w.disk) (λ w. g.W.Dev.Disk.faults w.disk) (λ w. g.W.Dev.Disk.fate w.disk) g.W.Luck.Oracle.telling g.W.Out.Outlet.took g.A.App.handler g.W.Out.Outlet.faults g.W.Out.Outlet.fate (terms_of g.W.World.scripted c.args.script.now) (game_by (g.A.App.handler c.args.app) c.args.script.now) (Err x) c.told.new.self) c.in-Err-Down.field-0-is (c.in-Err-Down.ensures.tells (terms_of g.W.World.scripted c.args.script.now) (game_by (g.A.App.handler c.args.app) c.args.script.now) c.args.script.now.facts.nodes (running_of (λ w. g.W.Dev.Disk.told w.disk) (λ w. g.W.Dev.Disk.size w.disk) g.W.Out.Outlet.took g.A.App.handler (game_by (g.A.App.handler c.args.app) c.args.script.now) c.args.script.now.facts.nodes c.in_ok-run.run' c.in_ok-run.ensures.starts.0.started) refl c.in_ok-run.ensures.accounts c.in_ok-run.ensures.refused c.requires.rules.plain) in
+    let stopped = subst (λ x. EndsBy (λ w. g.W.Dev.Disk.told w.disk) (λ w. g.W.Dev.Disk.size w.disk) (λ w. g.W.Dev.Disk.faults w.disk) (λ w. g.W.Dev.Disk.fate w.disk) g.W.Luck.Oracle.telling g.W.Out.Outlet.took g.A.App.handler g.W.Out.Outlet.faults g.W.Out.Outlet.fate (terms_of g.W.World.scripted c.args.script.now) (game_by (g.A.App.handler c.args.app) c.args.script.now) (Err x) c.told.new.run) c.in-Err-Down.field-0-is (c.in-Err-Down.ensures.tells (terms_of g.W.World.scripted c.args.script.now) (game_by (g.A.App.handler c.args.app) c.args.script.now) c.args.script.now.facts.nodes (running_of (λ w. g.W.Dev.Disk.told w.disk) (λ w. g.W.Dev.Disk.size w.disk) g.W.Out.Outlet.took g.A.App.handler (game_by (g.A.App.handler c.args.app) c.args.script.now) c.args.script.now.facts.nodes c.in_ok-run.run' c.in_ok-run.ensures.starts.0.started) refl c.in_ok-run.ensures.accounts c.in_ok-run.ensures.refused c.requires.rules.plain) in
     let width = stopped.width in
     let few = c.requires.rules.limits.few_nodes in
     (c.type_bounds.send-W-Dev, (c.type_bounds.send-W-Luck, (c.type_bounds.send-W-Out, omega (arith, width, few))))
 
 pub returns-in-Err-Down-clause-drives : goal.returns-in-Err-Down-clause-drives
 returns-in-Err-Down-clause-drives g c =
-    end-drives (record { told = g.W.Dev.Disk.told; faults = g.W.Dev.Disk.faults; fate = g.W.Dev.Disk.fate; telling = g.W.Luck.Oracle.telling; took = g.W.Out.Outlet.took; refused = g.W.Out.Outlet.faults; calls = g.W.Out.Outlet.fate; scripted = g.W.World.scripted }) (g.A.App.handler c.args.app) c.args.script.now c.requires.rules (λ w. g.W.Dev.Disk.size w.disk) g.A.App.handler c.told.new.self (g.W.World.kept c.finish-in-Err-Down.new.world) c.finish-in-Err-Down.ensures.given
-    (λ v high. c.finish-in-Err-Down.ensures.others v high ∙ c.in_ok-run.ensures.starts.1 v) (Down c.in-Err-Down.node) (λ is. absurd (cc)) (subst (λ x. EndsBy (λ w. g.W.Dev.Disk.told w.disk) (λ w. g.W.Dev.Disk.size w.disk) (λ w. g.W.Dev.Disk.faults w.disk) (λ w. g.W.Dev.Disk.fate w.disk) g.W.Luck.Oracle.telling g.W.Out.Outlet.took g.A.App.handler g.W.Out.Outlet.faults g.W.Out.Outlet.fate (terms_of g.W.World.scripted c.args.script.now) (game_by (g.A.App.handler c.args.app) c.args.script.now) (Err x) c.told.new.self) c.in-Err-Down.field-0-is (c.in-Err-Down.ensures.tells (terms_of g.W.World.scripted c.args.script.now) (game_by (g.A.App.handler c.args.app) c.args.script.now) c.args.script.now.facts.nodes (running_of (λ w. g.W.Dev.Disk.told w.disk) (λ w. g.W.Dev.Disk.size w.disk) g.W.Out.Outlet.took g.A.App.handler (game_by (g.A.App.handler c.args.app) c.args.script.now) c.args.script.now.facts.nodes c.in_ok-run.run' c.in_ok-run.ensures.starts.0.started) refl c.in_ok-run.ensures.accounts c.in_ok-run.ensures.refused c.requires.rules.plain))
+    end-drives (record { told = g.W.Dev.Disk.told; faults = g.W.Dev.Disk.faults; fate = g.W.Dev.Disk.fate; telling = g.W.Luck.Oracle.telling; took = g.W.Out.Outlet.took; refused = g.W.Out.Outlet.faults; calls = g.W.Out.Outlet.fate; scripted = g.W.World.scripted }) (g.A.App.handler c.args.app) c.args.script.now c.requires.rules (λ w. g.W.Dev.Disk.size w.disk) g.A.App.handler c.told.new.run (g.W.World.kept c.finish-in-Err-Down.new.world) c.finish-in-Err-Down.ensures.given
+    (λ v high. c.finish-in-Err-Down.ensures.others v high ∙ c.in_ok-run.ensures.starts.1 v) (Down c.in-Err-Down.node) (λ is. absurd (cc)) (subst (λ x. EndsBy (λ w. g.W.Dev.Disk.told w.disk) (λ w. g.W.Dev.Disk.size w.disk) (λ w. g.W.Dev.Disk.faults w.disk) (λ w. g.W.Dev.Disk.fate w.disk) g.W.Luck.Oracle.telling g.W.Out.Outlet.took g.A.App.handler g.W.Out.Outlet.faults g.W.Out.Outlet.fate (terms_of g.W.World.scripted c.args.script.now) (game_by (g.A.App.handler c.args.app) c.args.script.now) (Err x) c.told.new.run) c.in-Err-Down.field-0-is (c.in-Err-Down.ensures.tells (terms_of g.W.World.scripted c.args.script.now) (game_by (g.A.App.handler c.args.app) c.args.script.now) c.args.script.now.facts.nodes (running_of (λ w. g.W.Dev.Disk.told w.disk) (λ w. g.W.Dev.Disk.size w.disk) g.W.Out.Outlet.took g.A.App.handler (game_by (g.A.App.handler c.args.app) c.args.script.now) c.args.script.now.facts.nodes c.in_ok-run.run' c.in_ok-run.ensures.starts.0.started) refl c.in_ok-run.ensures.accounts c.in_ok-run.ensures.refused c.requires.rules.plain))
 
 pub returns-in-Err-Down-clause-lets : goal.returns-in-Err-Down-clause-lets
 returns-in-Err-Down-clause-lets g c = λ tells.
-    end-lets (record { told = g.W.Dev.Disk.told; faults = g.W.Dev.Disk.faults; fate = g.W.Dev.Disk.fate; telling = g.W.Luck.Oracle.telling; took = g.W.Out.Outlet.took; refused = g.W.Out.Outlet.faults; calls = g.W.Out.Outlet.fate; scripted = g.W.World.scripted }) (g.A.App.handler c.args.app) c.args.script.now c.requires.rules (λ w. g.W.Dev.Disk.size w.disk) g.A.App.handler c.told.new.self (g.W.World.kept c.finish-in-Err-Down.new.world) c.finish-in-Err-Down.ensures.given (Down c.in-Err-Down.node) tells (subst (λ x. EndsBy (λ w. g.W.Dev.Disk.told w.disk) (λ w. g.W.Dev.Disk.size w.disk) (λ w. g.W.Dev.Disk.faults w.disk) (λ w. g.W.Dev.Disk.fate w.disk) g.W.Luck.Oracle.telling g.W.Out.Outlet.took g.A.App.handler g.W.Out.Outlet.faults g.W.Out.Outlet.fate (terms_of g.W.World.scripted c.args.script.now) (game_by (g.A.App.handler c.args.app) c.args.script.now) (Err x) c.told.new.self) c.in-Err-Down.field-0-is (c.in-Err-Down.ensures.tells (terms_of g.W.World.scripted c.args.script.now) (game_by (g.A.App.handler c.args.app) c.args.script.now) c.args.script.now.facts.nodes (running_of (λ w. g.W.Dev.Disk.told w.disk) (λ w. g.W.Dev.Disk.size w.disk) g.W.Out.Outlet.took g.A.App.handler (game_by (g.A.App.handler c.args.app) c.args.script.now) c.args.script.now.facts.nodes c.in_ok-run.run' c.in_ok-run.ensures.starts.0.started) refl c.in_ok-run.ensures.accounts c.in_ok-run.ensures.refused c.requires.rules.plain))
+    end-lets (record { told = g.W.Dev.Disk.told; faults = g.W.Dev.Disk.faults; fate = g.W.Dev.Disk.fate; telling = g.W.Luck.Oracle.telling; took = g.W.Out.Outlet.took; refused = g.W.Out.Outlet.faults; calls = g.W.Out.Outlet.fate; scripted = g.W.World.scripted }) (g.A.App.handler c.args.app) c.args.script.now c.requires.rules (λ w. g.W.Dev.Disk.size w.disk) g.A.App.handler c.told.new.run (g.W.World.kept c.finish-in-Err-Down.new.world) c.finish-in-Err-Down.ensures.given (Down c.in-Err-Down.node) tells (subst (λ x. EndsBy (λ w. g.W.Dev.Disk.told w.disk) (λ w. g.W.Dev.Disk.size w.disk) (λ w. g.W.Dev.Disk.faults w.disk) (λ w. g.W.Dev.Disk.fate w.disk) g.W.Luck.Oracle.telling g.W.Out.Outlet.took g.A.App.handler g.W.Out.Outlet.faults g.W.Out.Outlet.fate (terms_of g.W.World.scripted c.args.script.now) (game_by (g.A.App.handler c.args.app) c.args.script.now) (Err x) c.told.new.run) c.in-Err-Down.field-0-is (c.in-Err-Down.ensures.tells (terms_of g.W.World.scripted c.args.script.now) (game_by (g.A.App.handler c.args.app) c.args.script.now) c.args.script.now.facts.nodes (running_of (λ w. g.W.Dev.Disk.told w.disk) (λ w. g.W.Dev.Disk.size w.disk) g.W.Out.Outlet.took g.A.App.handler (game_by (g.A.App.handler c.args.app) c.args.script.now) c.args.script.now.facts.nodes c.in_ok-run.run' c.in_ok-run.ensures.starts.0.started) refl c.in_ok-run.ensures.accounts c.in_ok-run.ensures.refused c.requires.rules.plain))
 
 pub finish-requires-in-Err-Damaged : goal.finish-requires-in-Err-Damaged
-finish-requires-in-Err-Damaged g c = absurd (subst (λ x. EndsBy (λ w. g.W.Dev.Disk.told w.disk) (λ w. g.W.Dev.Disk.size w.disk) (λ w. g.W.Dev.Disk.faults w.disk) (λ w. g.W.Dev.Disk.fate w.disk) g.W.Luck.Oracle.telling g.W.Out.Outlet.took g.A.App.handler g.W.Out.Outlet.faults g.W.Out.Outlet.fate (terms_of g.W.World.scripted c.args.script.now) (game_by (g.A.App.handler c.args.app) c.args.script.now) (Err x) c.told.new.self) c.in-Err-Damaged.field-0-is (c.in-Err-Damaged.ensures.tells (terms_of g.W.World.scripted c.args.script.now) (game_by (g.A.App.handler c.args.app) c.args.script.now) c.args.script.now.facts.nodes (running_of (λ w. g.W.Dev.Disk.told w.disk) (λ w. g.W.Dev.Disk.size w.disk) g.W.Out.Outlet.took g.A.App.handler (game_by (g.A.App.handler c.args.app) c.args.script.now) c.args.script.now.facts.nodes c.in_ok-run.run' c.in_ok-run.ensures.starts.0.started) refl c.in_ok-run.ensures.accounts c.in_ok-run.ensures.refused c.requires.rules.plain))
+finish-requires-in-Err-Damaged g c = absurd (subst (λ x. EndsBy (λ w. g.W.Dev.Disk.told w.disk) (λ w. g.W.Dev.Disk.size w.disk) (λ w. g.W.Dev.Disk.faults w.disk) (λ w. g.W.Dev.Disk.fate w.disk) g.W.Luck.Oracle.telling g.W.Out.Outlet.took g.A.App.handler g.W.Out.Outlet.faults g.W.Out.Outlet.fate (terms_of g.W.World.scripted c.args.script.now) (game_by (g.A.App.handler c.args.app) c.args.script.now) (Err x) c.told.new.run) c.in-Err-Damaged.field-0-is (c.in-Err-Damaged.ensures.tells (terms_of g.W.World.scripted c.args.script.now) (game_by (g.A.App.handler c.args.app) c.args.script.now) c.args.script.now.facts.nodes (running_of (λ w. g.W.Dev.Disk.told w.disk) (λ w. g.W.Dev.Disk.size w.disk) g.W.Out.Outlet.took g.A.App.handler (game_by (g.A.App.handler c.args.app) c.args.script.now) c.args.script.now.facts.nodes c.in_ok-run.run' c.in_ok-run.ensures.starts.0.started) refl c.in_ok-run.ensures.accounts c.in_ok-run.ensures.refused c.requires.rules.plain))
 
 pub returns-in-Err-Damaged-clause-drives : goal.returns-in-Err-Damaged-clause-drives
-returns-in-Err-Damaged-clause-drives g c = subst (λ x. EndsBy (λ w. g.W.Dev.Disk.told w.disk) (λ w. g.W.Dev.Disk.size w.disk) (λ w. g.W.Dev.Disk.faults w.disk) (λ w. g.W.Dev.Disk.fate w.disk) g.W.Luck.Oracle.telling g.W.Out.Outlet.took g.A.App.handler g.W.Out.Outlet.faults g.W.Out.Outlet.fate (terms_of g.W.World.scripted c.args.script.now) (game_by (g.A.App.handler c.args.app) c.args.script.now) (Err x) c.told.new.self) c.in-Err-Damaged.field-0-is (c.in-Err-Damaged.ensures.tells (terms_of g.W.World.scripted c.args.script.now) (game_by (g.A.App.handler c.args.app) c.args.script.now) c.args.script.now.facts.nodes (running_of (λ w. g.W.Dev.Disk.told w.disk) (λ w. g.W.Dev.Disk.size w.disk) g.W.Out.Outlet.took g.A.App.handler (game_by (g.A.App.handler c.args.app) c.args.script.now) c.args.script.now.facts.nodes c.in_ok-run.run' c.in_ok-run.ensures.starts.0.started) refl c.in_ok-run.ensures.accounts c.in_ok-run.ensures.refused c.requires.rules.plain)
+returns-in-Err-Damaged-clause-drives g c = subst (λ x. EndsBy (λ w. g.W.Dev.Disk.told w.disk) (λ w. g.W.Dev.Disk.size w.disk) (λ w. g.W.Dev.Disk.faults w.disk) (λ w. g.W.Dev.Disk.fate w.disk) g.W.Luck.Oracle.telling g.W.Out.Outlet.took g.A.App.handler g.W.Out.Outlet.faults g.W.Out.Outlet.fate (terms_of g.W.World.scripted c.args.script.now) (game_by (g.A.App.handler c.args.app) c.args.script.now) (Err x) c.told.new.run) c.in-Err-Damaged.field-0-is (c.in-Err-Damaged.ensures.tells (terms_of g.W.World.scripted c.args.script.now) (game_by (g.A.App.handler c.args.app) c.args.script.now) c.args.script.now.facts.nodes (running_of (λ w. g.W.Dev.Disk.told w.disk) (λ w. g.W.Dev.Disk.size w.disk) g.W.Out.Outlet.took g.A.App.handler (game_by (g.A.App.handler c.args.app) c.args.script.now) c.args.script.now.facts.nodes c.in_ok-run.run' c.in_ok-run.ensures.starts.0.started) refl c.in_ok-run.ensures.accounts c.in_ok-run.ensures.refused c.requires.rules.plain)
 
 pub returns-in-Err-Damaged-clause-lets : goal.returns-in-Err-Damaged-clause-lets
-returns-in-Err-Damaged-clause-lets g c = λ tells. subst (λ x. EndsBy (λ w. g.W.Dev.Disk.told w.disk) (λ w. g.W.Dev.Disk.size w.disk) (λ w. g.W.Dev.Disk.faults w.disk) (λ w. g.W.Dev.Disk.fate w.disk) g.W.Luck.Oracle.telling g.W.Out.Outlet.took g.A.App.handler g.W.Out.Outlet.faults g.W.Out.Outlet.fate (terms_of g.W.World.scripted c.args.script.now) (game_by (g.A.App.handler c.args.app) c.args.script.now) (Err x) c.told.new.self) c.in-Err-Damaged.field-0-is (c.in-Err-Damaged.ensures.tells (terms_of g.W.World.scripted c.args.script.now) (game_by (g.A.App.handler c.args.app) c.args.script.now) c.args.script.now.facts.nodes (running_of (λ w. g.W.Dev.Disk.told w.disk) (λ w. g.W.Dev.Disk.size w.disk) g.W.Out.Outlet.took g.A.App.handler (game_by (g.A.App.handler c.args.app) c.args.script.now) c.args.script.now.facts.nodes c.in_ok-run.run' c.in_ok-run.ensures.starts.0.started) refl c.in_ok-run.ensures.accounts c.in_ok-run.ensures.refused c.requires.rules.plain)
+returns-in-Err-Damaged-clause-lets g c = λ tells. subst (λ x. EndsBy (λ w. g.W.Dev.Disk.told w.disk) (λ w. g.W.Dev.Disk.size w.disk) (λ w. g.W.Dev.Disk.faults w.disk) (λ w. g.W.Dev.Disk.fate w.disk) g.W.Luck.Oracle.telling g.W.Out.Outlet.took g.A.App.handler g.W.Out.Outlet.faults g.W.Out.Outlet.fate (terms_of g.W.World.scripted c.args.script.now) (game_by (g.A.App.handler c.args.app) c.args.script.now) (Err x) c.told.new.run) c.in-Err-Damaged.field-0-is (c.in-Err-Damaged.ensures.tells (terms_of g.W.World.scripted c.args.script.now) (game_by (g.A.App.handler c.args.app) c.args.script.now) c.args.script.now.facts.nodes (running_of (λ w. g.W.Dev.Disk.told w.disk) (λ w. g.W.Dev.Disk.size w.disk) g.W.Out.Outlet.took g.A.App.handler (game_by (g.A.App.handler c.args.app) c.args.script.now) c.args.script.now.facts.nodes c.in_ok-run.run' c.in_ok-run.ensures.starts.0.started) refl c.in_ok-run.ensures.accounts c.in_ok-run.ensures.refused c.requires.rules.plain)
 
 pub returns-in-Err-Memory-clause-drives : goal.returns-in-Err-Memory-clause-drives
 returns-in-Err-Memory-clause-drives g c = c.in_ok-run.ensures.starts.1

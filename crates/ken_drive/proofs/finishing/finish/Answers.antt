@@ -8,7 +8,7 @@ use Rattle.ken_drive.proofs.finishing.finish.Goals as goal
 pub loop-node-init : goal.loop-node-init
 loop-node-init g c =
     let is = c.into_iter-node-iterator.ensures.into_iter_gives in
-    let items = ap (λ i. i.b.rest.items) is ∙ c.zip-node-items.ensures.second.0 in
+    let items = ap (λ i. i.b.rest.items) is ∙ c.zip-node-items.ensures.second.0 ∙ ap (λ s. s.items) c.into_stations.ensures in
     let count = ap (λ i. i.a.start) is ∙ ap (λ r. r.start) c.zip-node-items.ensures.first in
     subst (λ xs. AreGiven (λ s k. WasKept s k) c.args.run.stations.items xs c.into_iter-node-iterator.result.a.start (g.W.World.kept c.args.world.now) (g.W.World.kept c.args.world.now)) (sym items)
     (subst (λ n. AreGiven (λ s k. WasKept s k) c.args.run.stations.items c.args.run.stations.items n (g.W.World.kept c.args.world.now) (g.W.World.kept c.args.world.now)) (sym count)

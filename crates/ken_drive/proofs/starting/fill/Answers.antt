@@ -1,11 +1,11 @@
 -- One node after the other.
 use mir.Syntax.{of_param}
 use Rattle.std.proofs.Common.{◌∙◌, ℕ, refl, subst, arith}
-use Rattle.ken_drive.specs.Accounts.{AreAccounted}
-use Rattle.ken_drive.specs.Refusals.{AreRefused}
+use Rattle.ken_run.specs.Accounts.{AreAccounted}
+use Rattle.ken_run.specs.Refusals.{AreRefused}
 use Rattle.ken_drive.specs.Starting.{game_by, terms_of}
 use Rattle.ken_drive.proofs.StartingAll.{accounts-filled, all-have-started, born-of, down-at, failed-not-ok, fills-handed-on, memory-fills, next-accounts, none-have-started, next-joins, next-joined, next-failed, own-fails}
-use Rattle.ken_drive.specs.declared.faults.RunFault.TheVariants.{Memory}
+use Rattle.ken_run.specs.declared.faults.RunFault.TheVariants.{Memory}
 use Rattle.ken_drive.proofs.starting.fill.Goals as goal
 
 pub loop-node-init : goal.loop-node-init

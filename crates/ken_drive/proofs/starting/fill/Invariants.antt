@@ -1,6 +1,6 @@
 use Rattle.std.proofs.Common.{◌≡◌, ℕ}
-use Rattle.ken_drive.specs.Accounts.{AreAccounted}
-use Rattle.ken_drive.specs.Refusals.{AreRefused}
+use Rattle.ken_run.specs.Accounts.{AreAccounted}
+use Rattle.ken_run.specs.Refusals.{AreRefused}
 use Rattle.ken_drive.specs.Starting.{HaveStarted, game_by, terms_of}
 use Rattle.ken_drive.proofs.starting.fill.Given as goal
 

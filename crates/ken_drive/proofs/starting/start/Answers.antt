@@ -1,7 +1,8 @@
 -- All nodes have started, or what was made is given back.
 use Rattle.std.proofs.Common.{◌∙◌, Ok, Err, arith, subst, sym}
-use Rattle.ken_drive.specs.declared.faults.RunFault.TheVariants.{Down}
-use Rattle.ken_drive.specs.Starting.{FillsAccountsBy, FillsBy, IsStarted, StartsAccountsBy, StartsBy, game_by, terms_of}
+use Rattle.ken_run.specs.declared.faults.RunFault.TheVariants.{Down}
+use Rattle.ken_drive.specs.Starting.{FillsAccountsBy, FillsBy, StartsAccountsBy, StartsBy, game_by, terms_of}
+use Rattle.ken_run.specs.Creating.{IsStarted}
 use Rattle.ken_drive.proofs.StartingAll.{failed-not-ok, given-back, kept-down, kept-no-other, memory-started, memory-starts}
 use Rattle.ken_drive.proofs.starting.start.Goals as goal
 

@@ -1,5 +1,0 @@
-use Rattle.ken_drive.specs.Ended.{HaveSaid}
-use Rattle.ken_drive.proofs.run.Run.gather.Given as goal
-
-abbrev pub invariant-loop-node : goal.invariant-loop-node
-invariant-loop-node g l = HaveSaid l.node l.self.stations.items l.summary
