@@ -133,7 +133,7 @@ module _ {D O U A : Type 0} (told : Watched D → Option Story) (size : Watched 
   module _ (scripted : Bool) (telling : Telling O) (faults : U → ℕ) (fate : U → Option ship.Fate) (h : Handler) (script : Script) where
     -- so many nodes of the script's run have started, and the devices of each are its own
     pub record HaveStarted (made : ℕ) (r : Run D O U A) : Type 0 where
-      pub started : IsStarted (game_by h script) made r
+      pub started : IsStarted told size took handles (game_by h script) made r
       pub own : HaveOwn scripted telling took faults fate script made r
       pub most : r.restarts ≡ script.restarts
 

@@ -1,5 +1,5 @@
 -- Passes one after the other.
-use Rattle.std.proofs.Common.{arith, ◌≡◌, ◌∙◌, ◌<◌, ap, sym, inl, inr, length, slice_index_or, Some, None, [], ◌∷◌, ◌++◌, ℕ, List, Bool, true, false, Option, Result, Ok, Err, refl, subst}
+use Rattle.std.proofs.Common.{arith, ◌≡◌, ◌∙◌, ◌<◌, sym, inl, inr, length, slice_index_or, Some, None, [], ◌∷◌, ◌++◌, ℕ, List, Bool, true, false, Option, Result, Ok, Err, refl, subst}
 use Rattle.std.specs.List.{AllByRecursion}
 use Rattle.std.specs.Result.{IsErrAnd}
 use Rattle.ken_disk.specs.Story.{Story}
@@ -14,7 +14,7 @@ use Rattle.ken_run.specs.Drained.{DrainsTo, HasDrained, HasNotEnded, PassesOn, P
 use Rattle.ken_run.specs.declared.station.Station.{Station}
 use Rattle.ken_disk.specs.Story.{Follows, IsAtRest, Tells}
 use Rattle.ken_node.specs.Stages.{image_told, turns_in}
-use Rattle.ken_run.specs.Patched.{AllVisited, HasGoneOn, HasItsImage, HaveImages, IsPatched, WasVisited}
+use Rattle.ken_run.specs.Patched.{AllVisited, HasGoneOn, HasItsImage, HaveImages, WasVisited}
 
 -- what was at rest after a change is
 rests-now : (old new : Option Story) (R : Story → Story → Type 0) → Follows (λ (a b : Story). IsAtRest b.now × R a b) old new → Tells new (λ h. IsAtRest h.now)
