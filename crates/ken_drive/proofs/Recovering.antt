@@ -1,7 +1,7 @@
 -- A node that is up is recovered at its place of the network.
-use Rattle.std.proofs.Common.{arith, ◌≡◌, ◌≢◌, ◌∙◌, ◌*◌, ℕ, ◌<◌, ◌≤◌, List, [], ◌++◌, length, drop, take, slice_index, Option, Some, refl, sym, ap, subst}
+use Rattle.std.proofs.Common.{arith, ◌≡◌, ◌≢◌, ◌∙◌, ◌*◌, ℕ, ◌<◌, ◌≤◌, List, [], length, drop, take, slice_index, Option, Some, refl, sym, ap, subst}
 use Rattle.std.proofs.lemmas.List.{append_cancel_left, append-nil}
-use Rattle.ken_cover.specs.Sides.{ImagePages, pages_of}
+use Rattle.ken_cover.specs.Sides.{pages_of}
 use Rattle.ken_cover.specs.Overlay.{overlay}
 use Rattle.ken_disk.specs.Story.{Story, IsAtRest, Tells}
 use Rattle.ken_model.specs.declared.reports.Emission.{Emission}

@@ -14,7 +14,7 @@ use Rattle.ken_model.specs.declared.values.Value.{Value}
 use Rattle.ken_model.specs.Effects.{Effect, answered, refused}
 use Rattle.ken_model.specs.Heap.{first_gap, with_block, without_block}
 use Rattle.ken_model.specs.KeyValue.{Command, Put, Get, Delete, at_space, put_of, key_of, command_in, command_of, is_key, pair_of, without_pair, put_at, get_from, delete_from, kv}
-use Rattle.ken_model.specs.Bank.{Order, Open, Move, Credit, account_of, balance_of, credit_text, opened, moved, with_credit, bank, order_of}
+use Rattle.ken_model.specs.Bank.{Order, Open, Move, Credit, account_of, balance_of, credit_text, opened, moved, bank, order_of}
 use Rattle.ken_model.specs.Kinds.{after, handler_of, ring, tally, share, mix, mix_counts, without_draws, to_others}
 use Rattle.ken_model.specs.Network.{empty_heap}
 use Rattle.ken_model.specs.Report.{IsOneLine}
