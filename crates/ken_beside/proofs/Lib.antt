@@ -20,3 +20,4 @@ pub mod Rounds
 pub mod Heard
 pub mod FailingSynced
 pub mod Failing
+pub mod Meetings

@@ -9,3 +9,4 @@ pub mod Beside
 pub mod Rounds
 pub mod Heard
 pub mod Failing
+pub mod Meetings

@@ -7,6 +7,7 @@ ghost use Rattle.ken_beside.specs.Failing.{FailureBeside};
 ghost use Rattle.ken_beside.specs.GoingOn.{HandlerGoesOn, PatcherGoesOn, SenderGoesOn};
 ghost use Rattle.ken_beside.specs.Puts.{PutsHandInThemselves, ShuffledAreAmong};
 ghost use Rattle.ken_beside.specs.Heard.{HeardCome};
+ghost use Rattle.ken_beside.specs.Meetings.{CallAndMeeting, FailedCallAndMeeting, FailureAndMeeting, StepsAndMeeting};
 ghost use Rattle.ken_beside.specs.On.{MeetingIsUp, UpIsOnAlways};
 ghost use Rattle.ken_beside.specs.Rounds.{RoundsKeepGroup};
 
@@ -88,4 +89,17 @@ pub fn up_is_on<D: Disk>()
 /// A node on its way is up after a meeting that empties its rings.
 pub fn a_meeting_is_up<D: Disk>()
     ensures { MeetingIsUp D.told D.size }
+{}
+
+/// So many steps of a node's three workers, however they came, and a meeting after them leave a node that is up where their events lead
+/// to, with its accounts. Where the handler's last call failed it went down there, and may be restarted after the meeting.
+pub fn steps_and_a_meeting<D: Disk, N: Net, O: Oracle, U: Outlet>()
+    ensures up { StepsAndMeeting D.Disk N.Net O.Oracle U.Outlet }
+    ensures down { FailureAndMeeting D.Disk N.Net O.Oracle U.Outlet }
+{}
+
+/// So of one call of a node that was up, with a meeting after it, as a drain makes them.
+pub fn a_call_and_a_meeting<D: Disk, N: Net, O: Oracle, U: Outlet>()
+    ensures up { CallAndMeeting D.Disk N.Net O.Oracle U.Outlet }
+    ensures down { FailedCallAndMeeting D.Disk N.Net O.Oracle U.Outlet }
 {}

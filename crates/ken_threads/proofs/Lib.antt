@@ -1,4 +1,12 @@
 mod Back
+mod CrewRan
 mod Following
+mod Kept
+mod Mapped
+mod Ready
+mod Rounding
 mod Rows
+mod Seated
+mod Stops
 mod Told
+mod Went

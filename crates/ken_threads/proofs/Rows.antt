@@ -1,15 +1,16 @@
 -- The ends of one node more.
-use Rattle.std.proofs.Common.{◌≡◌, ◌∙◌, ℕ, ◌+◌, ◌<◌, List, [], ◌∷◌, ◌++◌, length, refl, sym, ap, subst, inl, inr, arith}
+use Rattle.std.proofs.Common.{◌≡◌, ◌∙◌, ℕ, ◌+◌, ◌<◌, List, [], ◌∷◌, ◌++◌, length, Vec, Global, refl, sym, ap, subst, inl, inr, arith}
 use Rattle.std.specs.Prelude.{slice_index_or}
 use Rattle.std.proofs.lemmas.Bool.{cases_lt}
-use Rattle.std.proofs.lemmas.List.{get_or_append_left}
+use Rattle.std.proofs.lemmas.List.{get_or_append_left, get_or-map, length-map}
 use Rattle.std.proofs.Math.Seq.{get_or-append_seam}
 use Rattle.ken_wire.specs.declared.send_end.SendEnd.{SendEnd}
 use Rattle.ken_wire.specs.declared.take_end.TakeEnd.{TakeEnd}
-use Rattle.ken_wire.specs.Ends.{SameTaker}
+use Rattle.ken_wire.specs.Ends.{SameTaker, taker_of}
 use Rattle.ken_wire.specs.Nets.{AreFrom}
 use Rattle.ken_wire.specs.Rounds.{AreUnused, AtEach, IsSeated}
-use Rattle.ken_threads.specs.Wires.{IsRow, IsUnused, of_node}
+use Rattle.ken_threads.specs.Wires.{AreWired, ends_of, IsRow, IsUnused, of_node}
+use Rattle.ken_threads.proofs.Seated.{IsFront, taken_at}
 
 -- an element at a place that there is
 pub some_at : {X : Type 0} (xs : List X) (k : ℕ) → k < length xs → X
@@ -71,3 +72,29 @@ rows_more n node old new rows row count before same one v low = elim (cases_lt v
 pub none_left : {X : Type 0} (xs : List X) → length xs ≡ 0 → xs ≡ []
 none_left [] none = refl
 none_left (x ∷ xs) none = absurd (omega (arith, none))
+
+-- the ends of a node, among those of all
+pub record AreEndsOf (n v : ℕ) (take : TakeEnd) (ends : Vec SendEnd Global) : Type 0 where
+  pub taker : taker_of take ≡ v
+  pub own : AreFrom v ends.items
+  pub count : length ends.items ≡ n
+
+pub row_items : (sends : List (Vec SendEnd Global)) (v : ℕ) (s : Vec SendEnd Global) → v < length sends → of_node v (ends_of sends) ≡ (slice_index_or sends v s).items
+row_items sends v s low = get_or-map (λ (x : Vec SendEnd Global). x.items) sends v s [] low
+
+pub ends_are : (n : ℕ) (takes : List TakeEnd) (sends : List (Vec SendEnd Global)) → AreWired n takes (ends_of sends) → (v : ℕ) (take : TakeEnd) (ends : Vec SendEnd Global) → v < n
+    → slice_index_or takes v take ≡ take → slice_index_or sends v ends ≡ ends → AreEndsOf n v take ends
+ends_are n takes sends wired v take ends low is_take is_ends =
+    let there : v < length sends = let count = wired.senders_count in let long = length-map sends (λ (x : Vec SendEnd Global). x.items) in omega (arith, low, count, long) in
+    let row = wired.rows v low in
+    let items : of_node v (ends_of sends) ≡ ends.items = row_items sends v ends there ∙ ap (λ (x : Vec SendEnd Global). x.items) is_ends in
+    record {
+      taker = ap taker_of (sym is_take) ∙ (wired.takers v take low).0;
+      own = subst (AreFrom v) items row.own;
+      count = ap (λ (l : List SendEnd). length l) (sym items) ∙ row.count;
+    }
+
+pub ends_taken : (n k : ℕ) (takes takes_now takes_rest : List TakeEnd) (take : TakeEnd) (sends sends_now sends_rest : List (Vec SendEnd Global)) (ends : Vec SendEnd Global) → AreWired n takes (ends_of sends) → k < n
+    → IsFront takes takes_now → takes_now ≡ takes_rest ++ take ∷ [] → k ≡ length takes_rest → IsFront sends sends_now → sends_now ≡ sends_rest ++ ends ∷ [] → k ≡ length sends_rest → AreEndsOf n k take ends
+ends_taken n k takes takes_now takes_rest take sends sends_now sends_rest ends wired low takes_front last_take at_take sends_front last_ends at_ends =
+    ends_are n takes sends wired k take ends low (taken_at takes takes_now takes_rest take take k takes_front last_take at_take) (taken_at sends sends_now sends_rest ends ends k sends_front last_ends at_ends)

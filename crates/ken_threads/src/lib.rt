@@ -1,14 +1,21 @@
-//! Parts of a round of threads: a worker's sixteen steps, the workers of all nodes side by side, and the wires between the nodes.
+//! A round of threads: the three workers of every node side by side, sixteen steps each, over wires of the round.
 #![tactic(auto)]
 
-mod crowd;
+mod crew;
 mod gate;
+mod rounds;
+mod seating;
+mod seats;
+mod team;
 mod wiring;
 mod works;
 
-pub use crowd::run_crowd;
+pub use crew::{Crew, Faults};
 pub use gate::{Gate, OpenGate, Role};
-pub use wiring::Wiring;
+pub use rounds::round;
+pub use seats::{HandlerSeat, SenderSeat};
+pub use team::{Team, run_teams};
+pub use wiring::{Ends, Wiring};
 pub use works::{STEPS, Seat, Works};
 
 #[cfg(test)]

@@ -1,6 +1,6 @@
 ghost use Rattle.std.specs.Prelude.{◌≡◌, ◌+◌, ℕ, ⊤};
 
-use crate::{Gate, OpenGate, Role, Seat, Works, run_crowd};
+use crate::{Gate, OpenGate, Role, Seat, Team, Works, run_teams};
 use ken_ship::NodeFault;
 use std::sync::atomic::{AtomicU64, Ordering};
 use std::thread;
@@ -38,6 +38,15 @@ fn seat(node: u8, fails_at: u64) -> Seat<Counter> {
     }
 }
 
+// The workers of a node, which fail at these steps.
+fn team(node: u8, fails_at: [u64; 3]) -> Team<Counter, Counter, Counter> {
+    Team {
+        handler: seat(node, fails_at[0]),
+        patcher: seat(node, fails_at[1]),
+        externaliser: seat(node, fails_at[2]),
+    }
+}
+
 // Node 0's handler waits before its first step until node 1's externaliser is asked for its first.
 #[derive(Drop)]
 struct Meeting {
@@ -71,29 +80,19 @@ fn workers_of_two_nodes_meet(rt: HostRuntime) {
         asked: AtomicU64::new(0),
         met: AtomicU64::new(0),
     };
-    let mut handlers = [seat(0, 0), seat(1, 0)];
-    let mut patchers = [seat(0, 0), seat(1, 0)];
-    let mut externalisers = [seat(0, 0), seat(1, 0)];
-    run_crowd(&rt, &mut handlers, &mut patchers, &mut externalisers, &gate);
+    let mut teams = [team(0, [0; 3]), team(1, [0; 3])];
+    run_teams(&rt, &mut teams, &gate);
     assert_eq!(rt; gate.met.load(Ordering::SeqCst), 1);
-    assert_eq!(rt; externalisers[1].worker.steps, 16);
+    assert_eq!(rt; teams[1].externaliser.worker.steps, 16);
 }
 
 #[test]
 fn a_worker_stops_at_its_first_fault(rt: HostRuntime) {
-    let mut handlers = [seat(0, 3)];
-    let mut patchers = [seat(0, 17)];
-    let mut externalisers = [seat(0, 16)];
-    run_crowd(
-        &rt,
-        &mut handlers,
-        &mut patchers,
-        &mut externalisers,
-        &OpenGate,
-    );
-    assert_eq!(rt; handlers[0].worker.steps, 3);
-    assert_eq!(rt; handlers[0].fault, Some(NodeFault::Disk));
-    assert_eq!(rt; patchers[0].worker.steps, 16);
-    assert_eq!(rt; patchers[0].fault, None);
-    assert_eq!(rt; externalisers[0].fault, Some(NodeFault::Disk));
+    let mut teams = [team(0, [3, 17, 16])];
+    run_teams(&rt, &mut teams, &OpenGate);
+    assert_eq!(rt; teams[0].handler.worker.steps, 3);
+    assert_eq!(rt; teams[0].handler.fault, Some(NodeFault::Disk));
+    assert_eq!(rt; teams[0].patcher.worker.steps, 16);
+    assert_eq!(rt; teams[0].patcher.fault, None);
+    assert_eq!(rt; teams[0].externaliser.fault, Some(NodeFault::Disk));
 }

@@ -1,5 +1,5 @@
 // The wires of one kind between the nodes of a round.
-ghost use Rattle.std.specs.Prelude.{◌≡◌, ◌≤◌, ℕ, length, map, IfOk};
+ghost use Rattle.std.specs.Prelude.{◌≡◌, ◌<◌, ◌≤◌, ◌+◌, ◌∷◌, ◌++◌, [], ℕ, length, map, vec_capacity, vec_len, IfOk};
 ghost use Rattle.std.specs.List.{All};
 ghost use Rattle.ken_wire.specs.Ends.{heard_of, joined_of, made_of, taker_of, WasHandedIn};
 ghost use Rattle.ken_wire.specs.Rounds.{AreNext, AreUnused};
@@ -15,6 +15,13 @@ pub struct Wiring {
     pub sends: Vec<Vec<SendEnd>>,
 }
 
+/// What a node has of the wires: the taking end of the one to it, and its sending ends, one of each wire, by number.
+#[derive(Drop)]
+pub struct Ends {
+    pub take: TakeEnd,
+    pub sends: Vec<SendEnd>,
+}
+
 impl Wiring {
     /// New wires between so many nodes.
     pub fn new(alloc: Global, nodes: u8) -> Result<Wiring, AllocError>
@@ -24,6 +31,32 @@ impl Wiring {
         let mut takes = takers(alloc, nodes)?;
         let sends = hand_out_all(alloc, nodes, takes.as_mut_slice())?;
         Ok(Wiring { takes, sends })
+    }
+
+    // The ends of the last node that has some here.
+    pub(crate) fn pop(&mut self) -> Ends
+        requires { (0 < length self.old.takes.items) × (0 < length self.old.sends.items) }
+        ensures takes { self.old.takes.items ≡ self.new.takes.items ++ result.take ∷ [] }
+        ensures sends { self.old.sends.items ≡ self.new.sends.items ++ result.sends ∷ [] }
+        ensures room { (vec_capacity self.new.takes ≡ vec_capacity self.old.takes) × (vec_capacity self.new.sends ≡ vec_capacity self.old.sends) }
+        ensures len { (vec_len self.new.takes + 1 ≡ vec_len self.old.takes) × (vec_len self.new.sends + 1 ≡ vec_len self.old.sends) }
+    {
+        match (self.takes.pop(), self.sends.pop()) {
+            (Some(take), Some(sends)) => Ends { take, sends },
+            _ => unreachable!(),
+        }
+    }
+
+    // The ends of the next node. There is room for them.
+    pub(crate) fn push(&mut self, ends: Ends)
+        requires { (vec_len self.old.takes < vec_capacity self.old.takes) × (vec_len self.old.sends < vec_capacity self.old.sends) }
+        ensures takes { self.new.takes.items ≡ self.old.takes.items ++ ends.take ∷ [] }
+        ensures sends { self.new.sends.items ≡ self.old.sends.items ++ ends.sends ∷ [] }
+        ensures room { (vec_capacity self.new.takes ≡ vec_capacity self.old.takes) × (vec_capacity self.new.sends ≡ vec_capacity self.old.sends) }
+        ensures len { (vec_len self.new.takes ≡ vec_len self.old.takes + 1) × (vec_len self.new.sends ≡ vec_len self.old.sends + 1) }
+    {
+        self.takes.push_reserved(ends.take);
+        self.sends.push_reserved(ends.sends);
     }
 
     /// Takes all ends back, and tells what the wires carried: each packet that was taken is one that its node may have put. What the
