@@ -1,6 +1,5 @@
 -- What workers made in a round.
-use Rattle.std.specs.Prelude.{◌≡◌, ℕ, ◌<◌, List, length, slice_index_or, Option, Some, None}
-use Rattle.std.specs.List.{All}
+use Rattle.std.specs.Prelude.{◌≡◌, ℕ, ◌<◌, List, length, Option, Some, None}
 use Rattle.ken_ship.specs.declared.faults.NodeFault.{NodeFault}
 use Rattle.ken_weave.specs.Workers.{Steps}
 use Rattle.ken_threads.specs.declared.works.Seat.{Seat}
@@ -22,12 +21,3 @@ module _ {W : Type 0} (steps : W → W → Type 0) (fails : NodeFault → W → 
   pub record HasRan (old new : Seat W) : Type 0 where
     pub node : new.node ≡ old.node
     pub ran : Ran old.worker new.worker new.fault
-
-  -- and of each of several
-  pub record HaveRan (old new : List (Seat W)) : Type 0 where
-    pub count : length new ≡ length old
-    pub each : (k : ℕ) (none : Seat W) → k < length old → HasRan (slice_index_or old k none) (slice_index_or new k none)
-
--- each may make sixteen steps
-abbrev pub MayRun : {W : Type 0} → (ℕ → W → Type 0) → List (Seat W) → Type 0
-MayRun may seats = All (λ seat. may 16 seat.worker) seats
