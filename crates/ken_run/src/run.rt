@@ -40,6 +40,7 @@ use ken_node::Watched;
 use ken_ship::{Emit, NodeFault, Outlet};
 use ken_work::Took;
 use std::alloc::Global;
+use std::mem;
 
 /// The nodes of a run with their devices, and what is on its way between them.
 #[derive(Drop)]
@@ -68,6 +69,39 @@ impl<D, O, U, A> Run<D, O, U, A> {
         ensures { (d : Stood D O U) → slice_index_or self.now.stations.items node d ≡ result.now }
     {
         &self.stations[usize::from(node)]
+    }
+}
+
+impl<D, O, U, A> Run<D, O, U, A> {
+    /// What all nodes run.
+    pub fn app(&self) -> &A
+        ensures { result.now ≡ self.now.app }
+    {
+        &self.app
+    }
+
+    /// How often a node may be restarted.
+    pub fn restarts(&self) -> u64
+        ensures { result ≡ self.now.restarts }
+    {
+        self.restarts
+    }
+}
+
+impl<D: Drop, O: Drop, U: Drop, A> Run<D, O, U, A> {
+    /// Takes all nodes out, in rising order, for calls of all of them at once. Until `put_stations` the run has none.
+    pub fn take_stations(&mut self) -> Vec<Station<D, O, U>>
+        ensures taken { result ≡ self.old.stations }
+        ensures rest { self.new ≡ record self.old { stations = self.new.stations } }
+    {
+        mem::replace(&mut self.stations, Vec::new(self.alloc))
+    }
+
+    /// Brings back the nodes that were taken out.
+    pub fn put_stations(&mut self, stations: Vec<Station<D, O, U>>)
+        ensures { self.new ≡ record self.old { stations = stations } }
+    {
+        self.stations = stations;
     }
 }
 
