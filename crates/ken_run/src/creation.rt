@@ -16,8 +16,9 @@ use ken_ship::{NodeFault, Outlet};
 use std::alloc::{AllocError, Global};
 
 impl<D: Disk, O: Oracle, U: Outlet> Station<D, O, U> {
-    /// Restarts the node until a restart answers. `Disk`: it was restarted `most` times, and is down.
-    pub(crate) fn raise(&mut self, most: u64) -> Result<(), NodeFault>
+    /// Restarts the node, which is down, until a restart answers. The errors are `Disk`: it was restarted `most` times, and is down
+    /// still; and `Memory`, after which nothing is known of it.
+    pub fn raise(&mut self, most: u64) -> Result<(), NodeFault>
         requires { MayComeBack D.Disk self.old }
         ensures back { IsRaised D.Disk most self.old result self.new }
         ensures accounts { AccountsRaised D.Disk O.Oracle most self.old result self.new }
