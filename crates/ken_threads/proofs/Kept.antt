@@ -1,14 +1,12 @@
 -- The ends of a round's wires are the same after it, whatever went over them.
-use Rattle.std.proofs.Common.{◌≡◌, ◌∙◌, ℕ, ◌<◌, List, [], length, ◌++◌, sym, ap, subst}
+use Rattle.std.proofs.Common.{◌≡◌, ◌∙◌, ℕ, ◌<◌, List, length, sym, subst}
 use Rattle.std.specs.Prelude.{slice_index_or}
-use Rattle.ken_net.specs.declared.net.Net as net
 use Rattle.ken_net.specs.Puts.{Put}
 use Rattle.ken_wire.specs.declared.send_end.SendEnd.{SendEnd}
 use Rattle.ken_wire.specs.declared.take_end.TakeEnd.{TakeEnd}
-use Rattle.ken_wire.specs.Ends.{heard_of, IsEndOf, joined_of, made_of, SameSender, SameTaker}
+use Rattle.ken_wire.specs.Ends.{IsEndOf, joined_of, made_of, SameSender, SameTaker}
 use Rattle.ken_wire.specs.Nets.{EndsGrew, Heard}
 use Rattle.ken_threads.specs.Wires.{AreWired, IsRow, of_node}
-use Rattle.ken_threads.proofs.Went.{Went}
 
 -- the same taking end
 pub record SameTake (old new : TakeEnd) : Type 0 where
@@ -21,26 +19,11 @@ pub record SameSends (old new : List SendEnd) : Type 0 where
   pub count : length new ≡ length old
   pub each : (k : ℕ) (d : SendEnd) → k < length old → SameSender (slice_index_or old k d) (slice_index_or new k d)
 
-heard-same : (old new : TakeEnd) (packets : List (List ℕ)) → Heard old new packets → SameTake old new
+pub heard-same : (old new : TakeEnd) (packets : List (List ℕ)) → Heard old new packets → SameTake old new
 heard-same old new packets is = record { same = is.end.0; made = is.end.1; joined = is.end.2 }
 
-grew-same : (old new : List SendEnd) (ps : List Put) → EndsGrew old new ps → SameSends old new
+pub grew-same : (old new : List SendEnd) (ps : List Put) → EndsGrew old new ps → SameSends old new
 grew-same old new ps is = record { count = is.count; each = λ k d low. (is.each k d low).0 }
-
--- so of an end of a network over them
-module _ {N : Type 0} (e : net.Ghosts N) (take : N → TakeEnd) (sends : N → List SendEnd)
-    (hears : (a b : N) (packets : List (List ℕ)) → e.given_between a b packets → Heard (take a) (take b) packets)
-    (grows : (a b : N) (ps : List Put) → e.put_between a b ps → (qs : List Put) × EndsGrew (sends a) (sends b) qs) where
-  pub take-still : (a b : N) → Went e a b → SameTake (take a) (take b)
-  take-still a b went = heard-same (take a) (take b) went.packets (hears a b went.packets went.given)
-
-  pub sends-still : (a b : N) → Went e a b → SameSends (sends a) (sends b)
-  sends-still a b went = let is = grows a b went.puts went.were_put in grew-same (sends a) (sends b) is.0 is.1
-
-  -- what was heard since nothing was
-  pub heard-all : (a b : N) → heard_of (take a) ≡ [] → Went e a b → (packets : List (List ℕ)) × (e.given_between a b packets × (heard_of (take b) ≡ packets))
-  heard-all a b unheard went =
-      (went.packets, (went.given, (hears a b went.packets went.given).more ∙ ap (λ (xs : List (List ℕ)). xs ++ went.packets) unheard))
 
 -- ---- all wires
 

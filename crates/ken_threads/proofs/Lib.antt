@@ -1,11 +1,12 @@
 mod Back
+mod Between
 mod CrewRan
-mod Following
+pub mod Following
 mod Kept
 mod Mapped
 mod Ready
 mod Rounding
-mod Rows
+pub mod Rows
 mod Seated
 mod Stops
 mod Told

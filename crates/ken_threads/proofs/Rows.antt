@@ -9,8 +9,10 @@ use Rattle.ken_wire.specs.declared.take_end.TakeEnd.{TakeEnd}
 use Rattle.ken_wire.specs.Ends.{SameTaker, taker_of}
 use Rattle.ken_wire.specs.Nets.{AreFrom}
 use Rattle.ken_wire.specs.Rounds.{AreUnused, AtEach, IsSeated}
+use Rattle.ken_threads.specs.declared.wiring.Ends.{Ends}
+use Rattle.ken_threads.specs.declared.wiring.Wiring.{Wiring}
 use Rattle.ken_threads.specs.Wires.{AreWired, ends_of, IsRow, IsUnused, of_node}
-use Rattle.ken_threads.proofs.Seated.{IsFront, taken_at}
+use Rattle.ken_threads.proofs.Seated.{IsFront, long, one_taken, taken_at}
 
 -- an element at a place that there is
 pub some_at : {X : Type 0} (xs : List X) (k : ℕ) → k < length xs → X
@@ -82,7 +84,7 @@ pub record AreEndsOf (n v : ℕ) (take : TakeEnd) (ends : Vec SendEnd Global) : 
 pub row_items : (sends : List (Vec SendEnd Global)) (v : ℕ) (s : Vec SendEnd Global) → v < length sends → of_node v (ends_of sends) ≡ (slice_index_or sends v s).items
 row_items sends v s low = get_or-map (λ (x : Vec SendEnd Global). x.items) sends v s [] low
 
-pub ends_are : (n : ℕ) (takes : List TakeEnd) (sends : List (Vec SendEnd Global)) → AreWired n takes (ends_of sends) → (v : ℕ) (take : TakeEnd) (ends : Vec SendEnd Global) → v < n
+ends_are : (n : ℕ) (takes : List TakeEnd) (sends : List (Vec SendEnd Global)) → AreWired n takes (ends_of sends) → (v : ℕ) (take : TakeEnd) (ends : Vec SendEnd Global) → v < n
     → slice_index_or takes v take ≡ take → slice_index_or sends v ends ≡ ends → AreEndsOf n v take ends
 ends_are n takes sends wired v take ends low is_take is_ends =
     let there : v < length sends = let count = wired.senders_count in let long = length-map sends (λ (x : Vec SendEnd Global). x.items) in omega (arith, low, count, long) in
@@ -94,7 +96,31 @@ ends_are n takes sends wired v take ends low is_take is_ends =
       count = ap (λ (l : List SendEnd). length l) (sym items) ∙ row.count;
     }
 
-pub ends_taken : (n k : ℕ) (takes takes_now takes_rest : List TakeEnd) (take : TakeEnd) (sends sends_now sends_rest : List (Vec SendEnd Global)) (ends : Vec SendEnd Global) → AreWired n takes (ends_of sends) → k < n
-    → IsFront takes takes_now → takes_now ≡ takes_rest ++ take ∷ [] → k ≡ length takes_rest → IsFront sends sends_now → sends_now ≡ sends_rest ++ ends ∷ [] → k ≡ length sends_rest → AreEndsOf n k take ends
-ends_taken n k takes takes_now takes_rest take sends sends_now sends_rest ends wired low takes_front last_take at_take sends_front last_ends at_ends =
-    ends_are n takes sends wired k take ends low (taken_at takes takes_now takes_rest take take k takes_front last_take at_take) (taken_at sends sends_now sends_rest ends ends k sends_front last_ends at_ends)
+-- the ends of node k, which were the last of those that were not handed out yet
+pub record ArePopped (n k : ℕ) (first new : Wiring) (ends : Ends) : Type 0 where
+  pub are : AreEndsOf n k ends.take ends.sends
+  pub takes : IsFront first.takes.items new.takes.items
+  pub sends : IsFront first.sends.items new.sends.items
+  pub count : (length new.takes.items ≡ k) × (length new.sends.items ≡ k)
+  pub take_is : (t : TakeEnd) → slice_index_or first.takes.items k t ≡ ends.take
+  pub sends_are : (s : Vec SendEnd Global) → slice_index_or first.sends.items k s ≡ ends.sends
+
+pub are_popped : (n k : ℕ) (first old new : Wiring) (ends : Ends) → AreWired n first.takes.items (ends_of first.sends.items) → k < n → IsFront first.takes.items old.takes.items → IsFront first.sends.items old.sends.items
+    → (length old.takes.items ≡ k + 1) × (length old.sends.items ≡ k + 1) → old.takes.items ≡ new.takes.items ++ ends.take ∷ [] → old.sends.items ≡ new.sends.items ++ ends.sends ∷ [] → ArePopped n k first new ends
+are_popped n k first old new ends wired low takes sends count last_take last_ends =
+    let takes_count = count.0 in
+    let sends_count = count.1 in
+    let takes_long = long old.takes.items new.takes.items ends.take last_take in
+    let sends_long = long old.sends.items new.sends.items ends.sends last_ends in
+    let at_take : k ≡ length new.takes.items = omega (arith, takes_count, takes_long) in
+    let at_ends : k ≡ length new.sends.items = omega (arith, sends_count, sends_long) in
+    let take_is : (t : TakeEnd) → slice_index_or first.takes.items k t ≡ ends.take = λ t. taken_at first.takes.items old.takes.items new.takes.items ends.take t k takes last_take at_take in
+    let sends_are : (s : Vec SendEnd Global) → slice_index_or first.sends.items k s ≡ ends.sends = λ s. taken_at first.sends.items old.sends.items new.sends.items ends.sends s k sends last_ends at_ends in
+    record {
+      are = ends_are n first.takes.items first.sends.items wired k ends.take ends.sends low (take_is ends.take) (sends_are ends.sends);
+      takes = one_taken first.takes.items old.takes.items new.takes.items ends.take takes last_take;
+      sends = one_taken first.sends.items old.sends.items new.sends.items ends.sends sends last_ends;
+      count = (sym at_take, sym at_ends);
+      take_is = take_is;
+      sends_are = sends_are;
+    }

@@ -10,6 +10,7 @@ use Rattle.ken_model.specs.Handler.{Handler}
 use Rattle.ken_net.specs.declared.net.Net as net
 use Rattle.ken_net.specs.Puts.{Put}
 use Rattle.ken_order.specs.Consumed.{Consumed}
+use Rattle.ken_ship.specs.declared.emit.Emit.{Emit}
 use Rattle.ken_ship.specs.declared.faults.NodeFault.{NodeFault}
 use Rattle.ken_ship.specs.declared.faults.NodeFault.TheVariants.{Disk, Damaged, Outlet, Memory}
 use Rattle.ken_ship.specs.declared.outlet.Outlet as outlet
@@ -20,9 +21,9 @@ use Rattle.ken_work.specs.Calls.{at_input, at_message, at_turn, at_turnover, ami
 use Rattle.ken_work.specs.Hearing.{Listened}
 use Rattle.ken_weave.specs.Workers.{Steps, none, then}
 use Rattle.ken_threads.specs.Ran.{EndsBy, Ran}
-use Rattle.ken_threads.specs.Seats.{HandlerFails, LastFails, SenderFails, SenderSteps, SenderStops}
+use Rattle.ken_threads.specs.Seats.{at_hearing, at_output, at_sending, HandlerFails, SenderFails, SenderSteps, SenderStops, Ships}
 use Rattle.ken_beside.specs.Seats.{Handling, Sending}
-use Rattle.ken_beside.specs.Steps.{EmitsOnce, HandlerStep, SenderStep, SendsDue, TurnsOnce, emits_once, sends_due, takes_acks, turns_once}
+use Rattle.ken_beside.specs.Steps.{EmitsOnce, HandlerStep, SendsDue, TakesAcks, TurnsOnce, turns_once}
 
 -- what a call was given, and what it put
 pub record GaveAndPut (gave : List (List ℕ) → Type 0) (put : List Put → Type 0) : Type 0 where
@@ -73,67 +74,56 @@ module _ {N : Type 0} (e : net.Ghosts N) where
       were_put = put_joins a b c one.puts two.puts one.were_put two.were_put;
     }
 
-    -- by steps, each of which did
-    pub all-went : {W : Type 0} (of : W → N) (step : W → W → Type 0) → ((a b : W) → step a b → Went (of a) (of b)) → (a b : W) (bs : List W) → Steps step a bs b → Went (of a) (of b)
-    all-went of step each a _ [] none = went-still (of a) (of a) refl
-    all-went of step each a c (b ∷ bs) (then one rest) = went-on (of a) (of b) (of c) (each a b one) (all-went of step each b c bs rest)
+    -- by steps, each of which did, and one that failed
+    module _ {W : Type 0} (of : W → N) (step : W → W → Type 0) (fails : NodeFault → W → W → Type 0) (each : (a b : W) → step a b → Went (of a) (of b))
+        (each_fault : (fault : NodeFault) (a b : W) → fails fault a b → Went (of a) (of b)) where
+      all-went : (a b : W) (bs : List W) → Steps step a bs b → Went (of a) (of b)
+      all-went a _ [] none = went-still (of a) (of a) refl
+      all-went a c (b ∷ bs) (then one rest) = went-on (of a) (of b) (of c) (each a b one) (all-went b c bs rest)
+
+      ended-went : (count : ℕ) (mid new : W) (fault : Option NodeFault) → EndsBy fails count mid new fault → Went (of mid) (of new)
+      ended-went count mid new None ends = went-still (of mid) (of new) (ap of ends.1)
+      ended-went count mid new (Some fault) ends = each_fault fault mid new ends.1
+
+      ran-went : (old new : W) (fault : Option NodeFault) → Ran step fails old new fault → Went (of old) (of new)
+      ran-went old new fault ran = went-on (of old) (of ran.mid) (of new) (all-went old ran.mid ran.states ran.made) (ended-went (length ran.states) ran.mid new fault ran.ends)
 
     module _ {D O : Type 0} (d : disk.Ghosts D) (o : oracle.Ghosts O) (h : Handler) where
-      pub handler-went : (result : Result Took NodeFault) (a b : Handling D N O) → TurnsOnce d e o h result a b → Went a.net b.net
+      handler-went : (result : Result Took NodeFault) (a b : Handling D N O) → TurnsOnce d e o h result a b → Went a.net b.net
       handler-went result a b is =
           turn-went (e.given_between a.net b.net) (e.put_between a.net b.net) (e.nones a.net) (e.nones b.net) d.told d.size d.faults d.fate h (Drew o.telling.clocks o.telling.words h a.oracle b.oracle) is.mid b.worker result is.takes
 
-      pub step-went : (a b : Handling D N O) → HandlerStep d e o h a b → Went a.net b.net
+      step-went : (a b : Handling D N O) → HandlerStep d e o h a b → Went a.net b.net
       step-went a b (turns_once took is) = handler-went (Ok took) a b is
 
+      pub handler-ran-went : (old new : Handling D N O) (fault : Option NodeFault) → Ran (HandlerStep d e o h) (HandlerFails d e o h) old new fault → Went old.net new.net
+      handler-ran-went old new fault ran =
+          ran-went (λ (x : Handling D N O). x.net) (HandlerStep d e o h) (HandlerFails d e o h) step-went (λ fault a b is. handler-went (Err fault) a b is) old new fault ran
+
     module _ {U : Type 0} (u : outlet.Ghosts U) where
-      pub due-went : (result : Result (Unit {0}) AllocError) (a b : Sending N U) → SendsDue e u result a b → Went a.net b.net
+      due-went : (result : Result (Unit {0}) AllocError) (a b : Sending N U) → SendsDue e u result a b → Went a.net b.net
       due-went result a b is = record { packets = []; given = is.given; puts = is.put.puts; were_put = is.put.were_put }
 
-      pub call-went : (a b : Sending N U) → SenderStep e u a b → Went a.net b.net
-      call-went a b (sends_due is) = due-went (Ok tt) a b is
-      call-went a b (takes_acks is) = record { packets = is.heard.packets; given = is.heard.given; puts = []; were_put = is.put }
-      call-went a b (emits_once answer is) = went-still a.net b.net is.net
+      heard-went : (a b : Sending N U) → TakesAcks e u a b → Went a.net b.net
+      heard-went a b is = record { packets = is.heard.packets; given = is.heard.given; puts = []; were_put = is.put }
 
--- ---- all that a worker made in a round
+      ships-went : (a b : Sending N U) → Ships e u a b → Went a.net b.net
+      ships-went a b is = went-on a.net is.sent.net b.net (due-went (Ok tt) a is.sent is.sends) (heard-went is.sent b is.takes)
 
-module _ {N : Type 0} (e : net.Ghosts N) (put_still : (a : N) → e.put_between a a []) (put_joins : (a b c : N) (ps qs : List Put) → e.put_between a b ps → e.put_between b c qs → e.put_between a c (ps ++ qs))
-    (given_still : (a : N) → e.given_between a a []) (given_joins : (a b c : N) (xs ys : List (List ℕ)) → e.given_between a b xs → e.given_between b c ys → e.given_between a c (xs ++ ys)) where
-  module _ {W : Type 0} (of : W → N) (step : W → W → Type 0) (fails : NodeFault → W → W → Type 0) (each : (a b : W) → step a b → Went e (of a) (of b))
-      (each_fault : (fault : NodeFault) (a b : W) → fails fault a b → Went e (of a) (of b)) where
-    ended-went : (count : ℕ) (mid new : W) (fault : Option NodeFault) → EndsBy fails count mid new fault → Went e (of mid) (of new)
-    ended-went count mid new None ends = went-still e put_still put_joins given_still given_joins (of mid) (of new) (ap of ends.1)
-    ended-went count mid new (Some fault) ends = each_fault fault mid new ends.1
+      output-went : (result : Result Emit NodeFault) (a heard b : Sending N U) → Ships e u a heard → EmitsOnce e u result heard b → Went a.net b.net
+      output-went result a heard b ships is = went-on a.net heard.net b.net (ships-went a heard ships) (went-still heard.net b.net is.net)
 
-    ran-went : (old new : W) (fault : Option NodeFault) → Ran step fails old new fault → Went e (of old) (of new)
-    ran-went old new fault ran =
-        went-on e put_still put_joins given_still given_joins (of old) (of ran.mid) (of new)
-        (all-went e put_still put_joins given_still given_joins of step each old ran.mid ran.states ran.made) (ended-went (length ran.states) ran.mid new fault ran.ends)
+      stop-went : (a b : Sending N U) → SenderStops e u a b → Went a.net b.net
+      stop-went a b (at_sending fault is) = due-went (Err fault) a b is
+      stop-went a b (at_hearing sent sends is) = went-on a.net sent.net b.net (due-went (Ok tt) a sent sends) (went-still sent.net b.net is.net)
+      stop-went a b (at_output heard ships is) = output-went (Err Memory) a heard b ships is
 
-  module _ {D O : Type 0} (d : disk.Ghosts D) (o : oracle.Ghosts O) (h : Handler) where
-    pub handler-ran-went : (old new : Handling D N O) (fault : Option NodeFault) → Ran (HandlerStep d e o h) (HandlerFails d e o h) old new fault → Went e old.net new.net
-    handler-ran-went old new fault ran =
-        ran-went (λ (x : Handling D N O). x.net) (HandlerStep d e o h) (HandlerFails d e o h) (step-went e put_still put_joins given_still given_joins d o h)
-        (λ fault a b is. handler-went e put_still put_joins given_still given_joins d o h (Err fault) a b is) old new fault ran
+      fault-went : (fault : NodeFault) (a b : Sending N U) → SenderFails e u fault a b → Went a.net b.net
+      fault-went Disk a b is = absurd is
+      fault-went Memory a b is = stop-went a b is
+      fault-went Outlet a b is = output-went (Err Outlet) a is.heard b is.ships is.refused
+      fault-went (Damaged disk place) a b is = absurd is
 
-  module _ {U : Type 0} (u : outlet.Ghosts U) where
-    calls-went : (old new : Sending N U) (states : List (Sending N U)) → Steps (SenderStep e u) old states new → Went e old.net new.net
-    calls-went old new states made = all-went e put_still put_joins given_still given_joins (λ (x : Sending N U). x.net) (SenderStep e u) (call-went e put_still put_joins given_still given_joins u) old new states made
-
-    stop-went : (a b : Sending N U) → SenderStops e u a b → Went e a.net b.net
-    stop-went a b (inl is) = due-went e put_still put_joins given_still given_joins u (Err is.0) a b is.1
-    stop-went a b (inr same) = went-still e put_still put_joins given_still given_joins a.net b.net same
-
-    last-went : (fails : Sending N U → Sending N U → Type 0) → ((a b : Sending N U) → fails a b → Went e a.net b.net) → (old new : Sending N U) → LastFails (SenderStep e u) fails old new → Went e old.net new.net
-    last-went fails each old new is =
-        went-on e put_still put_joins given_still given_joins old.net is.mid.net new.net (calls-went old is.mid is.states is.made) (each is.mid new is.failed)
-
-    fault-went : (fault : NodeFault) (a b : Sending N U) → SenderFails e u fault a b → Went e a.net b.net
-    fault-went Disk a b is = absurd is
-    fault-went Memory a b is = last-went (SenderStops e u) stop-went a b is
-    fault-went Outlet a b is = last-went (EmitsOnce e u (Err Outlet)) (λ x y one. went-still e put_still put_joins given_still given_joins x.net y.net one.net) a b is
-    fault-went (Damaged disk place) a b is = absurd is
-
-    pub sender-ran-went : (old new : Sending N U) (fault : Option NodeFault) → Ran (SenderSteps e u) (SenderFails e u) old new fault → Went e old.net new.net
-    sender-ran-went old new fault ran =
-        ran-went (λ (x : Sending N U). x.net) (SenderSteps e u) (SenderFails e u) (λ a b is. calls-went a b is.states is.made) fault-went old new fault ran
+      pub sender-ran-went : (old new : Sending N U) (fault : Option NodeFault) → Ran (SenderSteps e u) (SenderFails e u) old new fault → Went old.net new.net
+      sender-ran-went old new fault ran =
+          ran-went (λ (x : Sending N U). x.net) (SenderSteps e u) (SenderFails e u) (λ a b is. output-went (Ok is.answer) a is.heard b is.ships is.emits) fault-went old new fault ran

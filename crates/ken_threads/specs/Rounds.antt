@@ -10,6 +10,7 @@ use Rattle.ken_net.specs.declared.base.Base as base
 use Rattle.ken_net.specs.declared.lossy.Lossy.{Lossy}
 use Rattle.ken_net.specs.declared.net.Net as net
 use Rattle.ken_net.specs.Puts.{MayPut, Put}
+use Rattle.ken_net.specs.Standings.{PutOn}
 use Rattle.ken_ship.specs.declared.outlet.Outlet as outlet
 use Rattle.ken_store.specs.Patching.{TakesPatches}
 use Rattle.ken_wire.specs.declared.send_end.SendEnd.{SendEnd}
@@ -25,13 +26,15 @@ use Rattle.ken_threads.specs.Seating.{crew_at, HasLinks}
 use Rattle.ken_threads.specs.Seats.{HandlerFails, PatcherFails, PatcherSteps, SenderFails, SenderSteps}
 use Rattle.ken_threads.specs.Wires.{IsUnused, sent_at}
 
--- an end of a network that takes from a wire and puts on wires: what it is given it heard there, and what is put went by the sending ends, or
--- is kept by its links
+-- an end of a network that takes from a wire and puts on wires: what it is given it heard there, and of what is put its links passed on what
+-- went by the sending ends
 pub record AreWires {R : Type 0} {b : base.Ghosts (WireNet R)} (e : net.Ghosts (Lossy (WireNet R) b)) : Type 0 where
   pub node : (x : Lossy (WireNet R) b) → e.node x ≡ x.base.node
   pub nodes : (x : Lossy (WireNet R) b) → e.nodes x ≡ length x.base.sends.items
+  pub width : (x : Lossy (WireNet R) b) → length x.base.sends.items ≡ length x.links.links
   pub hears : (x y : Lossy (WireNet R) b) (packets : List (List ℕ)) → e.given_between x y packets → Heard x.base.take y.base.take packets
-  pub grows : (x y : Lossy (WireNet R) b) (ps : List Put) → e.put_between x y ps → (qs : List Put) × EndsGrew x.base.sends.items y.base.sends.items qs
+  pub puts : (x y : Lossy (WireNet R) b) (ps : List Put) → e.put_between x y ps
+      → PutOn (λ (k l : WireNet R) (qs : List Put). EndsGrew k.sends.items l.sends.items qs) x.links y.links x.base y.base ps
   pub put_still : (x : Lossy (WireNet R) b) → e.put_between x x []
   pub put_joins : (x y z : Lossy (WireNet R) b) (ps qs : List Put) → e.put_between x y ps → e.put_between y z qs → e.put_between x z (ps ++ qs)
   pub given_still : (x : Lossy (WireNet R) b) → e.given_between x x []
@@ -92,6 +95,7 @@ pub record Rounded {R D O U : Type 0} {b : base.Ghosts (WireNet R)} (d : disk.Gh
   pub acks2 : ℕ → Lossy (WireNet R) b
   pub mail : ℕ → Lossy (WireNet R) b
   pub mail2 : ℕ → Lossy (WireNet R) b
+  pub wires : AreWires e
   pub count : length new ≡ length old
   pub ran : (v : ℕ) (none : Crew D O U) → v < length old → CrewRan d e o u h (crew_at v old none) (crew_at v new none) (acks v) (acks2 v) (mail v) (mail2 v)
   pub over : (v : ℕ) (none : Crew D O U) → v < length old → AreOver (crew_at v old none) (crew_at v new none) (acks v) (acks2 v) (mail v) (mail2 v)

@@ -1,20 +1,24 @@
 -- The steps of a node's workers at their seats, as calls of each.
-use Rattle.std.specs.Prelude.{◌≡◌, ℕ, ◌≤◌, ◌*◌, List, ◌⊎◌, Err}
+use Rattle.std.specs.Prelude.{◌≡◌, ℕ, ◌≤◌, ◌*◌, Bool, true, false, Result, Ok, Err}
 use Rattle.std.specs.declared.alloc.AllocError.{AllocError}
 use Rattle.ken_disk.specs.declared.disk.Disk as disk
 use Rattle.ken_app.specs.declared.oracle.Oracle as oracle
 use Rattle.ken_model.specs.Handler.{Handler}
 use Rattle.ken_net.specs.declared.net.Net as net
 use Rattle.ken_links.specs.Rings.{free}
+use Rattle.ken_store.specs.declared.faults.StoreFault.{StoreFault}
+use Rattle.ken_store.specs.declared.faults.StoreFault.TheVariants as store
 use Rattle.ken_store.specs.Patching.{TakesPatches}
+use Rattle.ken_ship.specs.declared.emit.Emit.{Emit}
 use Rattle.ken_ship.specs.declared.faults.NodeFault.{NodeFault}
 use Rattle.ken_ship.specs.declared.faults.NodeFault.TheVariants.{Disk, Damaged, Outlet, Memory}
 use Rattle.ken_ship.specs.declared.outlet.Outlet as outlet
+use Rattle.ken_ship.specs.Parts.{IsSameWorker as IsSameSender, SameSlots, part_of}
 use Rattle.ken_work.specs.declared.patcher.PatchWorker.{PatchWorker}
-use Rattle.ken_weave.specs.Workers.{Steps}
+use Rattle.ken_work.specs.Patches.{IsSamePatcher, PatchesOnce, SettlesOnce}
 use Rattle.ken_beside.specs.GoingOn.{MaySend, MayTurn}
 use Rattle.ken_beside.specs.Seats.{Handling, Sending}
-use Rattle.ken_beside.specs.Steps.{EmitsOnce, PatcherFault, PatcherStep, SenderStep, SendsDue, TurnsOnce}
+use Rattle.ken_beside.specs.Steps.{EmitsOnce, SendsDue, TakesAcks, TurnsOnce}
 use Rattle.ken_threads.specs.declared.seats.HandlerSeat.{HandlerSeat}
 use Rattle.ken_threads.specs.declared.seats.SenderSeat.{SenderSeat}
 
@@ -24,13 +28,6 @@ handling_of s = record { worker = s.worker; net = s.net; oracle = s.oracle }
 
 abbrev pub sending_of : {N U : Type 0} → SenderSeat N U → Sending N U
 sending_of s = record { worker = s.worker; net = s.net; outlet = s.outlet }
-
--- calls that ended well, and one that ended with a fault
-pub record LastFails {W : Type 0} (step fails : W → W → Type 0) (old new : W) : Type 0 where
-  pub states : List W
-  pub mid : W
-  pub made : Steps step old states mid
-  pub failed : fails mid new
 
 module _ {D N O : Type 0} (d : disk.Ghosts D) (e : net.Ghosts N) (o : oracle.Ghosts O) (h : Handler) where
   -- a handler may make so many steps: each needs a slot in each of its two rings
@@ -49,14 +46,28 @@ module _ {D : Type 0} (d : disk.Ghosts D) where
     pub may : TakesPatches d.told d.size p.side
     pub settled : count ≤ free p.settled
 
-  -- its step is one call or two
-  pub record PatcherSteps (old new : PatchWorker D) : Type 0 where
-    pub states : List (PatchWorker D)
-    pub made : Steps (PatcherStep d) old states new
+  -- a call of it that writes a page where one is to be written, and one that syncs the image, by their answers
+  pub record Patches (answer : Result Bool StoreFault) (old new : PatchWorker D) : Type 0 where
+    pub same : IsSamePatcher old new
+    pub patches : PatchesOnce d.told d.size d.faults d.fate answer old new
+
+  pub record Settles (answer : Result (Unit {0}) StoreFault) (old new : PatchWorker D) : Type 0 where
+    pub same : IsSamePatcher old new
+    pub settles : SettlesOnce d.told d.size d.faults d.fate answer old new
+
+  -- its step: a page was written; or none was to be, and the image was synced
+  pub data PatcherSteps (old new : PatchWorker D) : Type 0 where
+    wrote : Patches (Ok true) old new → PatcherSteps old new
+    synced : (mid : PatchWorker D) → Patches (Ok false) old mid → Settles (Ok tt) mid new → PatcherSteps old new
+
+  -- one that fails does so at the page, or at the sync
+  pub data PatcherStops (fault : StoreFault) (old new : PatchWorker D) : Type 0 where
+    at_page : Patches (Err fault) old new → PatcherStops fault old new
+    at_sync : (mid : PatchWorker D) → Patches (Ok false) old mid → Settles (Err fault) mid new → PatcherStops fault old new
 
   abbrev pub PatcherFails : NodeFault → PatchWorker D → PatchWorker D → Type 0
-  PatcherFails Disk old new = LastFails (PatcherStep d) (PatcherFault d) old new
-  PatcherFails Memory old new = Unit {0}
+  PatcherFails Disk old new = PatcherStops store.Disk old new
+  PatcherFails Memory old new = PatcherStops store.Memory old new
   PatcherFails Outlet old new = ⊥
   PatcherFails (Damaged disk place) old new = ⊥
 
@@ -66,18 +77,42 @@ module _ {N U : Type 0} (e : net.Ghosts N) (u : outlet.Ghosts U) where
     pub may : MaySend e u s
     pub told : 3 * count ≤ free s.worker.told
 
-  -- its step is three calls
+  -- what is due was sent, and then acknowledgements were taken
+  pub record Ships (old new : Sending N U) : Type 0 where
+    pub sent : Sending N U
+    pub sends : SendsDue e u (Ok tt) old sent
+    pub takes : TakesAcks e u sent new
+
+  -- its step: after that an output was emitted, or refused, or none was due
   pub record SenderSteps (old new : Sending N U) : Type 0 where
-    pub states : List (Sending N U)
-    pub made : Steps (SenderStep e u) old states new
+    pub heard : Sending N U
+    pub ships : Ships old heard
+    pub answer : Emit
+    pub emits : EmitsOnce e u (Ok answer) heard new
 
-  -- a call that wants memory: some of what is due was put, or nothing was
-  abbrev pub SenderStops : Sending N U → Sending N U → Type 0
-  SenderStops old new = ((fault : AllocError) × SendsDue e u (Err fault) old new) ⊎ (new.net ≡ old.net)
+  -- a call that takes acknowledgements, and wants memory: nothing has changed
+  pub record TakesNone (old new : Sending N U) : Type 0 where
+    pub same : IsSameSender old.worker new.worker
+    pub sealed : new.worker.sealed ≡ old.worker.sealed
+    pub part : part_of new.worker ≡ part_of old.worker
+    pub slots : SameSlots old.worker.told new.worker.told
+    pub net : new.net ≡ old.net
+    pub outlet : new.outlet ≡ old.outlet
 
-  -- one that fails wants memory, or the outlet refused an output once too often
+  -- a step may want memory at each of its calls
+  pub data SenderStops (old new : Sending N U) : Type 0 where
+    at_sending : (fault : AllocError) → SendsDue e u (Err fault) old new → SenderStops old new
+    at_hearing : (sent : Sending N U) → SendsDue e u (Ok tt) old sent → TakesNone sent new → SenderStops old new
+    at_output : (heard : Sending N U) → Ships old heard → EmitsOnce e u (Err Memory) heard new → SenderStops old new
+
+  -- or the outlet refuses an output once too often
+  pub record SenderRefused (old new : Sending N U) : Type 0 where
+    pub heard : Sending N U
+    pub ships : Ships old heard
+    pub refused : EmitsOnce e u (Err Outlet) heard new
+
   abbrev pub SenderFails : NodeFault → Sending N U → Sending N U → Type 0
   SenderFails Disk old new = ⊥
-  SenderFails Memory old new = LastFails (SenderStep e u) SenderStops old new
-  SenderFails Outlet old new = LastFails (SenderStep e u) (EmitsOnce e u (Err Outlet)) old new
+  SenderFails Memory old new = SenderStops old new
+  SenderFails Outlet old new = SenderRefused old new
   SenderFails (Damaged disk place) old new = ⊥

@@ -17,6 +17,3 @@ pub use seats::{HandlerSeat, SenderSeat};
 pub use team::{Team, run_teams};
 pub use wiring::{Ends, Wiring};
 pub use works::{STEPS, Seat, Works};
-
-#[cfg(test)]
-mod tests;

@@ -36,7 +36,7 @@ module _ {X : Type 0} (has : Sent → List X) (of : Put → List X) (adds : (p :
             (λ (back : Grew k ps a (risen n) b m). skip (came k ps a (risen n) b m x back c)) own.1
       ]
 
-handed : (k : ℕ) (ps : List Put) (s : Sent) (m : ℕ) (p : Packet) → Grew k ps nothing 0 s m → IsHandedIn s.sealed s.consumed p → IsHandedIn (sealed_to k ps) (consumed_to k ps) p
+pub handed : (k : ℕ) (ps : List Put) (s : Sent) (m : ℕ) (p : Packet) → Grew k ps nothing 0 s m → IsHandedIn s.sealed s.consumed p → IsHandedIn (sealed_to k ps) (consumed_to k ps) p
 handed k ps s n (Mail m) grew c = came (λ (s : Sent). s.sealed) (λ (p : Put). p.sealed) (λ p s. refl) k ps nothing 0 s n m grew c
 handed k ps s m (Ack from to n) grew c = (c.0, came (λ (s : Sent). s.consumed) (λ (p : Put). p.consumed) (λ p s. refl) k ps nothing 0 s m (to, c.0) grew c.1, c.2)
 

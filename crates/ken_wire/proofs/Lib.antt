@@ -6,6 +6,6 @@ mod Wires
 mod ByNode
 mod Whole
 mod Calls
-mod Came
+pub mod Came
 mod Counted
 pub mod Steps

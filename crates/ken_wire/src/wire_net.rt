@@ -143,7 +143,8 @@ impl<'a, R: Wait> Net for WireNet<'a, R> {
 
     ghost put_still = { λ a. (ends_still a.sends.items, λ k low. refl) };
 
-    ghost put_joins = { λ a b c ps qs first then. (ends_join a.sends.items b.sends.items c.sends.items ps qs first.0 then.0, counts_join a.sends.items b.sends.items a.puts b.puts c.puts ps qs first.0 first.1 then.1) };
+    ghost put_joins = { λ a b c ps qs first then.
+        (ends_join a.sends.items b.sends.items c.sends.items ps qs first.0 then.0, counts_join a.sends.items b.sends.items a.puts b.puts c.puts ps qs first.0 first.1 then.1) };
 
     ghost given_still = { λ a. heard_still a.take };
 

@@ -7,8 +7,9 @@ pub returns : goal.returns
 returns g c = record {
   node = λ x. refl;
   nodes = λ x. refl;
+  width = λ x. x.to_each;
   hears = λ x y packets is. is;
-  grows = λ x y ps is. (_, is.passed_on);
+  puts = λ x y ps is. is;
   put_still = λ x. links.put_still x.links x.base (ends_still x.base.sends.items);
   put_joins = λ x y z ps qs one two. links.put_joins (λ a b m xs ys first second. ends_join a.sends.items b.sends.items m.sends.items xs ys first second) one two;
   given_still = λ x. heard_still x.base.take;

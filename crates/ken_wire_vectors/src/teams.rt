@@ -1,7 +1,7 @@
 ghost use Rattle.std.specs.Prelude.{◌≡◌, ◌+◌, ℕ, ⊤};
 
-use crate::{Gate, OpenGate, Role, Seat, Team, Works, run_teams};
 use ken_ship::NodeFault;
+use ken_threads::{Gate, OpenGate, Role, Seat, Team, Works, run_teams};
 use std::sync::atomic::{AtomicU64, Ordering};
 use std::thread;
 
