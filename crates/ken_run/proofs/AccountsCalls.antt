@@ -191,7 +191,7 @@ due-number told size g v n stage up out was_due =
 module _ {D O U : Type 0} (told : Watched D → Option Story) (count : Watched D → ℕ) (fate : Watched D → Option Fate) (telling : Telling O) (terms : Terms) (g : Game) (v : ℕ) (s s2 : Station D O U)
     (synced : IsSynced told count g v s2.node.stage) (origin : telling.origin s2.luck ≡ telling.origin s.luck) (lines : s2.lines.items ≡ s.lines.items) (tries : s2.restarts ≡ s.restarts)
     (longer : length (turns_in s.node.stage) ≤ length (turns_in s2.node.stage)) where
-  books-still : HasOwnDisks fate terms.scripted (terms.origins v) s.restarts s2.node.stage → HasBooks told count fate telling terms g v s → HasBooks told count fate telling terms g v s2
+  pub books-still : HasOwnDisks fate terms.scripted (terms.origins v) s.restarts s2.node.stage → HasBooks told count fate telling terms g v s → HasBooks told count fate telling terms g v s2
   books-still own books = record {
     synced = synced;
     own = subst (λ (k : ℕ). HasOwnDisks fate terms.scripted (terms.origins v) k s2.node.stage) (sym tries) own;

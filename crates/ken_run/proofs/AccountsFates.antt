@@ -10,7 +10,7 @@ use Rattle.ken_node.specs.Stages.{HasDisks}
 use Rattle.ken_run.specs.Accounts.{AreFated, AreOwnDisks, AreRaised, AreTelling, HasFates, HasOwnDisks, HaveFallen, IsOwnDisk}
 
 -- what is told after a step was told before it
-told-before : {X : Type 0} (R : X → X → Type 0) (old new : Option X) (y : X) → Follows R old new → new ≡ Some y → (x : X) × ((old ≡ Some x) × R x y)
+pub told-before : {X : Type 0} (R : X → X → Type 0) (old new : Option X) (y : X) → Follows R old new → new ≡ Some y → (x : X) × ((old ≡ Some x) × R x y)
 told-before R None new y f is = let no : None ≡ Some y = sym f ∙ is in absurd (cc)
 told-before R (Some x) new y f is = let both : Some f.0 ≡ Some y = sym f.1 ∙ is in let same : f.0 ≡ y = cc in (x, (refl, subst (λ z. R x z) same f.2))
 
@@ -85,7 +85,7 @@ module _ {D : Type 0} (told : D → Option Story) (count : D → ℕ) (fate : D 
       let s = told-after _ (fate a.second) (fate b.second) t.second w.second.falls t.second_is in
       record { log = l.0; image = i.0; second = s.0; log_is = l.1; image_is = i.1; second_is = s.1 }
 
-  failed-tell : (a b : Disks D) → OneHasFailed told count fate a b → AreTelling fate a → AreTelling fate b
+  pub failed-tell : (a b : Disks D) → OneHasFailed told count fate a b → AreTelling fate a → AreTelling fate b
   failed-tell a b (inl w) t =
       let l = told-after _ (fate a.log) (fate b.log) t.log w.0.falls t.log_is in
       record { log = l.0; image = t.image; second = t.second; log_is = l.1; image_is = w.1.falls ∙ t.image_is; second_is = w.2.falls ∙ t.second_is }

@@ -45,15 +45,15 @@ with-here v n nodes = rw (eq-eqb v v refl) refl
 pub with-other : (u v : ℕ) (n : Node) (nodes : ℕ → Node) → u ≢ v → with_node v n nodes u ≡ nodes u
 with-other u v n nodes ne = rw (ne_eqb u v ne) refl
 
-by-here : (v : ℕ) (os : List Out) → emitted_by v (emissions_by v os) ≡ os
+pub by-here : (v : ℕ) (os : List Out) → emitted_by v (emissions_by v os) ≡ os
 by-here v [] = refl
 by-here v (o ∷ os) = rw (eq-eqb v v refl) (ap (λ x. o ∷ x) (by-here v os))
 
-by-other : (u v : ℕ) (os : List Out) → u ≢ v → emitted_by u (emissions_by v os) ≡ []
+pub by-other : (u v : ℕ) (os : List Out) → u ≢ v → emitted_by u (emissions_by v os) ≡ []
 by-other u v [] ne = refl
 by-other u v (o ∷ os) ne = rw (ne_eqb v u (λ same. ne (sym same))) (by-other u v os ne)
 
-by-both : (u : ℕ) (es fs : List Emission) → emitted_by u (es ++ fs) ≡ emitted_by u es ++ emitted_by u fs
+pub by-both : (u : ℕ) (es fs : List Emission) → emitted_by u (es ++ fs) ≡ emitted_by u es ++ emitted_by u fs
 by-both u es fs = simp (filter-append, map-append)
 
 pub emitted-here : (v : ℕ) (es : List Emission) (os : List Out) → emitted_by v (es ++ emissions_by v os) ≡ emitted_by v es ++ os
@@ -64,7 +64,7 @@ emitted-other u v es os ne = by-both u es (emissions_by v os) ∙ ap (λ x. emit
 
 -- ---- links and inboxes
 
-after-length : (puts : List Put) (links : List Standing) → length (after_puts puts links) ≡ length links
+pub after-length : (puts : List Put) (links : List Standing) → length (after_puts puts links) ≡ length links
 after-length [] links = refl
 after-length (p ∷ ps) links = after-length ps (slice_set links p.to (after_put p (link_to p.to links))) ∙ length-set links p.to (after_put p (link_to p.to links))
 
@@ -73,6 +73,15 @@ filed-length [] boxes = refl
 filed-length (p ∷ ps) boxes = let box = filed p.bytes (slice_index_or boxes p.to []) in filed-length ps (slice_set boxes p.to box) ∙ length-set boxes p.to box
 
 -- ---- the group
+
+-- what spells packets that were put is known
+module _ (g : Game) (w : Cluster) where
+  pub spelled-known : (puts : List Put) (qs : List core.Put) → AreSpelled g.nodes puts qs → All (λ (q : core.Put). WasPut w q.packet) qs → PutsAreKnown g w puts
+  spelled-known [] [] spelled all = All-nil (λ (p : Put). IsKnown g w p.bytes)
+  spelled-known [] (q ∷ qs) spelled all = absurd spelled
+  spelled-known (p ∷ ps) [] spelled all = absurd spelled
+  spelled-known (p ∷ ps) (q ∷ qs) spelled all =
+      All-cons (λ (p : Put). IsKnown g w p.bytes) p ps (spelled_are_known g w p q spelled.0.packet (All-head (λ (q : core.Put). WasPut w q.packet) q qs all)) (spelled-known ps qs spelled.1 (All-tail (λ (q : core.Put). WasPut w q.packet) q qs all))
 
 module _ (g : Game) (nodes : ℕ → Node) (emissions : List Emission) (v : ℕ) (given : List Packet) (events : List Event) (out : Outgoing) (after : Node)
     (accord : Accord g (group_of g nodes emissions)) (known : v < g.nodes) (were : All (WasPut (group_of g nodes emissions)) given)
@@ -92,16 +101,8 @@ module _ (g : Game) (nodes : ℕ → Node) (emissions : List Emission) (v : ℕ)
   pub known-stays : StaysKnown g (group_of g nodes emissions) group-after
   known-stays = known_stays g (group_of g nodes emissions) group-after put-stays
 
-  -- what was put is known
-  spelled-known : (puts : List Put) (qs : List core.Put) → AreSpelled g.nodes puts qs → All (λ (q : core.Put). WasPut group-after q.packet) qs → PutsAreKnown g group-after puts
-  spelled-known [] [] spelled all = All-nil (λ (p : Put). IsKnown g group-after p.bytes)
-  spelled-known [] (q ∷ qs) spelled all = absurd spelled
-  spelled-known (p ∷ ps) [] spelled all = absurd spelled
-  spelled-known (p ∷ ps) (q ∷ qs) spelled all =
-      All-cons (λ (p : Put). IsKnown g group-after p.bytes) p ps (spelled_are_known g group-after p q spelled.0.packet (All-head (λ (q : core.Put). WasPut group-after q.packet) q qs all)) (spelled-known ps qs spelled.1 (All-tail (λ (q : core.Put). WasPut group-after q.packet) q qs all))
-
   pub puts-known : (puts : List Put) → AreSpelled g.nodes puts out.puts → PutsAreKnown g group-after puts
-  puts-known puts spelled = spelled-known puts out.puts spelled (puts_are_put g nodes emissions emitted-after v given events out after accord known run)
+  puts-known puts spelled = spelled-known g group-after puts out.puts spelled (puts_are_put g nodes emissions emitted-after v given events out after accord known run)
 
   -- what is left of known inboxes is known
   pub takes-known : (takes takes2 : List (List (List ℕ))) (bytes : List (List ℕ)) → AreKnown g (group_of g nodes emissions) takes → Gave v takes takes2 bytes → AreKnown g group-after takes2

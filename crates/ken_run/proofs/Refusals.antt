@@ -95,14 +95,14 @@ module _ {U : Type 0} (faults : U → ℕ) (fate : U → Option Fate) where
   failed-fewer : (often less : ℕ) (out : U) → less ≤ often → HasFailedLast faults fate often out → HasFailedLast faults fate less out
   failed-fewer often less out low is = record { listed = λ some f told. is.listed (omega (arith, some, low)) f told; counted = let counted = is.counted in omega (arith, low, counted); running = λ f told room. last-fewer often less f low (is.running f told room) }
 
-  failed-more : (often : ℕ) (out out2 : U) → often ≤ 64 → HasFailedLast faults fate often out → HasCause {T = Unit {0}} (faults out) (faults out2) (Err Failed) → Follows (Suffers {T = Unit {0}} (Err Failed)) (fate out) (fate out2) → HasFailedLast faults fate (often + 1) out2
+  pub failed-more : (often : ℕ) (out out2 : U) → often ≤ 64 → HasFailedLast faults fate often out → HasCause {T = Unit {0}} (faults out) (faults out2) (Err Failed) → Follows (Suffers {T = Unit {0}} (Err Failed)) (fate out) (fate out2) → HasFailedLast faults fate (often + 1) out2
   failed-more often out out2 few is cause follows = record {
     counted = let counted = is.counted in let rose = cause.1 in omega (arith, counted, rose, few);
     running = told-more often (fate out) (fate out2) is.running follows;
     listed = λ some f told. told-listed (fate out) (fate out2) follows f told;
   }
 
-  failed-same : (often : ℕ) (out out2 : U) → HasFailedLast faults fate often out → HasCause {T = Unit {0}} (faults out) (faults out2) (Err NoMemory) → Follows (Suffers {T = Unit {0}} (Err NoMemory)) (fate out) (fate out2) → HasFailedLast faults fate often out2
+  pub failed-same : (often : ℕ) (out out2 : U) → HasFailedLast faults fate often out → HasCause {T = Unit {0}} (faults out) (faults out2) (Err NoMemory) → Follows (Suffers {T = Unit {0}} (Err NoMemory)) (fate out) (fate out2) → HasFailedLast faults fate often out2
   failed-same often out out2 is cause follows = record {
     counted = let counted = is.counted in omega (arith, counted, cause);
     running = λ f told room. is.running f (sym (told-same (fate out) (fate out2) follows) ∙ told) room;
