@@ -1,0 +1,15 @@
+mod Accounts
+mod Asked
+mod Crews
+mod Ends
+mod Group
+mod Joined
+mod Node
+mod Puts
+mod Raised
+mod Ready
+mod Refused
+mod Risen
+mod Round
+mod Steps
+mod Taken

@@ -1,0 +1,338 @@
+-- A round of a run: what it makes of all nodes, and what becomes of them by their faults.
+use Rattle.std.proofs.Common.{◌≡◌, ◌≢◌, ◌∙◌, ℕ, ◌<◌, ◌≤◌, ◌⊎◌, List, [], ◌++◌, length, Contains, true, false, Option, Some, None, Err, inl, inr, ⊎_elim, slice_index_or, refl, sym, ap, subst, arith}
+use Rattle.std.proofs.lemmas.Bool.{cases_lt}
+use Rattle.std.proofs.lemmas.List.{get_or_default}
+use Rattle.std.proofs.lemmas.List.Elements.{All-contains, All-contains_itself, All-weaker}
+use Rattle.ken_disk.specs.declared.disk.Disk as disk
+use Rattle.ken_app.specs.declared.oracle.Oracle as oracle
+use Rattle.ken_model.specs.Game.{Game}
+use Rattle.ken_model.specs.Handler.{Handler}
+use Rattle.ken_net.specs.declared.base.Base as base
+use Rattle.ken_net.specs.declared.lossy.Lossy.{Lossy}
+use Rattle.ken_net.specs.declared.net.Net as net
+use Rattle.ken_net.specs.Standings.{KeepsOwn}
+use Rattle.ken_core.specs.Clusters.{WasPut}
+use Rattle.ken_core.specs.Nodes.{Node}
+use Rattle.ken_core.specs.Packets.{nothing, Packet}
+use Rattle.ken_ship.specs.declared.faults.NodeFault.{NodeFault}
+use Rattle.ken_ship.specs.declared.faults.NodeFault.TheVariants.{Damaged, Disk, Memory, Outlet}
+use Rattle.ken_ship.specs.declared.outlet.Outlet as outlet
+use Rattle.ken_ship.specs.Laws.{packets_from}
+use Rattle.ken_node.specs.declared.watched.Watched.{Watched}
+use Rattle.ken_node.specs.Down.{MayRestart}
+use Rattle.ken_node.specs.Up.{IsUp}
+use Rattle.ken_run.specs.declared.run.Run.{Run}
+use Rattle.ken_run.specs.declared.station.Station.{Station}
+use Rattle.ken_run.specs.Accounts.{AreAccounted, IsAccounted, IsHeld, Terms}
+use Rattle.ken_run.specs.Refusals.{AreRefused, HasFailedLast, IsRefused, IsWornOut}
+use Rattle.ken_run.specs.Running.{IsRunning}
+use Rattle.ken_run.proofs.Lifted.{after-length}
+use Rattle.ken_wire.specs.declared.wire_net.WireNet.{WireNet}
+use Rattle.ken_beside.specs.On.{IsOn}
+use Rattle.ken_beside.specs.Puts.{puts_of}
+use Rattle.ken_beside.proofs.On.{up_is_on}
+use Rattle.ken_threads.specs.declared.crew.Crew.{Crew}
+use Rattle.ken_threads.specs.declared.crew.Faults.{Faults}
+use Rattle.ken_threads.specs.Rounds.{AreWires, CameFrom, Rounded}
+use Rattle.ken_threads.specs.Seating.{crew_at}
+use Rattle.ken_rounds.specs.declared.lending.Tally.{Tally}
+use Rattle.ken_rounds.specs.Crews.{CrewPlayed}
+use Rattle.ken_rounds.specs.Faults.{ComeTo, HadMemory, has_fallen}
+use Rattle.ken_rounds.specs.Lending.{AreLent, HasCome, HaveCome, station_at}
+use Rattle.ken_rounds.specs.Manned.{CameBack, IsMannedBy}
+use Rattle.ken_rounds.specs.Raising.{HadMemoryAll}
+use Rattle.ken_rounds.specs.Shaken.{AreKept, down, IsDownForGood, IsShaken, IsSomehow, up}
+use Rattle.ken_rounds.proofs.Accounts.{accounted, held}
+use Rattle.ken_rounds.proofs.Crews.{crew-played}
+use Rattle.ken_rounds.proofs.Group as group
+use Rattle.ken_rounds.proofs.Node.{HasGoneDown, node-is, state-is}
+use Rattle.ken_rounds.proofs.Raised.{NodePlayed, NodeThen, RaisedAs, not-looked-at, or-either, WentOn, went-on, WentOut, went-out, accounted-on, kept-not-looked-at, kept-out, refused-on, refused-out, refused-same}
+use Rattle.ken_rounds.proofs.Refused.{refused, worn_out}
+
+-- what faults come to that isn't want of memory comes of none
+no-memory : (f : Faults) (fault : Option NodeFault) → fault ≢ Some Memory → ComeTo f fault → HadMemory f
+no-memory f None other is = is.0
+no-memory f (Some Disk) other is = is.0
+no-memory f (Some Outlet) other is = is.0
+no-memory f (Some Memory) other is = absurd (other refl)
+no-memory f (Some (Damaged disk place)) other is = absurd is
+
+module _ {R D O U A : Type 0} {b : base.Ghosts (WireNet R)} (d : disk.Ghosts (Watched D)) (e : net.Ghosts (Lossy (WireNet R) b)) (o : oracle.Ghosts O) (u : outlet.Ghosts U) (handles : A → Handler) (wires : AreWires e)
+    (g : Game) (made : ℕ) (r : Run D O U A) (running : IsRunning d.told d.size u.took handles g made r) (whole : made ≡ g.nodes)
+    (crews crews2 : List (Crew (Watched D) O U)) (tallies : List Tally) (now : List (Station D O U)) (faults : List (Option NodeFault)) (c0 : Crew (Watched D) O U) (t0 : Tally) (s0 : Station D O U)
+    (lent : AreLent r.stations.items crews tallies)
+    (rounded : Rounded d e o u g.handler crews crews2) (come : HaveCome d crews2 tallies now faults) (had : HadMemoryAll faults) where
+  abbrev was : ℕ → Station D O U
+  was v = station_at v r.stations.items s0
+
+  abbrev is : ℕ → Station D O U
+  is v = station_at v now s0
+
+  abbrev crew : ℕ → Crew (Watched D) O U
+  crew v = crew_at v crews c0
+
+  abbrev crew2 : ℕ → Crew (Watched D) O U
+  crew2 v = crew_at v crews2 c0
+
+  abbrev pub fault : ℕ → Option NodeFault
+  fault v = slice_index_or faults v None
+
+  -- ---- one node
+
+  module _ (v : ℕ) (low : v < made) where
+    in-crews : v < length crews
+    in-crews = let width = running.stands.width in let count = lent.count in omega (arith, low, width, count)
+
+    in-crews2 : v < length crews2
+    in-crews2 = let count = rounded.count in let so = in-crews in omega (arith, count, so)
+
+    in-stations : v < length r.stations.items
+    in-stations = let width = running.stands.width in omega (arith, low, width)
+
+    manned : IsMannedBy (crew v) (was v)
+    manned = (lent.each v s0 c0 t0 in-stations).0
+
+    own : KeepsOwn (was v).mail × KeepsOwn (was v).acks
+    own = let keeps = (lent.each v s0 c0 t0 in-stations).2 in (keeps.mail, keeps.acks)
+
+    has-come : HasCome d (crew2 v) (slice_index_or tallies v t0) (is v) (fault v)
+    has-come = come.each v c0 t0 s0 in-crews2
+
+    not-memory : fault v ≢ Some Memory
+    not-memory = had v (let told = come.told in let so = in-crews2 in omega (arith, told, so))
+
+    back : CameBack (crew2 v) has-come.turns has-come.patches has-come.sends (was v) (is v)
+    back = has-come.back (was v) (lent.each v s0 c0 t0 in-stations).1
+
+    pub come-to : ComeTo (crew2 v).faults (fault v)
+    come-to = has-come.fault_is not-memory
+
+    up-before : IsUp d.told d.size g v (running.nodes v) (was v).node.stage
+    up-before = running.up v s0 low
+
+    on : IsOn d.told d.size g v (running.nodes v) (crew v).turns (crew v).patches (crew v).sends
+    on = (up_is_on d.told d.size g v (running.nodes v) (crew v).turns (crew v).patches (crew v).sends).on (subst (IsUp d.told d.size g v (running.nodes v)) manned.stage up-before)
+
+    abbrev Played : Type 0
+    Played =
+        CrewPlayed d e o u g v (running.nodes v) (crew v) (crew2 v) (rounded.acks v) (rounded.acks2 v) (rounded.mail v) (rounded.mail2 v) has-come.turns has-come.patches has-come.sends
+
+    played : Played
+    played =
+        crew-played d e o u wires.put_still wires.put_joins wires.given_still wires.given_joins g v (running.nodes v) (crew v) (crew2 v) (rounded.acks v) (rounded.acks2 v) (rounded.mail v) (rounded.mail2 v)
+        has-come.turns has-come.patches has-come.sends on (has-come.met not-memory) (no-memory (crew2 v).faults (fault v) not-memory come-to) (rounded.ran v c0 in-crews)
+
+    pub node-played : NodePlayed d o u g v (running.nodes v) (rounded.acks2 v) (rounded.mail2 v) (crew2 v).faults (was v) (is v)
+    node-played = record {
+      given = packets_from g.nodes (played.mail_gave ++ played.acks_gave);
+      events = played.events;
+      out = played.out;
+      after_it = played.after;
+      run = played.run;
+      by_handler = played.by_handler;
+      by_sender = played.by_sender;
+      node =
+          node-is d e o u wires g v (running.nodes v) (crew v) (crew2 v) (rounded.acks v) (rounded.acks2 v) (rounded.mail v) (rounded.mail2 v) (rounded.over v c0 in-crews)
+          has-come.turns has-come.patches has-come.sends (was v) (is v) manned back played;
+      state =
+          state-is d e o u wires g v (running.nodes v) (crew v) (crew2 v) (rounded.acks v) (rounded.acks2 v) (rounded.mail v) (rounded.mail2 v) (rounded.over v c0 in-crews)
+          has-come.turns has-come.patches has-come.sends (was v) (is v) manned back played;
+    }
+
+    -- a node whose disk failed may be restarted
+    pub may-rise : fault v ≡ Some Disk → MayRestart d.told (is v).node.stage
+    may-rise disk =
+        let went = node-played.state.down (let so = subst (ComeTo (crew2 v).faults) disk come-to in so.1) in
+        record { game = g; node = v; given = went.last; stood_for = node-played.after_it; doubt = went.doubt; down = went.down }
+
+    module _ (terms : Terms) where
+      pub is-accounted : IsAccounted d.told d.faults d.fate o.telling terms g v (was v) → has_fallen (crew2 v).faults ≡ false → IsAccounted d.told d.faults d.fate o.telling terms g v (is v)
+      is-accounted before none =
+          accounted d e o u terms g v (running.nodes v) (crew v) (crew2 v) (rounded.acks v) (rounded.acks2 v) (rounded.mail v) (rounded.mail2 v) has-come.turns has-come.patches has-come.sends (was v) (is v) played manned back up-before none before
+
+      pub is-held : IsAccounted d.told d.faults d.fate o.telling terms g v (was v) → has_fallen (crew2 v).faults ≡ true → IsHeld d.told d.faults d.fate o.telling terms g v (is v)
+      is-held before some =
+          held d e o u terms g v (running.nodes v) (crew v) (crew2 v) (rounded.acks v) (rounded.acks2 v) (rounded.mail v) (rounded.mail2 v) has-come.turns has-come.patches has-come.sends (was v) (is v) played manned back up-before some before
+
+      pub is-refused : IsRefused u.faults u.fate terms v (was v) → IsRefused u.faults u.fate terms v (is v)
+      is-refused before =
+          refused d e o u terms g v (running.nodes v) (crew v) (crew2 v) (rounded.acks v) (rounded.acks2 v) (rounded.mail v) (rounded.mail2 v) has-come.turns has-come.patches has-come.sends (was v) (is v) played manned back before
+
+      pub is-worn : IsRefused u.faults u.fate terms v (was v) → fault v ≡ Some Outlet → HasFailedLast u.faults u.fate 65 (is v).out
+      is-worn before out =
+          worn_out d e o u terms g v (running.nodes v) (crew v) (crew2 v) (rounded.acks v) (rounded.acks2 v) (rounded.mail v) (rounded.mail2 v) has-come.turns has-come.patches has-come.sends (was v) (is v) played manned back before
+          (let so = subst (ComeTo (crew2 v).faults) out come-to in so.1)
+
+  -- ---- all of them, after their faults were looked at
+
+  module _ (last : List (Station D O U)) (count : length last ≡ made) (most : ℕ) where
+    abbrev then : ℕ → Station D O U
+    then v = station_at v last s0
+
+    abbrev Then : (v : ℕ) → v < made → (Node → Type 0) → Type 0
+    Then v low State = NodeThen d o u g v (running.nodes v) (rounded.acks2 v) (rounded.mail2 v) (crew2 v).faults (fault v) (come-to v low) (was v) (is v) (then v) (node-played v low) State
+
+    abbrev OfNode : (ℕ → List Packet → Node → Type 0) → ℕ → Type 0
+    OfNode State v = group.OfNode d u handles g made r running whole rounded.acks2 rounded.mail2 last s0 State v
+
+    of-node : (State : ℕ → List Packet → Node → Type 0) → ((v : ℕ) (low : v < made) → Then v low (State v (node-played v low).given)) → (v : ℕ) → OfNode State v
+    of-node State nexts v =
+        ⊎_elim
+        (λ (low : v < made).
+        let next = nexts v low in
+        let one : OfNode State v = record {
+          given = (node-played v low).given;
+          events = next.events;
+          out = (node-played v low).out;
+          after_it = next.after_it;
+          run = next.run;
+          by_handler = (node-played v low).by_handler;
+          by_sender = (node-played v low).by_sender;
+          node = λ also. next.node;
+          state = λ also. next.state;
+          nobody = λ past. absurd (omega (arith, low, past));
+        } in one)
+        (λ (past : made ≤ v).
+        let one : OfNode State v = record {
+          given = [];
+          events = [];
+          out = nothing;
+          after_it = running.nodes v;
+          run = (refl, refl);
+          by_handler = [];
+          by_sender = [];
+          node = λ low. absurd (omega (arith, low, past));
+          state = λ low. absurd (omega (arith, low, past));
+          nobody = λ also. (refl, refl, refl);
+        } in one)
+        (cases_lt v made)
+
+    mail-width : (v : ℕ) → v < made → length (rounded.mail2 v).base.sends.items ≡ made
+    mail-width v low =
+        let node = (node-played v low).node in
+        wires.width (rounded.mail2 v)
+        ∙ ap (λ l. length l.links) ((rounded.over v c0 (in-crews v low)).mail_links.1 ∙ sym (back v low).mail ∙ node.mail)
+        ∙ after-length (puts_of (node-played v low).by_sender) (was v).mail.links ∙ (running.stands.each v s0 low).mail.to_each ∙ sym whole
+
+    acks-width : (v : ℕ) → v < made → length (rounded.acks2 v).base.sends.items ≡ made
+    acks-width v low =
+        let node = (node-played v low).node in
+        wires.width (rounded.acks2 v)
+        ∙ ap (λ l. length l.links) ((rounded.over v c0 (in-crews v low)).acks_links.1 ∙ sym (back v low).acks ∙ node.acks)
+        ∙ after-length (puts_of (node-played v low).by_handler) (was v).acks.links ∙ (running.stands.each v s0 low).acks.to_each ∙ sym whole
+
+    crews-count : length crews ≡ made
+    crews-count = lent.count ∙ running.stands.width
+
+    mail-came : CameFrom made rounded.acks2 rounded.mail2
+    mail-came = subst (λ (k : ℕ). CameFrom k rounded.acks2 rounded.mail2) crews-count rounded.mail_came
+
+    acks-came : CameFrom made rounded.mail2 rounded.acks2
+    acks-came = subst (λ (k : ℕ). CameFrom k rounded.mail2 rounded.acks2) crews-count rounded.acks_came
+
+    module _ (r2 : Run D O U A) (same : (r2.nodes ≡ r.nodes) × (r2.app ≡ r.app) × (r2.waiting ≡ r.waiting)) (restarts : r2.restarts ≡ r.restarts) (stations : r2.stations.items ≡ last) where
+      -- a node of the run, whatever stands past the end of its list
+      pub at : (v : ℕ) (other : Station D O U) → v < made → slice_index_or r2.stations.items v other ≡ then v
+      at v other low = ap (λ (ss : List (Station D O U)). slice_index_or ss v other) stations ∙ get_or_default last v other s0 (omega (arith, low, count))
+
+      -- what became of one of them
+      abbrev Became : (v : ℕ) → Type 0
+      Became v = WentOn d o most (fault v) (is v) (then v) ⊎ (WentOut d o most (fault v) (is v) (then v) ⊎ (then v ≡ is v))
+
+      abbrev UpThen : ℕ → List Packet → Node → Type 0
+      UpThen v given m = IsUp d.told d.size g v m (then v).node.stage
+
+      abbrev EitherThen : ℕ → List Packet → Node → Type 0
+      EitherThen v given m = UpThen v given m ⊎ HasGoneDown d u g v (rounded.acks2 v) (rounded.mail2 v) given m (then v)
+
+      -- all go on
+      pub goes-on : ((v : ℕ) → v < made → WentOn d o most (fault v) (is v) (then v)) → IsRunning d.told d.size u.took handles g made r2
+      goes-on all =
+          let of = of-node UpThen (λ v low. went-on d o u g v (running.nodes v) (rounded.acks2 v) (rounded.mail2 v) (crew2 v).faults (fault v) (come-to v low) (was v) (is v) (then v) (node-played v low) most (all v low)) in
+          record {
+            nodes = λ v. (of v).after_it;
+            emissions = group.emissions2 d u handles g made r running whole rounded.acks2 rounded.mail2 last s0 UpThen own of mail-came acks-came mail-width acks-width;
+            stands = group.stands-all d u handles g made r running whole rounded.acks2 rounded.mail2 last s0 UpThen own of mail-came acks-came mail-width acks-width r2 same stations count;
+            up = λ v other low. subst (λ (s : Station D O U). IsUp d.told d.size g v (of v).after_it s.node.stage) (sym (at v other low)) ((of v).state low);
+          }
+
+      then-either : (v : ℕ) (low : v < made) → Became v → Then v low (EitherThen v (node-played v low).given)
+      then-either v low (inl on) =
+          or-either d o u g v (running.nodes v) (rounded.acks2 v) (rounded.mail2 v) (crew2 v).faults (fault v) (come-to v low) (was v) (is v) (then v) (node-played v low)
+          (went-on d o u g v (running.nodes v) (rounded.acks2 v) (rounded.mail2 v) (crew2 v).faults (fault v) (come-to v low) (was v) (is v) (then v) (node-played v low) most on)
+      then-either v low (inr (inl out)) =
+          went-out d o u g v (running.nodes v) (rounded.acks2 v) (rounded.mail2 v) (crew2 v).faults (fault v) (come-to v low) (was v) (is v) (then v) (node-played v low) most out
+      then-either v low (inr (inr alike)) =
+          not-looked-at d o u g v (running.nodes v) (rounded.acks2 v) (rounded.mail2 v) (crew2 v).faults (fault v) (come-to v low) (was v) (is v) (then v) (node-played v low) alike
+
+      -- some may be down
+      pub is-shaken : ((v : ℕ) → v < made → Became v) → IsShaken d.told d.size u.took handles g made r2
+      is-shaken all =
+          let of = of-node EitherThen (λ v low. then-either v low (all v low)) in
+          let w = group.group2 d u handles g made r running whole rounded.acks2 rounded.mail2 last s0 EitherThen own of mail-came acks-came mail-width acks-width in
+          let somehow : (v : ℕ) → v < made → EitherThen v (of v).given (of v).after_it → IsSomehow d.told d.size g w v (of v).after_it (then v).node.stage =
+          λ v low.
+          ⊎_elim (λ is_up. up is_up)
+          (λ (gone : HasGoneDown d u g v (rounded.acks2 v) (rounded.mail2 v) (of v).given (of v).after_it (then v)).
+          down gone.last
+          (All-weaker (Contains gone.last) (WasPut w)
+          (λ p there. All-contains (WasPut w) (of v).given p (group.given-put d u handles g made r running whole rounded.acks2 rounded.mail2 last s0 EitherThen own of mail-came acks-came mail-width acks-width v) (gone.among p there))
+          gone.last (All-contains_itself gone.last)) gone.doubt gone.down) in
+          record {
+            nodes = λ v. (of v).after_it;
+            emissions = group.emissions2 d u handles g made r running whole rounded.acks2 rounded.mail2 last s0 EitherThen own of mail-came acks-came mail-width acks-width;
+            stands = group.stands-all d u handles g made r running whole rounded.acks2 rounded.mail2 last s0 EitherThen own of mail-came acks-came mail-width acks-width r2 same stations count;
+            each = λ v other low. subst (λ (s : Station D O U). IsSomehow d.told d.size g w v (of v).after_it s.node.stage) (sym (at v other low)) (somehow v low ((of v).state low));
+          }
+
+      -- ---- their accounts
+
+      module _ (terms : Terms) (few : most ≡ terms.most) (before : AreAccounted d.told d.faults d.fate o.telling terms g made r) where
+        pub all-accounted : ((v : ℕ) → v < made → WentOn d o most (fault v) (is v) (then v)) → AreAccounted d.told d.faults d.fate o.telling terms g made r2
+        all-accounted all = record {
+          most = restarts ∙ before.most;
+          each = λ v other low.
+              subst (IsAccounted d.told d.faults d.fate o.telling terms g v) (sym (at v other low))
+              (accounted-on d o terms g v most (crew2 v).faults (fault v) (come-to v low) few (is v) (then v) (is-accounted v low terms (before.each v s0 low)) (is-held v low terms (before.each v s0 low)) (all v low));
+        }
+
+        abbrev KeptThen : ℕ → Station D O U → Type 0
+        KeptThen v s = IsAccounted d.told d.faults d.fate o.telling terms g v s ⊎ IsHeld d.told d.faults d.fate o.telling terms g v s
+
+        then-kept : (v : ℕ) (low : v < made) → Became v → KeptThen v (then v)
+        then-kept v low (inl on) =
+            inl (accounted-on d o terms g v most (crew2 v).faults (fault v) (come-to v low) few (is v) (then v) (is-accounted v low terms (before.each v s0 low)) (is-held v low terms (before.each v s0 low)) on)
+        then-kept v low (inr (inl out)) =
+            kept-out d o terms g v most (crew2 v).faults (fault v) (come-to v low) few (is v) (then v) (is-accounted v low terms (before.each v s0 low)) (is-held v low terms (before.each v s0 low)) out
+        then-kept v low (inr (inr alike)) =
+            kept-not-looked-at d o terms g v most (crew2 v).faults (fault v) (come-to v low) few (is v) (then v) (is-accounted v low terms (before.each v s0 low)) (is-held v low terms (before.each v s0 low)) alike
+
+        pub all-kept : ((v : ℕ) → v < made → Became v) → AreKept d.told d.faults d.fate o.telling terms g made r2
+        all-kept all = record {
+          most = restarts ∙ before.most;
+          each = λ v other low. subst (KeptThen v) (sym (at v other low)) (then-kept v low (all v low));
+        }
+
+        -- a node that is down for good
+        pub down-for-good : (v : ℕ) (low : v < made) → fault v ≡ Some Disk → RaisedAs d o most (Err Disk) (is v) (then v) → IsDownForGood d.told d.faults d.fate o.telling terms g v r2
+        down-for-good v low disk raised =
+            let fallen = (let so = subst (ComeTo (crew2 v).faults) disk (come-to v low) in so.1) in
+            let went = (node-played v low).state.down fallen in
+            let held : IsHeld d.told d.faults d.fate o.telling terms g v (then v) = raised.accounts terms g v (is-held v low terms (before.each v s0 low) fallen) (omega (arith, few)) in
+            let used = (raised.back g v went.last (node-played v low).after_it went.doubt went.down).2 in
+            let most_of = held.books.most in
+            λ other. subst (λ (s : Station D O U). IsHeld d.told d.faults d.fate o.telling terms g v s × (s.restarts ≡ terms.most)) (sym (at v other low)) (held, omega (arith, used, most_of, few))
+
+      -- ---- their outlets
+
+      module _ (terms : Terms) (before : AreRefused u.faults u.fate terms made r) where
+        then-refused : (v : ℕ) (low : v < made) → Became v → IsRefused u.faults u.fate terms v (then v)
+        then-refused v low (inl on) = refused-on d o u terms v most (fault v) (is v) (then v) (is-refused v low terms (before.each v s0 low)) on
+        then-refused v low (inr (inl out)) = refused-out d o u terms v most (fault v) (is v) (then v) (is-refused v low terms (before.each v s0 low)) out
+        then-refused v low (inr (inr alike)) = refused-same d o u terms v most (fault v) (is v) (then v) (is-refused v low terms (before.each v s0 low)) alike
+
+        pub all-refused : ((v : ℕ) → v < made → Became v) → AreRefused u.faults u.fate terms made r2
+        all-refused all = record { each = λ v other low. subst (IsRefused u.faults u.fate terms v) (sym (at v other low)) (then-refused v low (all v low)) }
+
+        pub is-worn-out : (v : ℕ) (low : v < made) → fault v ≡ Some Outlet → then v ≡ is v → IsWornOut u.faults u.fate terms v r2
+        is-worn-out v low out same = λ other. subst (λ (s : Station D O U). HasFailedLast u.faults u.fate 65 s.out) (sym (at v other low ∙ same)) (is-worn v low terms (before.each v s0 low) out)

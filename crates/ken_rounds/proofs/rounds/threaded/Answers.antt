@@ -1,0 +1,63 @@
+-- One round after another.
+use Rattle.std.proofs.lemmas.Result.{err_from_is_err_and}
+use Rattle.ken_run.specs.Clauses.{Drains}
+use Rattle.ken_rounds.proofs.rounds.threaded.Goals as goal
+
+pub loop-round-init : goal.loop-round-init
+loop-round-init g c = record {
+  leaves = λ game made up whole. up;
+  accounts = λ terms game made up whole accounted. accounted;
+  refused = λ terms game made up whole are. are;
+}
+
+pub one_round-requires : goal.one_round-requires
+one_round-requires g c =
+    let is = c.requires in
+    let of_types = c.type_bounds in
+    let drains : Drains g.D.Disk g.U.Outlet g.A.App c.loop-round.run =
+    record { game = is.game; made = is.made; running = c.loop-round.invariant.leaves is.game is.made is.running is.all; all = is.all } in
+    (of_types.send-D, (of_types.send-O, (of_types.send-U, (of_types.sync-R, (of_types.sync-A, (of_types.sync-G, drains))))))
+
+pub loop-round-preserved : goal.loop-round-preserved
+loop-round-preserved g c =
+    let before = c.loop-round.invariant in
+    let one = c.in_ok-one_round.ensures in
+    record {
+      leaves = λ game made up whole. one.leaves game made (before.leaves game made up whole) whole;
+      accounts = λ terms game made up whole accounted. one.accounts terms game made (before.leaves game made up whole) whole (before.accounts terms game made up whole accounted);
+      refused = λ terms game made up whole are. one.refused terms game made (before.leaves game made up whole) whole (before.refused terms game made up whole are);
+    }
+
+pub returns-in_err-one_round-clause-leaves : goal.returns-in_err-one_round-clause-leaves
+returns-in_err-one_round-clause-leaves g c = λ game made up whole.
+    let p = err_from_is_err_and c.from_residual.result c.from_residual.ensures.1 in
+    let before = c.loop-round.invariant in
+    rw (p.1, p.2) (c.in_err-one_round.ensures.leaves game made (before.leaves game made up whole) whole)
+
+pub returns-in_err-one_round-clause-accounts : goal.returns-in_err-one_round-clause-accounts
+returns-in_err-one_round-clause-accounts g c = λ terms game made up whole accounted.
+    let p = err_from_is_err_and c.from_residual.result c.from_residual.ensures.1 in
+    let before = c.loop-round.invariant in
+    rw (p.1, p.2) (c.in_err-one_round.ensures.accounts terms game made (before.leaves game made up whole) whole (before.accounts terms game made up whole accounted))
+
+pub returns-in_err-one_round-clause-refused : goal.returns-in_err-one_round-clause-refused
+returns-in_err-one_round-clause-refused g c = λ terms game made up whole are.
+    let p = err_from_is_err_and c.from_residual.result c.from_residual.ensures.1 in
+    let before = c.loop-round.invariant in
+    rw (p.1, p.2) (c.in_err-one_round.ensures.refused terms game made (before.leaves game made up whole) whole (before.refused terms game made up whole are))
+
+pub returns-in_err-one_round-clause-stops : goal.returns-in_err-one_round-clause-stops
+returns-in_err-one_round-clause-stops g c = λ terms game made up whole accounted are.
+    let p = err_from_is_err_and c.from_residual.result c.from_residual.ensures.1 in
+    let before = c.loop-round.invariant in
+    rw (p.1, p.2)
+    (c.in_err-one_round.ensures.stops terms game made (before.leaves game made up whole) whole (before.accounts terms game made up whole accounted) (before.refused terms game made up whole are))
+
+pub returns-clause-leaves : goal.returns-clause-leaves
+returns-clause-leaves g c = c.loop-round.invariant.leaves
+
+pub returns-clause-accounts : goal.returns-clause-accounts
+returns-clause-accounts g c = c.loop-round.invariant.accounts
+
+pub returns-clause-refused : goal.returns-clause-refused
+returns-clause-refused g c = c.loop-round.invariant.refused

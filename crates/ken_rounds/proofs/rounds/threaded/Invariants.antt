@@ -1,0 +1,10 @@
+use Rattle.std.proofs.Common.{Ok}
+use Rattle.ken_rounds.specs.Clauses.{AccountsRounds, LeavesRounds, RefusesRounds}
+use Rattle.ken_rounds.proofs.rounds.threaded.Given as goal
+
+abbrev pub invariant-loop-round : goal.invariant-loop-round
+invariant-loop-round g l = record {
+  leaves : LeavesRounds g.D.Disk g.U.Outlet g.A.App {T = Unit {0}} l.fn.run (Ok tt) l.run;
+  accounts : AccountsRounds g.D.Disk g.O.Oracle g.U.Outlet g.A.App {T = Unit {0}} l.fn.run (Ok tt) l.run;
+  refused : RefusesRounds g.D.Disk g.U.Outlet g.A.App {T = Unit {0}} l.fn.run (Ok tt) l.run;
+}

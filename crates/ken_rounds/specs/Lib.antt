@@ -1,0 +1,7 @@
+pub mod Clauses
+pub mod Crews
+pub mod Faults
+pub mod Lending
+pub mod Manned
+pub mod Raising
+pub mod Shaken
