@@ -25,6 +25,7 @@ use Rattle.ken_threads.specs.declared.crew.Crew.{Crew}
 use Rattle.ken_threads.specs.Rounds.{Rounded}
 use Rattle.ken_rounds.specs.declared.lending.Tally.{Tally}
 use Rattle.ken_rounds.specs.Lending.{AreLent, HaveCome, station_at}
+use Rattle.ken_rounds.specs.Quota.{ServesBy}
 use Rattle.ken_rounds.specs.Raising.{Answered, AnswersBy, HadMemoryAll, IsOut, IsOutAt, refused, used_up, WasRaised}
 use Rattle.ken_rounds.specs.Shaken.{AccountsRoundsBy, IsDownForGood, LeavesRoundsBy, StopsRoundsBy}
 use Rattle.ken_rounds.proofs.Raised.{goes-on, is-out, RaisedAs, WentOn, WentOut}
@@ -65,6 +66,10 @@ module _ {D R O U A : Type 0} {b : base.Ghosts (WireNet R)} (d : disk.Ghosts D) 
         (cases_eq x v))
         (cases_lt x v)
 
+    -- those before it go on
+    before-at : (v : ℕ) → IsOutAt d o most v faults now last → (x : ℕ) → x < v → WentOn w o most (fault x) (is x) (then x)
+    before-at v out x below = goes-on d w o most means (fault x) (is x) (then x) (out.before x s0 below)
+
     known-at : (v : ℕ) → IsOutAt d o most v faults now last → v < made
     known-at v out = let low = out.known in let count = now-count in omega (arith, low, count)
 
@@ -89,12 +94,20 @@ module _ {D R O U A : Type 0} {b : base.Ghosts (WireNet R)} (d : disk.Ghosts D) 
       let rd = rounded a.made in
       round.goes-on w e o u handles rd.wires g made r running whole crews crews2 tallies now faults c0 t0 s0 lent rd come a.had last (a.raised.0 ∙ now-count a.made a.had) most r2 same restarts stations (all-on a.made a.had x a)
   leaves (Err (run_faults.Down v)) a =
-      let rd = rounded a.made in (
-        known-at a.made a.had v a.raised,
-        round.is-shaken w e o u handles rd.wires g made r running whole crews crews2 tallies now faults c0 t0 s0 lent rd come a.had last (out-count a.made a.had v a.raised) most r2 same restarts stations (out-at a.made a.had v a.raised),
-      )
+      let rd = rounded a.made in
+      let known = known-at a.made a.had v a.raised in
+      let left =
+      round.is-shaken w e o u handles rd.wires g made r running whole crews crews2 tallies now faults c0 t0 s0 lent rd come a.had last (out-count a.made a.had v a.raised) most r2 same restarts stations
+      v (out-at a.made a.had v a.raised) (λ x low below. before-at a.made a.had v a.raised x below) in
+      (known, left.0, λ x other below. left.1 x other (omega (arith, known, below)) below)
   leaves (Err run_faults.Memory) a = tt
   leaves (Err (run_faults.Damaged v disk place)) a = undamaged v disk place a
+
+  pub serves : (result : Result (Unit {0}) RunFault) → AnswersBy d o most ran faults result now last → ServesBy g made 1 result r r2
+  serves (Ok x) a =
+      let rd = rounded a.made in
+      round.all-served w e o u handles rd.wires g made r running whole crews crews2 tallies now faults c0 t0 s0 lent rd come a.had last (a.raised.0 ∙ now-count a.made a.had) most r2 same restarts stations (leaves (Ok x) a) (all-on a.made a.had x a)
+  serves (Err fault) a = tt
 
   module _ (terms : Terms) (few : most ≡ terms.most) (before : AreAccounted w.told w.faults w.fate o.telling terms g made r) where
     pub accounts : (result : Result (Unit {0}) RunFault) → AnswersBy d o most ran faults result now last → AccountsRoundsBy w.told w.faults w.fate o.telling terms g result made r2
@@ -103,7 +116,12 @@ module _ {D R O U A : Type 0} {b : base.Ghosts (WireNet R)} (d : disk.Ghosts D) 
         round.all-accounted w e o u handles rd.wires g made r running whole crews crews2 tallies now faults c0 t0 s0 lent rd come a.had last (a.raised.0 ∙ now-count a.made a.had) most r2 same restarts stations terms few before (all-on a.made a.had x a)
     accounts (Err (run_faults.Down v)) a =
         let rd = rounded a.made in
-        round.all-kept w e o u handles rd.wires g made r running whole crews crews2 tallies now faults c0 t0 s0 lent rd come a.had last (out-count a.made a.had v a.raised) most r2 same restarts stations terms few before (out-at a.made a.had v a.raised)
+        let known = known-at a.made a.had v a.raised in (
+          round.all-kept w e o u handles rd.wires g made r running whole crews crews2 tallies now faults c0 t0 s0 lent rd come a.had last (out-count a.made a.had v a.raised) most r2 same restarts stations terms few before (out-at a.made a.had v a.raised),
+          λ x other below.
+              round.accounted-at w e o u handles rd.wires g made r running whole crews crews2 tallies now faults c0 t0 s0 lent rd come a.had last (out-count a.made a.had v a.raised) most r2 same restarts stations terms few before
+              x other (omega (arith, known, below)) (before-at a.made a.had v a.raised x below),
+        )
     accounts (Err run_faults.Memory) a = tt
     accounts (Err (run_faults.Damaged v disk place)) a = tt
 

@@ -11,5 +11,7 @@ mod Ready
 mod Refused
 mod Risen
 mod Round
+mod Served
 mod Steps
 mod Taken
+mod Turns

@@ -1,5 +1,5 @@
 -- A round of a run: what it makes of all nodes, and what becomes of them by their faults.
-use Rattle.std.proofs.Common.{◌≡◌, ◌≢◌, ◌∙◌, ℕ, ◌<◌, ◌≤◌, ◌⊎◌, List, [], ◌++◌, length, Contains, true, false, Option, Some, None, Err, inl, inr, ⊎_elim, slice_index_or, refl, sym, ap, subst, arith}
+use Rattle.std.proofs.Common.{◌≡◌, ◌≢◌, ◌∙◌, ℕ, ◌*◌, ◌<◌, ◌≤◌, ◌⊎◌, List, [], ◌++◌, length, Contains, Bool, true, false, ◌||◌, Option, Some, None, Err, inl, inr, ⊎_elim, slice_index_or, refl, sym, ap, subst, arith}
 use Rattle.std.proofs.lemmas.Bool.{cases_lt}
 use Rattle.std.proofs.lemmas.List.{get_or_default}
 use Rattle.std.proofs.lemmas.List.Elements.{All-contains, All-contains_itself, All-weaker}
@@ -18,6 +18,8 @@ use Rattle.ken_ship.specs.declared.faults.NodeFault.{NodeFault}
 use Rattle.ken_ship.specs.declared.faults.NodeFault.TheVariants.{Damaged, Disk, Memory, Outlet}
 use Rattle.ken_ship.specs.declared.outlet.Outlet as outlet
 use Rattle.ken_ship.specs.Laws.{packets_from}
+use Rattle.ken_node.specs.declared.stage.Stage.{Stage}
+use Rattle.ken_node.specs.declared.stage.Stage.TheVariants.{Created}
 use Rattle.ken_node.specs.declared.watched.Watched.{Watched}
 use Rattle.ken_node.specs.Down.{MayRestart}
 use Rattle.ken_node.specs.Up.{IsUp}
@@ -33,13 +35,14 @@ use Rattle.ken_beside.specs.Puts.{puts_of}
 use Rattle.ken_beside.proofs.On.{up_is_on}
 use Rattle.ken_threads.specs.declared.crew.Crew.{Crew}
 use Rattle.ken_threads.specs.declared.crew.Faults.{Faults}
-use Rattle.ken_threads.specs.Rounds.{AreWires, CameFrom, Rounded}
+use Rattle.ken_threads.specs.Rounds.{AreWires, CameFrom, handling_with, Rounded}
 use Rattle.ken_threads.specs.Seating.{crew_at}
 use Rattle.ken_rounds.specs.declared.lending.Tally.{Tally}
 use Rattle.ken_rounds.specs.Crews.{CrewPlayed}
-use Rattle.ken_rounds.specs.Faults.{ComeTo, HadMemory, has_fallen}
+use Rattle.ken_rounds.specs.Faults.{ComeTo, HadMemory, has_fallen, is_disk}
 use Rattle.ken_rounds.specs.Lending.{AreLent, HasCome, HaveCome, station_at}
 use Rattle.ken_rounds.specs.Manned.{CameBack, IsMannedBy}
+use Rattle.ken_rounds.specs.Quota.{AreServed, IsServed, MeetsQuota}
 use Rattle.ken_rounds.specs.Raising.{HadMemoryAll}
 use Rattle.ken_rounds.specs.Shaken.{AreKept, down, IsDownForGood, IsShaken, IsSomehow, up}
 use Rattle.ken_rounds.proofs.Accounts.{accounted, held}
@@ -48,6 +51,8 @@ use Rattle.ken_rounds.proofs.Group as group
 use Rattle.ken_rounds.proofs.Node.{HasGoneDown, node-is, state-is}
 use Rattle.ken_rounds.proofs.Raised.{NodePlayed, NodeThen, RaisedAs, not-looked-at, or-either, WentOn, went-on, WentOut, went-out, accounted-on, kept-not-looked-at, kept-out, refused-on, refused-out, refused-same}
 use Rattle.ken_rounds.proofs.Refused.{refused, worn_out}
+use Rattle.ken_rounds.proofs.Served.{has-made, HasMade, meets-quota}
+use Rattle.ken_rounds.proofs.Turns.{handler-makes}
 
 -- what faults come to that isn't want of memory comes of none
 no-memory : (f : Faults) (fault : Option NodeFault) → fault ≢ Some Memory → ComeTo f fault → HadMemory f
@@ -56,6 +61,10 @@ no-memory f (Some Disk) other is = is.0
 no-memory f (Some Outlet) other is = is.0
 no-memory f (Some Memory) other is = absurd (other refl)
 no-memory f (Some (Damaged disk place)) other is = absurd is
+
+first-false : (x y : Bool) → (x || y) ≡ false → x ≡ false
+first-false false y is = refl
+first-false true y is = let no : true ≡ false = is in absurd cc
 
 module _ {R D O U A : Type 0} {b : base.Ghosts (WireNet R)} (d : disk.Ghosts (Watched D)) (e : net.Ghosts (Lossy (WireNet R) b)) (o : oracle.Ghosts O) (u : outlet.Ghosts U) (handles : A → Handler) (wires : AreWires e)
     (g : Game) (made : ℕ) (r : Run D O U A) (running : IsRunning d.told d.size u.took handles g made r) (whole : made ≡ g.nodes)
@@ -138,6 +147,16 @@ module _ {R D O U A : Type 0} {b : base.Ghosts (WireNet R)} (d : disk.Ghosts (Wa
           state-is d e o u wires g v (running.nodes v) (crew v) (crew2 v) (rounded.acks v) (rounded.acks2 v) (rounded.mail v) (rounded.mail2 v) (rounded.over v c0 in-crews)
           has-come.turns has-come.patches has-come.sends (was v) (is v) manned back played;
     }
+
+    -- where none failed its handler made all its calls
+    pub made-turns : has_fallen (crew2 v).faults ≡ false → HasMade 16 (was v).node.stage (is v).node.stage
+    made-turns none_fell =
+        let faults : Faults = (crew2 v).faults in
+        let makes =
+        handler-makes d e o g.handler faults.handler (handling_with (rounded.acks v) (crew v)) (handling_with (rounded.acks2 v) (crew2 v)) (no-memory faults (fault v) not-memory come-to).handler
+        (first-false (is_disk faults.handler) (is_disk faults.patcher) none_fell) (rounded.ran v c0 in-crews).handler on.whole.workers.working in
+        let made = has-made d g.handler 16 (crew v).turns (crew2 v).turns has-come.turns (crew v).patches (crew2 v).patches has-come.patches (crew v).sends (crew2 v).sends has-come.sends makes (has-come.met not-memory) in
+        subst (λ stage. HasMade 16 stage (is v).node.stage) (sym manned.stage) (subst (HasMade 16 (Created (crew v).turns (crew v).patches (crew v).sends)) (sym back.stage) made)
 
     -- a node whose disk failed may be restarted
     pub may-rise : fault v ≡ Some Disk → MayRestart d.told (is v).node.stage
@@ -265,36 +284,78 @@ module _ {R D O U A : Type 0} {b : base.Ghosts (WireNet R)} (d : disk.Ghosts (Wa
       then-either v low (inr (inr alike)) =
           not-looked-at d o u g v (running.nodes v) (rounded.acks2 v) (rounded.mail2 v) (crew2 v).faults (fault v) (come-to v low) (was v) (is v) (then v) (node-played v low) alike
 
-      -- some may be down
-      pub is-shaken : ((v : ℕ) → v < made → Became v) → IsShaken d.told d.size u.took handles g made r2
-      is-shaken all =
-          let of = of-node EitherThen (λ v low. then-either v low (all v low)) in
-          let w = group.group2 d u handles g made r running whole rounded.acks2 rounded.mail2 last s0 EitherThen own of mail-came acks-came mail-width acks-width in
+      -- and one of those below the limit is up
+      abbrev EitherBelow : ℕ → ℕ → List Packet → Node → Type 0
+      EitherBelow limit v given m = EitherThen v given m × (v < limit → UpThen v given m)
+
+      then-below : (limit v : ℕ) (low : v < made) → Became v → (v < limit → WentOn d o most (fault v) (is v) (then v)) → Then v low (EitherBelow limit v (node-played v low).given)
+      then-below limit v low became on =
+          ⊎_elim
+          (λ (below : v < limit).
+          let t = went-on d o u g v (running.nodes v) (rounded.acks2 v) (rounded.mail2 v) (crew2 v).faults (fault v) (come-to v low) (was v) (is v) (then v) (node-played v low) most (on below) in
+          let one : Then v low (EitherBelow limit v (node-played v low).given) = record { events = t.events; after_it = t.after_it; run = t.run; node = t.node; state = (inl t.state, λ also. t.state) } in one)
+          (λ (above : limit ≤ v).
+          let t = then-either v low became in
+          let one : Then v low (EitherBelow limit v (node-played v low).given) = record { events = t.events; after_it = t.after_it; run = t.run; node = t.node; state = (t.state, λ below. absurd (omega (arith, above, below))) } in one)
+          (cases_lt v limit)
+
+      -- some may be down, but none below the limit
+      pub is-shaken : (limit : ℕ) → ((v : ℕ) → v < made → Became v) → ((v : ℕ) → v < made → v < limit → WentOn d o most (fault v) (is v) (then v))
+          → (shaken : IsShaken d.told d.size u.took handles g made r2) × ((v : ℕ) (other : Station D O U) → v < made → v < limit → IsUp d.told d.size g v (shaken.nodes v) (slice_index_or r2.stations.items v other).node.stage)
+      is-shaken limit all on =
+          let of = of-node (EitherBelow limit) (λ v low. then-below limit v low (all v low) (on v low)) in
+          let w = group.group2 d u handles g made r running whole rounded.acks2 rounded.mail2 last s0 (EitherBelow limit) own of mail-came acks-came mail-width acks-width in
           let somehow : (v : ℕ) → v < made → EitherThen v (of v).given (of v).after_it → IsSomehow d.told d.size g w v (of v).after_it (then v).node.stage =
           λ v low.
           ⊎_elim (λ is_up. up is_up)
           (λ (gone : HasGoneDown d u g v (rounded.acks2 v) (rounded.mail2 v) (of v).given (of v).after_it (then v)).
           down gone.last
           (All-weaker (Contains gone.last) (WasPut w)
-          (λ p there. All-contains (WasPut w) (of v).given p (group.given-put d u handles g made r running whole rounded.acks2 rounded.mail2 last s0 EitherThen own of mail-came acks-came mail-width acks-width v) (gone.among p there))
+          (λ p there. All-contains (WasPut w) (of v).given p (group.given-put d u handles g made r running whole rounded.acks2 rounded.mail2 last s0 (EitherBelow limit) own of mail-came acks-came mail-width acks-width v) (gone.among p there))
           gone.last (All-contains_itself gone.last)) gone.doubt gone.down) in
-          record {
+          let shaken : IsShaken d.told d.size u.took handles g made r2 = record {
             nodes = λ v. (of v).after_it;
-            emissions = group.emissions2 d u handles g made r running whole rounded.acks2 rounded.mail2 last s0 EitherThen own of mail-came acks-came mail-width acks-width;
-            stands = group.stands-all d u handles g made r running whole rounded.acks2 rounded.mail2 last s0 EitherThen own of mail-came acks-came mail-width acks-width r2 same stations count;
-            each = λ v other low. subst (λ (s : Station D O U). IsSomehow d.told d.size g w v (of v).after_it s.node.stage) (sym (at v other low)) (somehow v low ((of v).state low));
-          }
+            emissions = group.emissions2 d u handles g made r running whole rounded.acks2 rounded.mail2 last s0 (EitherBelow limit) own of mail-came acks-came mail-width acks-width;
+            stands = group.stands-all d u handles g made r running whole rounded.acks2 rounded.mail2 last s0 (EitherBelow limit) own of mail-came acks-came mail-width acks-width r2 same stations count;
+            each = λ v other low. subst (λ (s : Station D O U). IsSomehow d.told d.size g w v (of v).after_it s.node.stage) (sym (at v other low)) (somehow v low ((of v).state low).0);
+          } in
+          (shaken, λ v other low below. subst (λ (s : Station D O U). IsUp d.told d.size g v (of v).after_it s.node.stage) (sym (at v other low)) (((of v).state low).1 below))
+
+      -- ---- their turns
+
+      served : (v : ℕ) (low : v < made) → ((old : Stage (Watched D)) → HasMade 16 old (then v).node.stage → MeetsQuota g (16 * 1) old (then v).node.stage) → WentOn d o most (fault v) (is v) (then v) → IsServed g (16 * 1) (was v) (then v)
+      served v low meets (inl (none, alike)) =
+          let made : HasMade 16 (was v).node.stage (then v).node.stage =
+          subst (λ (s : Station D O U). HasMade 16 (was v).node.stage s.node.stage) (sym alike) (made-turns v low (let so = subst (ComeTo (crew2 v).faults) none (come-to v low) in so.1)) in
+          let tries = (back v low).restarts in
+          let kept = ap (λ (s : Station D O U). s.restarts) alike in
+          record { tries = omega (arith, tries, kept); quota = λ also. meets (was v).node.stage made; quiet = λ also. made.quiet }
+      served v low meets (inr (disk, raised)) =
+          let fallen = (let so = subst (ComeTo (crew2 v).faults) disk (come-to v low) in so.1) in
+          let went = (node-played v low).state.down fallen in
+          let again = (raised.back g v went.last (node-played v low).after_it went.doubt went.down).1.2 in
+          let tries = (back v low).restarts in
+          record { tries = omega (arith, tries, again); quota = λ also. absurd (omega (arith, also, tries, again)); quiet = λ also. absurd (omega (arith, also, tries, again)) }
+
+      pub all-served : IsRunning d.told d.size u.took handles g made r2 → ((v : ℕ) → v < made → WentOn d o most (fault v) (is v) (then v)) → AreServed g made 1 r r2
+      all-served now all v other low =
+          let here = at v other low in
+          let there : slice_index_or r.stations.items v other ≡ was v = get_or_default r.stations.items v other s0 (in-stations v low) in
+          let is_up : IsUp d.told d.size g v (now.nodes v) (then v).node.stage = subst (λ (s : Station D O U). IsUp d.told d.size g v (now.nodes v) s.node.stage) here (now.up v other low) in
+          let one = served v low (λ old made_it. meets-quota d.told d.size g now.nodes now.emissions now.stands.limits now.stands.accord v 16 old (then v).node.stage is_up made_it) (all v low) in
+          subst (λ (s : Station D O U). IsServed g (16 * 1) s (slice_index_or r2.stations.items v other)) (sym there) (subst (IsServed g (16 * 1) (was v)) (sym here) one)
 
       -- ---- their accounts
 
       module _ (terms : Terms) (few : most ≡ terms.most) (before : AreAccounted d.told d.faults d.fate o.telling terms g made r) where
+        -- one that goes on
+        pub accounted-at : (v : ℕ) (other : Station D O U) (low : v < made) → WentOn d o most (fault v) (is v) (then v) → IsAccounted d.told d.faults d.fate o.telling terms g v (slice_index_or r2.stations.items v other)
+        accounted-at v other low on =
+            subst (IsAccounted d.told d.faults d.fate o.telling terms g v) (sym (at v other low))
+            (accounted-on d o terms g v most (crew2 v).faults (fault v) (come-to v low) few (is v) (then v) (is-accounted v low terms (before.each v s0 low)) (is-held v low terms (before.each v s0 low)) on)
+
         pub all-accounted : ((v : ℕ) → v < made → WentOn d o most (fault v) (is v) (then v)) → AreAccounted d.told d.faults d.fate o.telling terms g made r2
-        all-accounted all = record {
-          most = restarts ∙ before.most;
-          each = λ v other low.
-              subst (IsAccounted d.told d.faults d.fate o.telling terms g v) (sym (at v other low))
-              (accounted-on d o terms g v most (crew2 v).faults (fault v) (come-to v low) few (is v) (then v) (is-accounted v low terms (before.each v s0 low)) (is-held v low terms (before.each v s0 low)) (all v low));
-        }
+        all-accounted all = record { most = restarts ∙ before.most; each = λ v other low. accounted-at v other low (all v low) }
 
         abbrev KeptThen : ℕ → Station D O U → Type 0
         KeptThen v s = IsAccounted d.told d.faults d.fate o.telling terms g v s ⊎ IsHeld d.told d.faults d.fate o.telling terms g v s

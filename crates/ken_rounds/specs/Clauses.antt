@@ -10,12 +10,24 @@ use Rattle.ken_run.specs.declared.run.Run.{Run}
 use Rattle.ken_run.specs.Accounts.{AreAccounted, Terms}
 use Rattle.ken_run.specs.Clauses.{Up}
 use Rattle.ken_run.specs.Refusals.{AreRefused, RefusedRunBy}
+use Rattle.ken_rounds.specs.Quota.{ServesBy}
 use Rattle.ken_rounds.specs.Shaken.{AccountsRoundsBy, LeavesRoundsBy, StopsRoundsBy}
+
+-- all of a run but its nodes is as it was
+pub record KeepsRest {D O U A : Type 0} (old new : Run D O U A) : Type 0 where
+  pub nodes : new.nodes ≡ old.nodes
+  pub app : new.app ≡ old.app
+  pub restarts : new.restarts ≡ old.restarts
+  pub waiting : new.waiting ≡ old.waiting
 
 module _ {D O U A : Type 0} (d : disk.Ghosts D) (u : outlet.Ghosts U) (a : app.Ghosts A) where
   -- of a whole run, all nodes of which were up
   abbrev pub LeavesRounds : {T : Type 0} → Run D O U A → Result T RunFault → Run D O U A → Type 0
   LeavesRounds old result new = (g : Game) (made : ℕ) → Up d u a g made old → made ≡ g.nodes → LeavesRoundsBy (λ w. d.told w.disk) (λ w. d.size w.disk) u.took a.handler result g made new
+
+  -- the turns that its nodes made in so many rounds
+  abbrev pub QuotaRounds : {T : Type 0} → ℕ → Run D O U A → Result T RunFault → Run D O U A → Type 0
+  QuotaRounds rounds old result new = (g : Game) (made : ℕ) → Up d u a g made old → made ≡ g.nodes → ServesBy g made rounds result old new
 
   -- and whose outlets had refused so often
   abbrev pub RefusesRounds : {T : Type 0} → Run D O U A → Result T RunFault → Run D O U A → Type 0

@@ -3,5 +3,6 @@ pub mod Crews
 pub mod Faults
 pub mod Lending
 pub mod Manned
+pub mod Quota
 pub mod Raising
 pub mod Shaken

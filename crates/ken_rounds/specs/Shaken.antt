@@ -39,9 +39,14 @@ module _ {D O U A : Type 0} (told : Watched D → Option Story) (size : Watched 
     pub stands : StandsFor told size took handles g made nodes emissions r
     pub each : (v : ℕ) (d : Station D O U) → v < made → IsSomehow told size g (group_of g nodes emissions) v (nodes v) (slice_index_or r.stations.items v d).node.stage
 
-  -- what rounds leave: all nodes are up, or the node that is named is down for good, and others may be too. Want of memory ends a run
+  -- each node before v is up, and stands for its node
+  abbrev pub AreUpBefore : Game → (ℕ → Node) → ℕ → Run D O U A → Type 0
+  AreUpBefore g nodes v r = (u : ℕ) (d : Station D O U) → u < v → IsUp told size g u (nodes u) (slice_index_or r.stations.items u d).node.stage
+
+  -- what rounds leave: all nodes are up; or the node that is named is down for good, those before it are up, and those after it may be down
+  -- too. Want of memory ends a run
   abbrev pub LeavesRoundsFault : RunFault → Game → ℕ → Run D O U A → Type 0
-  LeavesRoundsFault (run_faults.Down v) g made r = (v < made) × IsShaken g made r
+  LeavesRoundsFault (run_faults.Down v) g made r = (v < made) × (shaken : IsShaken g made r) × AreUpBefore g shaken.nodes v r
   LeavesRoundsFault run_faults.Memory g made r = Unit {0}
   LeavesRoundsFault (run_faults.Damaged v disk place) g made r = ⊥
 
@@ -56,8 +61,12 @@ module _ {D O U A : Type 0} (told : Watched D → Option Story) (count : Watched
     pub each : (v : ℕ) (d : Station D O U) → v < made
         → IsAccounted told count fate telling terms g v (slice_index_or r.stations.items v d) ⊎ IsHeld told count fate telling terms g v (slice_index_or r.stations.items v d)
 
+  -- those before v as ones that are up
+  abbrev pub AreAccountedBefore : ℕ → Run D O U A → Type 0
+  AreAccountedBefore v r = (u : ℕ) (d : Station D O U) → u < v → IsAccounted told count fate telling terms g u (slice_index_or r.stations.items u d)
+
   abbrev pub AccountsRoundsFault : RunFault → ℕ → Run D O U A → Type 0
-  AccountsRoundsFault (run_faults.Down v) made r = AreKept made r
+  AccountsRoundsFault (run_faults.Down v) made r = AreKept made r × AreAccountedBefore v r
   AccountsRoundsFault run_faults.Memory made r = Unit {0}
   AccountsRoundsFault (run_faults.Damaged v disk place) made r = Unit {0}
 

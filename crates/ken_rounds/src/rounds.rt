@@ -1,7 +1,7 @@
 // Rounds of threads over the nodes of a run.
 ghost use Rattle.std.specs.Prelude.{◌≡◌, ◌≤◌, length};
 ghost use Rattle.ken_run.specs.Clauses.{Drains};
-ghost use Rattle.ken_rounds.specs.Clauses.{AccountsRounds, LeavesRounds, RefusesRounds, StopsRounds};
+ghost use Rattle.ken_rounds.specs.Clauses.{AccountsRounds, KeepsRest, LeavesRounds, QuotaRounds, RefusesRounds, StopsRounds};
 ghost use Rattle.ken_rounds.specs.Raising.{AnswersBy, MayAnswer};
 
 use crate::lending::{bring_all_back, lend_all};
@@ -56,6 +56,8 @@ where
     ensures accounts { AccountsRounds D.Disk O.Oracle U.Outlet A.App run.old result run.new }
     ensures refused { RefusesRounds D.Disk U.Outlet A.App run.old result run.new }
     ensures stops { StopsRounds D.Disk O.Oracle U.Outlet A.App run.old result run.new }
+    ensures quota { QuotaRounds D.Disk U.Outlet A.App 1 run.old result run.new }
+    ensures rest { KeepsRest run.old run.new }
 {
     let nodes = usize::from(run.nodes());
     let mut crews = Vec::with_capacity(alloc, nodes)?;
@@ -94,6 +96,8 @@ where
     ensures accounts { AccountsRounds D.Disk O.Oracle U.Outlet A.App run.old result run.new }
     ensures refused { RefusesRounds D.Disk U.Outlet A.App run.old result run.new }
     ensures stops { StopsRounds D.Disk O.Oracle U.Outlet A.App run.old result run.new }
+    ensures quota { QuotaRounds D.Disk U.Outlet A.App rounds run.old result run.new }
+    ensures rest { KeepsRest run.old run.new }
 {
     for _round in 0..rounds {
         one_round(rt, alloc, run, gate)?;

@@ -1,13 +1,22 @@
 -- One round after another.
+use Rattle.std.proofs.Common.{◌∙◌, refl, arith}
 use Rattle.std.proofs.lemmas.Result.{err_from_is_err_and}
+use Rattle.ken_run.specs.declared.run.Run.{Run}
 use Rattle.ken_run.specs.Clauses.{Drains}
+use Rattle.ken_rounds.specs.Clauses.{KeepsRest}
+use Rattle.ken_rounds.proofs.Served.{served-fewer, served-none, served-then}
 use Rattle.ken_rounds.proofs.rounds.threaded.Goals as goal
+
+rest-then : {D O U A : Type 0} {a b c : Run D O U A} → KeepsRest a b → KeepsRest b c → KeepsRest a c
+rest-then one two = record { nodes = two.nodes ∙ one.nodes; app = two.app ∙ one.app; restarts = two.restarts ∙ one.restarts; waiting = two.waiting ∙ one.waiting }
 
 pub loop-round-init : goal.loop-round-init
 loop-round-init g c = record {
   leaves = λ game made up whole. up;
   accounts = λ terms game made up whole accounted. accounted;
   refused = λ terms game made up whole are. are;
+  quota = λ game made up whole v d low. served-none game _;
+  rest = record { nodes = refl; app = refl; restarts = refl; waiting = refl };
 }
 
 pub one_round-requires : goal.one_round-requires
@@ -26,6 +35,8 @@ loop-round-preserved g c =
       leaves = λ game made up whole. one.leaves game made (before.leaves game made up whole) whole;
       accounts = λ terms game made up whole accounted. one.accounts terms game made (before.leaves game made up whole) whole (before.accounts terms game made up whole accounted);
       refused = λ terms game made up whole are. one.refused terms game made (before.leaves game made up whole) whole (before.refused terms game made up whole are);
+      quota = λ game made up whole v d low. served-then game c.loop-round._round _ _ _ (before.quota game made up whole v d low) (one.quota game made (before.leaves game made up whole) whole v d low);
+      rest = rest-then before.rest one.rest;
     }
 
 pub returns-in_err-one_round-clause-leaves : goal.returns-in_err-one_round-clause-leaves
@@ -61,3 +72,19 @@ returns-clause-accounts g c = c.loop-round.invariant.accounts
 
 pub returns-clause-refused : goal.returns-clause-refused
 returns-clause-refused g c = c.loop-round.invariant.refused
+
+pub returns-in_err-one_round-clause-quota : goal.returns-in_err-one_round-clause-quota
+returns-in_err-one_round-clause-quota g c = λ game made up whole.
+    let p = err_from_is_err_and c.from_residual.result c.from_residual.ensures.1 in
+    rw p.1 tt
+
+pub returns-in_err-one_round-clause-rest : goal.returns-in_err-one_round-clause-rest
+returns-in_err-one_round-clause-rest g c = rest-then c.loop-round.invariant.rest c.in_err-one_round.ensures.rest
+
+pub returns-clause-quota : goal.returns-clause-quota
+returns-clause-quota g c = λ game made up whole v d low.
+    let past = c.loop-round-test.false in
+    served-fewer game _ _ _ _ (omega (arith, past)) (c.loop-round.invariant.quota game made up whole v d low)
+
+pub returns-clause-rest : goal.returns-clause-rest
+returns-clause-rest g c = c.loop-round.invariant.rest
