@@ -9,7 +9,7 @@ use Rattle.ken_model.specs.Limits.{IsPlain, ArePlain}
 use Rattle.ken_num.proofs.Decimals.{All-decimal}
 use Rattle.ken_net.specs.declared.act.LinkAct.{LinkAct}
 use Rattle.ken_script.specs.declared.scripts.DiskCut.{DiskCut}
-use Rattle.ken_script.specs.declared.scripts.TheConstants.{DISKS, MAX_COUNT, MAX_HOLD}
+use Rattle.ken_script.specs.declared.scripts.TheConstants.{DISKS, MAX_COUNT, MAX_HOLD, MAX_ROUNDS}
 use Rattle.ken_script.specs.Within.{IsShortAct, KeepsRules}
 use Rattle.ken_gen.specs.Draws.{drawn, past}
 use Rattle.ken_gen.specs.Inputs.{input_at, past_input, inputs_from, past_inputs}
@@ -86,8 +86,8 @@ acts_within nodes (suc count) x some =
     let put : drawn 100 (past (past x)) < 100 = drawn_below 100 (past (past x)) (lit< tt) in
     ((drawn_below nodes x some, drawn_below nodes (past x) some, omega arith, act_at_short (past (past (past x)))), acts_within nodes count (past_link_act x) some)
 
-pub keeps_rules : (seed nodes inputs : ℕ) → 0 < nodes → nodes ≤ MAX_NODES → inputs ≤ MAX_INPUTS → KeepsRules (script_of seed nodes inputs)
-keeps_rules seed nodes inputs some few_nodes few_inputs =
+pub keeps_rules : (seed nodes inputs rounds : ℕ) → 0 < nodes → nodes ≤ MAX_NODES → inputs ≤ MAX_INPUTS → rounds ≤ MAX_ROUNDS → KeepsRules (script_of seed nodes inputs rounds)
+keeps_rules seed nodes inputs rounds some few_nodes few_inputs few_rounds =
     let at_cuts : ℕ = past_inputs inputs seed in
     let at_mail : ℕ = past_cuts 6 at_cuts in
     let at_acks : ℕ = past_acts 32 at_mail in
@@ -104,6 +104,7 @@ keeps_rules seed nodes inputs some few_nodes few_inputs =
         inputs = inputs_within nodes inputs seed some;
       };
       plain = inputs_plain nodes inputs seed;
+      rounds = few_rounds;
       restarts = lit≤ tt;
       cuts = kept_all (λ (c : DiskCut). (c.node < nodes) × (c.disk < DISKS)) is_same_call [] (cuts_from nodes 6 at_cuts) (cuts_within nodes 6 at_cuts some);
       mail = acts_keep 32 at_mail;

@@ -11,7 +11,7 @@ use Rattle.ken_gen.specs.Summary.{summary, summary_of, totals_in}
 
 -- the game of a soak run
 abbrev pub soak_game : ℕ → ℕ → ℕ → Game
-soak_game seed nodes inputs = game_of (script_of seed nodes inputs).facts
+soak_game seed nodes inputs = game_of (script_of seed nodes inputs 0).facts
 
 -- each node for which something waits has turns left, so the run isn't cut; and where nothing waits the nodes came to what the summary
 -- tells

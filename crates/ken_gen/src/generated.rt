@@ -1,6 +1,7 @@
 // The script of a number.
 ghost use Rattle.std.specs.Prelude.{◌≡◌, ◌<◌, ◌≤◌, IfOk};
 ghost use Rattle.ken_model.specs.declared.facts.TheConstants.{MAX_INPUTS, MAX_NODES};
+ghost use Rattle.ken_script.specs.declared.scripts.TheConstants.{MAX_ROUNDS};
 ghost use Rattle.ken_script.specs.Within.{KeepsRules};
 ghost use Rattle.ken_gen.specs.Generated.{script_of};
 
@@ -29,13 +30,20 @@ const MAIL: u8 = 32;
 /// How many acts on puts of acknowledgements are drawn.
 const ACKS: u8 = 16;
 
-/// The script of a seed, for a run of so many nodes with so many inputs. It keeps the rules of a script that is read.
+/// The script of a seed, for a run of so many nodes with so many inputs and rounds. It keeps the rules of a script that is read.
 #[tactic(auto, using(crate::proofs::Keeps::keeps_rules))]
-pub fn script_of(alloc: Global, seed: u64, nodes: u8, inputs: u16) -> Result<Script, AllocError>
+pub fn script_of(
+    alloc: Global,
+    seed: u64,
+    nodes: u8,
+    inputs: u16,
+    rounds: u64,
+) -> Result<Script, AllocError>
     requires some { 0 < nodes }
     requires few_nodes { nodes ≤ MAX_NODES }
     requires few_inputs { inputs ≤ MAX_INPUTS }
-    ensures made { IfOk result (λ script. script ≡ script_of seed nodes inputs) }
+    requires few_rounds { rounds ≤ MAX_ROUNDS }
+    ensures made { IfOk result (λ script. script ≡ script_of seed nodes inputs rounds) }
     ensures keeps { IfOk result KeepsRules }
 {
     let mut generator = Lcg::new(seed);
@@ -52,6 +60,7 @@ pub fn script_of(alloc: Global, seed: u64, nodes: u8, inputs: u16) -> Result<Scr
             inputs: Items::new(inputs),
         },
         seed,
+        rounds,
         restarts: RESTARTS,
         cuts: Items::new(cuts),
         mail: Items::new(mail),

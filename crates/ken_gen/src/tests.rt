@@ -21,7 +21,7 @@ fn act(from: u8, to: u8, n: u64, act: Act) -> LinkAct {
 
 #[test]
 fn draws_what_another_program_draws(rt: HostRuntime) -> Result<(), Fail> {
-    let script = script_of(rt.alloc(), 7, 4, 3)?;
+    let script = script_of(rt.alloc(), 7, 4, 3, 8)?;
     let inputs = script.facts.inputs.as_slice();
     assert_eq!(rt; inputs.len(), INPUTS.len());
     for (input, (node, text)) in inputs.iter().zip(INPUTS) {
@@ -49,7 +49,7 @@ fn draws_what_another_program_draws(rt: HostRuntime) -> Result<(), Fail> {
 
 #[test]
 fn leaves_out_what_strikes_where_an_earlier_one_does(rt: HostRuntime) -> Result<(), Fail> {
-    let script = script_of(rt.alloc(), 11, 1, 0)?;
+    let script = script_of(rt.alloc(), 11, 1, 0, 0)?;
     let left = [script.cuts.len(), script.mail.len(), script.acks.len()];
     assert_eq!(rt; left, [6 - 1, 32 - 7, 16 - 2]);
     // The last of all.

@@ -120,8 +120,8 @@ module _ (d : Data) (s : Script) (states : States d s) where
       let turns = taken_or_bounds DEFAULT_TURNS 1 MAX_TURNS s.facts.turns (get (codes "turns") d) (lit≤ tt) (lit≤ tt) states.turns in
       let pages = taken_or_bounds DEFAULT_PAGES 1 MAX_PAGES states.pages (get (codes "pages") d) (lit≤ tt) (lit≤ tt) states.told_pages in
       let count : node_count d ≡ s.facts.nodes = ap (λ o. unwrap_or o 0) states.nodes in
-      let items = items_within (node_count d) (items_in d) s.facts.inputs unbroken.1.1.1.1.1.1.1.0 states.inputs in
-      let long : long_text s.facts.inputs ≡ None = rw states.inputs at unbroken.1.1.1.1.1.1.1.1.0 in
+      let items = items_within (node_count d) (items_in d) s.facts.inputs unbroken.1.1.1.1.1.1.1.1.0 states.inputs in
+      let long : long_text s.facts.inputs ≡ None = rw states.inputs at unbroken.1.1.1.1.1.1.1.1.1.0 in
       record {
         some_node = nodes.0;
         few_nodes = nodes.1;
@@ -135,5 +135,5 @@ module _ (d : Data) (s : Script) (states : States d s) where
   pub plain_run_of : IsPlainRun (game_of s.facts)
   plain_run_of =
       let unbroken = none_broken (rules_of d) states.right in
-      let odd : odd_text s.facts.inputs ≡ None = rw states.inputs at unbroken.1.1.1.1.1.1.1.1.1.0 in
+      let odd : odd_text s.facts.inputs ≡ None = rw states.inputs at unbroken.1.1.1.1.1.1.1.1.1.1.0 in
       plain_texts s.facts.inputs (none_passes (λ (i : Input). not (list_all is_plain i.text)) s.facts.inputs odd)

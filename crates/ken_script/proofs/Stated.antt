@@ -5,7 +5,7 @@ use Rattle.serde_json.specs.Find.{get}
 use Rattle.ken_model.specs.declared.facts.TheConstants.{PAGE, MAX_PAGES}
 use Rattle.ken_script.specs.declared.scripts.TheConstants.{DEFAULT_PAGES, MAX_CUTS, MAX_ACTS, MAX_OUT_FAILS}
 use Rattle.ken_script.specs.declared.scripts.Script.{Script}
-use Rattle.ken_script.specs.Keys.{unknown_key, nodes_of, kind_in, pages_of, seed_of, turns_of, restarts_of, items_in, list_under}
+use Rattle.ken_script.specs.Keys.{unknown_key, nodes_of, kind_in, pages_of, seed_of, rounds_of, turns_of, restarts_of, items_in, list_under}
 use Rattle.ken_script.specs.Lists.{all_of, wrong_item}
 use Rattle.ken_script.specs.Inputs.{inputs_of, wrong_input, long_text, odd_text}
 use Rattle.ken_script.specs.Mishaps.{cut_of, cut_spot, link_act_of, link_spot, out_fail_of, out_spot}
@@ -36,6 +36,7 @@ module _ (d : Data) (s : Script) (nodes : nodes_of d ≡ Some s.facts.nodes) whe
     pub told_pages : pages_of d ≡ Some pages
     pub size : s.facts.size ≡ PAGE * pages
     pub seed : seed_of d ≡ Some s.seed
+    pub rounds : rounds_of d ≡ Some s.rounds
     pub turns : turns_of d ≡ Some s.facts.turns
     pub restarts : restarts_of d ≡ Some s.restarts
     pub items : List Data
@@ -67,13 +68,13 @@ module _ (d : Data) (s : Script) (nodes : nodes_of d ≡ Some s.facts.nodes) whe
       record {
         right =
             unbroken 2 _ _ b.known (unbroken 3 _ _ (ap (missing 0) nodes) (unbroken 4 _ _ (ap (missing 0) b.kind) (unbroken 5 _ _ (ap (missing 0) b.told_pages) (unbroken 6 _ _ (ap (missing 0) b.seed)
-            (unbroken 7 _ _ (ap (missing 1) b.turns) (unbroken 7 _ _ (ap (missing 2) b.restarts)
+            (unbroken 7 _ _ (ap (missing 0) b.rounds) (unbroken 7 _ _ (ap (missing 1) b.turns) (unbroken 7 _ _ (ap (missing 2) b.restarts)
             (unbroken 8 _ _ right_inputs (unbroken 9 _ _ (ap (option_and_then long_text) inputs ∙ b.short) (unbroken 10 _ _ (ap (option_and_then odd_text) inputs ∙ b.plain)
             (unbroken 11 _ _ (told (λ n. item_fault (wrong_item (cut_of n) cut_spot MAX_CUTS) (list_under (codes "cuts") d) ≡ None) m.right_cuts)
             (unbroken 12 _ _ (told (λ n. item_fault (wrong_item (link_act_of n) link_spot MAX_ACTS) (list_under (codes "mail") d) ≡ None) m.right_mail)
             (unbroken 13 _ _ (told (λ n. item_fault (wrong_item (link_act_of n) link_spot MAX_ACTS) (list_under (codes "acks") d) ≡ None) m.right_acks)
             (unbroken 14 _ _ (told (λ n. item_fault (wrong_item (out_fail_of n) out_spot MAX_OUT_FAILS) (list_under (codes "outlets") d) ≡ None) m.right_outlets)
-            refl)))))))))))));
+            refl))))))))))))));
         nodes = nodes;
         kind = b.kind;
         inputs = inputs;
@@ -82,6 +83,7 @@ module _ (d : Data) (s : Script) (nodes : nodes_of d ≡ Some s.facts.nodes) whe
         size = b.size;
         turns = b.turns;
         seed = b.seed;
+        rounds = b.rounds;
         restarts = b.restarts;
         cuts = told (λ n. option_and_then (all_of (cut_of n)) (list_under (codes "cuts") d) ≡ Some s.cuts) m.cuts;
         mail = told (λ n. option_and_then (all_of (link_act_of n)) (list_under (codes "mail") d) ≡ Some s.mail) m.mail;

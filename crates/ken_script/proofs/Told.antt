@@ -7,7 +7,7 @@ use Rattle.ken_script.specs.declared.scripts.TheConstants.{LIMIT}
 use Rattle.ken_script.specs.declared.scripts.Script.{Script}
 use Rattle.ken_model.specs.declared.facts.Facts.{Facts}
 use Rattle.ken_model.specs.declared.facts.TheConstants.{PAGE}
-use Rattle.ken_script.specs.Keys.{nodes_of, kind_in, pages_of, seed_of, turns_of, restarts_of}
+use Rattle.ken_script.specs.Keys.{nodes_of, kind_in, pages_of, seed_of, rounds_of, turns_of, restarts_of}
 use Rattle.ken_script.specs.Faults.{Breaks, BreaksBy, no_object, in_object, inputs_in, cuts_in, acts_in, out_fails_in, fault_in}
 use Rattle.ken_script.specs.Says.{States, SaysBy, Says}
 use Rattle.ken_script.specs.Service.{StatesService, SaysService, BreaksService, service_fault, foreign_key, with_kind}
@@ -66,19 +66,20 @@ same_value o x y one other = let some : Some x ≡ Some y = sym one ∙ other in
 same_facts : (f g : Facts) → f.nodes ≡ g.nodes → f.kind ≡ g.kind → f.size ≡ g.size → f.turns ≡ g.turns → f.inputs ≡ g.inputs → f ≡ g
 same_facts f g nodes kind size turns inputs = grind arith
 
-same_script : (s s' : Script) → s.facts ≡ s'.facts → s.seed ≡ s'.seed → s.restarts ≡ s'.restarts → s.cuts ≡ s'.cuts → s.mail ≡ s'.mail → s.acks ≡ s'.acks → s.outlets ≡ s'.outlets → s ≡ s'
-same_script s s' facts seed restarts cuts mail acks outlets = grind arith
+same_script : (s s' : Script) → s.facts ≡ s'.facts → s.seed ≡ s'.seed → s.rounds ≡ s'.rounds → s.restarts ≡ s'.restarts → s.cuts ≡ s'.cuts → s.mail ≡ s'.mail → s.acks ≡ s'.acks → s.outlets ≡ s'.outlets → s ≡ s'
+same_script s s' facts seed rounds restarts cuts mail acks outlets = grind arith
 
 states_once : (d : Data) (s s' : Script) → States d s → States d s' → s ≡ s'
 states_once d s s' a b =
     let facts : s.facts ≡ s'.facts = same_facts s.facts s'.facts (same_value (nodes_of d) _ _ a.nodes b.nodes) (same_value (kind_in d) _ _ a.kind b.kind) (a.size ∙ ap (λ n. PAGE * n) (same_value (pages_of d) _ _ a.told_pages b.told_pages) ∙ sym b.size) (same_value (turns_of d) _ _ a.turns b.turns) (same_value (inputs_in d) _ _ a.inputs b.inputs) in
     let seed : s.seed ≡ s'.seed = same_value (seed_of d) _ _ a.seed b.seed in
+    let rounds : s.rounds ≡ s'.rounds = same_value (rounds_of d) _ _ a.rounds b.rounds in
     let restarts : s.restarts ≡ s'.restarts = same_value (restarts_of d) _ _ a.restarts b.restarts in
     let cuts : s.cuts ≡ s'.cuts = same_value (cuts_in d) _ _ a.cuts b.cuts in
     let mail : s.mail ≡ s'.mail = same_value (acts_in (codes "mail") d) _ _ a.mail b.mail in
     let acks : s.acks ≡ s'.acks = same_value (acts_in (codes "acks") d) _ _ a.acks b.acks in
     let outlets : s.outlets ≡ s'.outlets = same_value (out_fails_in d) _ _ a.outlets b.outlets in
-    same_script s s' facts seed restarts cuts mail acks outlets
+    same_script s s' facts seed rounds restarts cuts mail acks outlets
 
 pub kinds_language : IsLanguage Says Breaks
 kinds_language = language fault_in States (λ d s states. states.right) states_once

@@ -5,7 +5,7 @@ use Rattle.serde_json.specs.Find.{get, as_array, as_str}
 use Rattle.ken_net.specs.declared.act.Act.{Act}
 use Rattle.ken_net.specs.declared.act.Act.TheVariants.{Lose, Repeat, Hold}
 use Rattle.ken_net.specs.declared.act.LinkAct.{LinkAct}
-use Rattle.ken_script.specs.declared.scripts.TheConstants.{DISKS, DEFAULT_RESTARTS, MAX_COUNT, MAX_HOLD, MAX_RESTARTS}
+use Rattle.ken_script.specs.declared.scripts.TheConstants.{DISKS, DEFAULT_RESTARTS, DEFAULT_ROUNDS, MAX_COUNT, MAX_HOLD, MAX_RESTARTS, MAX_ROUNDS}
 use Rattle.ken_script.specs.declared.scripts.DiskCut.{DiskCut}
 use Rattle.ken_script.specs.declared.scripts.OutFail.{OutFail}
 use Rattle.ken_script.specs.declared.scripts.Script.{Script}
@@ -91,6 +91,9 @@ module _ (d : Data) (s : Script) (states : States d s) where
   count : node_count d ≡ s.facts.nodes
   count = ap (λ o. unwrap_or o 0) states.nodes
 
+  rounds_within : s.rounds ≤ MAX_ROUNDS
+  rounds_within = (taken_or_bounds DEFAULT_ROUNDS 0 MAX_ROUNDS s.rounds (get (codes "rounds") d) (lit≤ tt) (lit≤ tt) states.rounds).1
+
   restarts_within : s.restarts ≤ MAX_RESTARTS
   restarts_within = (taken_or_bounds DEFAULT_RESTARTS 0 MAX_RESTARTS s.restarts (get (codes "restarts") d) (lit≤ tt) (lit≤ tt) states.restarts).1
 
@@ -110,4 +113,4 @@ module _ (d : Data) (s : Script) (states : States d s) where
   outlets_within = subst (λ n. AreOutFailsOf n s.outlets) count (all_said (out_fail_of (node_count d)) (λ (f : OutFail). (f.node < node_count d) × (f.call ≤ MAX_COUNT)) (λ item f e. out_fail_within (node_count d) (option_and_then both (as_array item)) f e) (list_under (codes "outlets") d) s.outlets states.outlets)
 
   pub keeps_rules : KeepsRules s
-  keeps_rules = record { limits = limits_of d s states; plain = plain_run_of d s states; restarts = restarts_within; cuts = cuts_within; mail = mail_within; acks = acks_within; outlets = outlets_within }
+  keeps_rules = record { limits = limits_of d s states; plain = plain_run_of d s states; rounds = rounds_within; restarts = restarts_within; cuts = cuts_within; mail = mail_within; acks = acks_within; outlets = outlets_within }

@@ -8,7 +8,7 @@ use Rattle.ken_net.specs.declared.act.LinkAct.{LinkAct}
 use Rattle.ken_script.specs.declared.scripts.TheConstants.{MAX_CUTS, MAX_ACTS, MAX_OUT_FAILS}
 use Rattle.ken_script.specs.declared.scripts.DiskCut.{DiskCut}
 use Rattle.ken_script.specs.declared.scripts.OutFail.{OutFail}
-use Rattle.ken_script.specs.Keys.{unknown_key, nodes_of, kind_in, pages_of, seed_of, turns_of, restarts_of, items_in, list_under}
+use Rattle.ken_script.specs.Keys.{unknown_key, nodes_of, kind_in, pages_of, seed_of, rounds_of, turns_of, restarts_of, items_in, list_under}
 use Rattle.ken_script.specs.Lists.{all_of, wrong_item}
 use Rattle.ken_script.specs.Inputs.{inputs_of, wrong_input, long_text, odd_text}
 use Rattle.ken_script.specs.Mishaps.{cut_of, cut_spot, link_act_of, link_spot, out_fail_of, out_spot}
@@ -51,8 +51,8 @@ first_of ((rule, None) ∷ more) = first_of more
 first_of ((rule, Some index) ∷ more) = Some (rule, index)
 
 -- each rule of an object by its number, with the least place at which it is broken: 2, each key is known; 3, the number
--- of nodes; 4, the kind; 5, the pages of each heap; 6, the seed; 7, the most turns of a node, at place 1, and its
--- most restarts, at place 2; 8, the items of `inputs`; 9, the lengths of their texts; 10, the bytes of their texts; 11, the items
+-- of nodes; 4, the kind; 5, the pages of each heap; 6, the seed; 7, the rounds of threads, at place 0, the most
+-- turns of a node, at place 1, and its most restarts, at place 2; 8, the items of `inputs`; 9, the lengths of their texts; 10, the bytes of their texts; 11, the items
 -- of `cuts`; 12, of `mail`; 13, of `acks`; 14, of `outlets`
 abbrev pub rules_of : Data → List (ℕ × Option ℕ)
 rules_of d =
@@ -61,6 +61,7 @@ rules_of d =
     ∷ (4, missing 0 (kind_in d))
     ∷ (5, missing 0 (pages_of d))
     ∷ (6, missing 0 (seed_of d))
+    ∷ (7, missing 0 (rounds_of d))
     ∷ (7, missing 1 (turns_of d))
     ∷ (7, missing 2 (restarts_of d))
     ∷ (8, item_fault (wrong_input (node_count d)) (items_in d))

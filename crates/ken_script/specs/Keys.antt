@@ -6,13 +6,13 @@ use Rattle.serde_json.specs.Find.{get, as_object, as_array, as_str, as_number, a
 use Rattle.ken_model.specs.declared.kinds.Kind.{Kind}
 use Rattle.ken_model.specs.declared.facts.TheConstants.{MAX_NODES, MAX_PAGES, MAX_TURNS}
 use Rattle.ken_model.specs.Kinds.{kind_of}
-use Rattle.ken_script.specs.declared.scripts.TheConstants.{DEFAULT_PAGES, DEFAULT_SEED, DEFAULT_TURNS, DEFAULT_RESTARTS, MAX_RESTARTS}
+use Rattle.ken_script.specs.declared.scripts.TheConstants.{DEFAULT_PAGES, DEFAULT_SEED, DEFAULT_ROUNDS, DEFAULT_TURNS, DEFAULT_RESTARTS, MAX_RESTARTS, MAX_ROUNDS}
 
 -- the keys that a script may have
 abbrev pub keys : List (List ℕ)
 keys =
-    codes "nodes" ∷ codes "kind" ∷ codes "pages" ∷ codes "seed" ∷ codes "turns" ∷ codes "inputs"
-    ∷ codes "restarts" ∷ codes "cuts" ∷ codes "mail" ∷ codes "acks" ∷ codes "outlets" ∷ []
+    codes "nodes" ∷ codes "kind" ∷ codes "pages" ∷ codes "seed" ∷ codes "rounds" ∷ codes "turns"
+    ∷ codes "inputs" ∷ codes "restarts" ∷ codes "cuts" ∷ codes "mail" ∷ codes "acks" ∷ codes "outlets" ∷ []
 
 -- whether a key is one of them
 abbrev pub is_key : List ℕ → Bool
@@ -59,6 +59,10 @@ pages_of d = taken_or DEFAULT_PAGES (λ value. option_and_then (within 1 MAX_PAG
 -- where the random words start, if `seed` is absent or a whole number
 abbrev pub seed_of : Data → Option ℕ
 seed_of d = taken_or DEFAULT_SEED whole (get (codes "seed") d)
+
+-- the rounds of threads before a run is drained, if `rounds` is absent or a number that a run can have
+abbrev pub rounds_of : Data → Option ℕ
+rounds_of d = taken_or DEFAULT_ROUNDS (λ value. option_and_then (within 0 MAX_ROUNDS) (whole value)) (get (codes "rounds") d)
 
 -- the most turns of a node, if `turns` is absent or a number that a run can have
 abbrev pub turns_of : Data → Option ℕ

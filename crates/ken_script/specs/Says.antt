@@ -4,7 +4,7 @@ use Rattle.serde_json.specs.Data.{Data}
 use Rattle.ken_model.specs.declared.facts.TheConstants.{PAGE}
 use Rattle.ken_script.specs.declared.scripts.Script.{Script}
 use Rattle.ken_script.specs.Object.{IsObject}
-use Rattle.ken_script.specs.Keys.{nodes_of, kind_in, pages_of, seed_of, turns_of, restarts_of}
+use Rattle.ken_script.specs.Keys.{nodes_of, kind_in, pages_of, seed_of, rounds_of, turns_of, restarts_of}
 use Rattle.ken_script.specs.Faults.{inputs_in, cuts_in, acts_in, out_fails_in, fault_in}
 
 -- the object breaks no rule, and the script is what stands under its keys; a heap has the size of its pages
@@ -18,6 +18,7 @@ pub record States (d : Data) (s : Script) : Type 0 where
   pub size : s.facts.size ≡ PAGE * pages
   pub turns : turns_of d ≡ Some s.facts.turns
   pub seed : seed_of d ≡ Some s.seed
+  pub rounds : rounds_of d ≡ Some s.rounds
   pub restarts : restarts_of d ≡ Some s.restarts
   pub cuts : cuts_in d ≡ Some s.cuts
   pub mail : acts_in (codes "mail") d ≡ Some s.mail

@@ -6,7 +6,7 @@ use Rattle.ken_model.specs.Limits.{IsPlainRun, IsWithinLimits}
 use Rattle.ken_net.specs.declared.act.Act.{Act}
 use Rattle.ken_net.specs.declared.act.Act.TheVariants.{Lose, Repeat, Hold}
 use Rattle.ken_net.specs.declared.act.LinkAct.{LinkAct}
-use Rattle.ken_script.specs.declared.scripts.TheConstants.{DISKS, MAX_COUNT, MAX_HOLD, MAX_RESTARTS}
+use Rattle.ken_script.specs.declared.scripts.TheConstants.{DISKS, MAX_COUNT, MAX_HOLD, MAX_RESTARTS, MAX_ROUNDS}
 use Rattle.ken_script.specs.declared.scripts.DiskCut.{DiskCut}
 use Rattle.ken_script.specs.declared.scripts.OutFail.{OutFail}
 use Rattle.ken_script.specs.declared.scripts.Script.{Script}
@@ -33,6 +33,7 @@ AreOutFailsOf nodes fails = AllByRecursion (λ (f : OutFail). (f.node < nodes) �
 pub record KeepsRules (s : Script) : Type 0 where
   pub limits : IsWithinLimits (game_of s.facts)
   pub plain : IsPlainRun (game_of s.facts)
+  pub rounds : s.rounds ≤ MAX_ROUNDS
   pub restarts : s.restarts ≤ MAX_RESTARTS
   pub cuts : AreCutsOf s.facts.nodes s.cuts
   pub mail : AreActsOf s.facts.nodes s.mail

@@ -1,10 +1,13 @@
 // What stands under each key of a script.
 ghost use Rattle.std.specs.Prelude.{◌≡◌, option_map};
 ghost use Rattle.serde_json.specs.View.{view, items_view, members_view};
-ghost use Rattle.ken_script.specs.Keys.{is_key, unknown_key, nodes_of, kind_in, pages_of, seed_of, turns_of, restarts_of, items_in, list_under, listed};
+ghost use Rattle.ken_script.specs.Keys.{is_key, unknown_key, nodes_of, kind_in, pages_of, seed_of, rounds_of, turns_of, restarts_of, items_in, list_under, listed};
 
 use crate::numbers::number_within;
-use crate::scripts::{DEFAULT_PAGES, DEFAULT_RESTARTS, DEFAULT_SEED, DEFAULT_TURNS, MAX_RESTARTS};
+use crate::scripts::{
+    DEFAULT_PAGES, DEFAULT_RESTARTS, DEFAULT_ROUNDS, DEFAULT_SEED, DEFAULT_TURNS, MAX_RESTARTS,
+    MAX_ROUNDS,
+};
 use ken_model::{Kind, MAX_NODES, MAX_PAGES, MAX_TURNS};
 use serde_json::Value;
 
@@ -18,6 +21,7 @@ pub(crate) fn is_key(name: &str) -> bool
             | "kind"
             | "pages"
             | "seed"
+            | "rounds"
             | "turns"
             | "inputs"
             | "restarts"
@@ -73,6 +77,16 @@ pub(crate) fn seed_of(script: &Value) -> Option<u64>
     match script.get("seed") {
         None => Some(DEFAULT_SEED),
         Some(seed) => seed.as_u64(),
+    }
+}
+
+/// The rounds of threads before a run is drained, from 0 to `MAX_ROUNDS`.
+pub(crate) fn rounds_of(script: &Value) -> Option<u64>
+    ensures { result ≡ rounds_of (view script.now) }
+{
+    match script.get("rounds") {
+        None => Some(DEFAULT_ROUNDS),
+        Some(rounds) => number_within(rounds, 0, MAX_ROUNDS),
     }
 }
 

@@ -16,7 +16,8 @@ pub use faults::ScriptFault;
 pub use laws::refusals_are_exact;
 pub use reading::read;
 pub use scripts::{
-    DEFAULT_PAGES, DEFAULT_RESTARTS, DEFAULT_SEED, DEFAULT_TURNS, DISKS, DiskCut, LIMIT, MAX_ACTS,
-    MAX_COUNT, MAX_CUTS, MAX_HOLD, MAX_OUT_FAILS, MAX_RESTARTS, OutFail, Script,
+    DEFAULT_PAGES, DEFAULT_RESTARTS, DEFAULT_ROUNDS, DEFAULT_SEED, DEFAULT_TURNS, DISKS, DiskCut,
+    LIMIT, MAX_ACTS, MAX_COUNT, MAX_CUTS, MAX_HOLD, MAX_OUT_FAILS, MAX_RESTARTS, MAX_ROUNDS,
+    OutFail, Script,
 };
 pub use service::read_service;

@@ -11,7 +11,7 @@ use crate::faults::{
 };
 use crate::inputs::{inputs_of, long_text, odd_text};
 use crate::keys::{
-    items_in, kind_in, nodes_of, pages_of, restarts_of, seed_of, turns_of, unknown_key,
+    items_in, kind_in, nodes_of, pages_of, restarts_of, rounds_of, seed_of, turns_of, unknown_key,
 };
 use crate::mishaps::mishaps_in;
 use crate::scripts::{LIMIT, MAX_ACTS, MAX_CUTS, MAX_OUT_FAILS, Script};
@@ -54,6 +54,9 @@ fn script_in(alloc: Global, object: &Value) -> Result<Script, ScriptFault>
     let Some(seed) = seed_of(object) else {
         return Err(ScriptFault::at(SEED, 0));
     };
+    let Some(rounds) = rounds_of(object) else {
+        return Err(ScriptFault::at(COUNTS, 0));
+    };
     let Some(turns) = turns_of(object) else {
         return Err(ScriptFault::at(COUNTS, 1));
     };
@@ -83,6 +86,7 @@ fn script_in(alloc: Global, object: &Value) -> Result<Script, ScriptFault>
             inputs: Items::new(inputs),
         },
         seed,
+        rounds,
         restarts,
         cuts: Items::new(cuts),
         mail: Items::new(mail),

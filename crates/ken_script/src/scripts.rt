@@ -19,6 +19,12 @@ pub const DEFAULT_RESTARTS: u64 = 64;
 /// The most restarts of a node that a script may allow.
 pub const MAX_RESTARTS: u64 = 1000;
 
+/// The rounds of threads before a run is drained, where a script doesn't say.
+pub const DEFAULT_ROUNDS: u64 = 0;
+
+/// The most rounds of threads that a script may ask for.
+pub const MAX_ROUNDS: u64 = 1000;
+
 /// The most items of `cuts`.
 pub const MAX_CUTS: usize = 256;
 
@@ -63,6 +69,8 @@ pub struct Script {
     pub facts: Facts,
     /// Where the random words start.
     pub seed: u64,
+    /// How many rounds of threads there are before the run is drained, 0 to `MAX_ROUNDS`.
+    pub rounds: u64,
     /// The most restarts of a node, 0 to `MAX_RESTARTS`.
     pub restarts: u64,
     /// The calls of disks at which a disk fails, each at most once.

@@ -12,8 +12,6 @@ mod heap_pages;
 #[cfg(test)]
 mod kinds;
 #[cfg(test)]
-mod mishaps;
-#[cfg(test)]
 mod model;
 #[cfg(test)]
 mod networks;
@@ -27,8 +25,6 @@ mod outboxes;
 mod packets;
 #[cfg(test)]
 mod reports;
-#[cfg(test)]
-mod scripts;
 #[cfg(test)]
 mod streams;
 #[cfg(test)]

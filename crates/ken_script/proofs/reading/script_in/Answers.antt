@@ -18,6 +18,7 @@ returns-clause-ok c =
       told_pages = sym c.in-Some-pages_of.ensures;
       size = refl;
       seed = sym c.in-Some-seed_of.ensures;
+      rounds = sym c.in-Some-rounds_of.ensures;
       turns = sym c.in-Some-turns_of.ensures;
       restarts = sym c.in-Some-restarts_of.ensures;
       items = listed (items_view c.in-Some-items_in.items.now);

@@ -28,35 +28,45 @@ fn repeated(alloc: Global, part: &str, times: usize, last: &str) -> Result<Strin
 // A text, the first rule that it breaks, and its index: 0 and 0 where it breaks none.
 pub(crate) type Row = (&'static str, u8, u64);
 
-// Further keys, and the size, the seed and the turns that a script with them has.
-const SIZES: [(&str, u64, u64, u64); 6] = [
-    ("", 4_096, 0, 1_000),
-    (",\"pages\":1", 256, 0, 1_000),
-    (",\"turns\":1", 4_096, 0, 1),
+// Further keys, and the size, the seed, the rounds and the turns that a script with them has.
+const SIZES: [(&str, u64, u64, u64, u64); 9] = [
+    ("", 4_096, 0, 0, 1_000),
+    (",\"pages\":1", 256, 0, 0, 1_000),
+    (",\"turns\":1", 4_096, 0, 0, 1),
+    (",\"rounds\":0", 4_096, 0, 0, 1_000),
+    (",\"rounds\":4", 4_096, 0, 4, 1_000),
+    (",\"rounds\":1000", 4_096, 0, 1_000, 1_000),
     (
         ",\"pages\":4096,\"turns\":100000,\"seed\":0",
         1_048_576,
         0,
+        0,
         100_000,
     ),
-    (",\"seed\":18446744073709551615", 4_096, u64::MAX, 1_000),
+    (",\"seed\":18446744073709551615", 4_096, u64::MAX, 0, 1_000),
     // The last value of a key counts.
     (
-        ",\"seed\":-1,\"seed\":7,\"turns\":0,\"turns\":2,\"pages\":0,\"pages\":2",
+        ",\"seed\":-1,\"seed\":7,\"rounds\":-1,\"rounds\":3,\"turns\":0,\"turns\":2,\"pages\":0,\"pages\":2",
         512,
         7,
+        3,
         2,
     ),
 ];
 
 // Further keys out of their ranges.
-const RANGES: [Row; 22] = [
+const RANGES: [Row; 31] = [
     (",\"seed\":18446744073709551616", 6, 0),
     (",\"seed\":-1", 6, 0),
     (",\"seed\":-0", 6, 0),
     (",\"seed\":1.0", 6, 0),
     (",\"seed\":\"1\"", 6, 0),
     (",\"seed\":null", 6, 0),
+    (",\"rounds\":1001", 7, 0),
+    (",\"rounds\":-1", 7, 0),
+    (",\"rounds\":1.0", 7, 0),
+    (",\"rounds\":\"1\"", 7, 0),
+    (",\"rounds\":null", 7, 0),
     (",\"turns\":0", 7, 1),
     (",\"turns\":100001", 7, 1),
     (",\"turns\":1e2", 7, 1),
@@ -64,7 +74,11 @@ const RANGES: [Row; 22] = [
     (",\"turns\":null", 7, 1),
     // A rule of lower number goes first.
     (",\"turns\":0,\"seed\":-1", 6, 0),
-    (",\"turns\":0,\"rounds\":1", 2, 3),
+    (",\"turns\":0,\"rounds\":1", 7, 1),
+    (",\"turns\":0,\"rounds\":1001", 7, 0),
+    (",\"restarts\":1001,\"rounds\":1001", 7, 0),
+    (",\"rounds\":1001,\"seed\":-1", 6, 0),
+    (",\"rounds\":1001,\"inputs\":7", 7, 0),
     (",\"pages\":0,\"seed\":-1", 5, 0),
     (",\"pages\":4097", 5, 0),
     (",\"pages\":\"16\"", 5, 0),
@@ -98,8 +112,8 @@ const TEXTS: [Row; 30] = [
     ),
     (
         "{\"nodes\":3,\"kind\":\"ring\",\"inputs\":[[0,\"2\"]],\"rounds\":1}",
-        2,
-        3,
+        0,
+        0,
     ),
     ("{\"kinds\":1,\"nodes\":9,\"zed\":1,\"kinds\":2}", 2, 0),
     // The number of nodes.
@@ -211,30 +225,31 @@ fn reads_what_a_script_says(rt: HostRuntime) -> Result<(), ScriptFault> {
 }
 
 // The size, the seed and the turns.
-fn numbers_of(alloc: Global, text: &str) -> Result<(u64, u64, u64), ScriptFault> {
+fn numbers_of(alloc: Global, text: &str) -> Result<(u64, u64, u64, u64), ScriptFault> {
     let script = read(alloc, text.as_bytes())?;
-    Ok((script.facts.size, script.seed, script.facts.turns))
+    let facts = &script.facts;
+    Ok((facts.size, script.seed, script.rounds, facts.turns))
 }
 
 fn numbers_with(
     alloc: Global,
     keys: &str,
-) -> Result<Result<(u64, u64, u64), ScriptFault>, AllocError> {
+) -> Result<Result<(u64, u64, u64, u64), ScriptFault>, AllocError> {
     let text = with_keys(alloc, keys)?;
     Ok(numbers_of(alloc, &text))
 }
 
 #[test]
-fn reads_the_pages_the_seed_and_the_turns(rt: HostRuntime) -> Result<(), AllocError> {
-    for (keys, size, seed, turns) in &SIZES {
+fn reads_the_pages_the_seed_the_rounds_and_the_turns(rt: HostRuntime) -> Result<(), AllocError> {
+    for (keys, size, seed, rounds, turns) in &SIZES {
         let found = numbers_with(rt.alloc(), keys)?;
-        assert_eq!(rt; found, Ok((*size, *seed, *turns)), "{keys}");
+        assert_eq!(rt; found, Ok((*size, *seed, *rounds, *turns)), "{keys}");
     }
     Ok(())
 }
 
 #[test]
-fn refuses_pages_a_seed_or_turns_out_of_range(rt: HostRuntime) -> Result<(), AllocError> {
+fn refuses_pages_a_seed_rounds_or_turns_out_of_range(rt: HostRuntime) -> Result<(), AllocError> {
     for (keys, rule, index) in &RANGES {
         let found = broken_by_keys(rt.alloc(), keys)?;
         assert_eq!(rt; found, (*rule, *index), "{keys}");
