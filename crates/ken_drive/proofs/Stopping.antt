@@ -24,7 +24,8 @@ use Rattle.ken_run.specs.declared.faults.RunFault.{RunFault}
 use Rattle.ken_run.specs.declared.faults.RunFault.TheVariants.{Damaged, Down, Memory}
 use Rattle.ken_run.specs.declared.run.Run.{Run}
 use Rattle.ken_run.specs.declared.station.Station.{Station}
-use Rattle.ken_run.specs.Accounts.{AccountsRunFault, AreAccounted, AreOwnDisks, HasBooks, IsHeld, IsUsedUp, Terms, faults_of}
+use Rattle.ken_rounds.specs.Shaken.{AccountsRoundsFault, AreKept, IsDownForGood, LeavesRoundsFault, StopsRoundsBy}
+use Rattle.ken_run.specs.Accounts.{AccountsRunFault, AreAccounted, AreOwnDisks, HasBooks, IsAccounted, IsHeld, IsUsedUp, Terms, faults_of}
 use Rattle.ken_drive.specs.Driven.{DrivesBy, EndsBy, HasStoppedAt, IsKept, ShowsDown, Views}
 use Rattle.ken_drive.specs.Finishing.{WasKept, unwatched}
 use Rattle.ken_run.specs.Refusals.{AreRefused, HasFailedLast, IsWornOut, RefusedRunFault, StopsBy}
@@ -188,7 +189,7 @@ module _ {D O U : Type 0} (views : Views D O U) (h : Handler) (script : Script) 
     stopped-gone kept was =
         let d = one-of r.stations.items v low in
         ⊎_elim
-        (λ (used : IsUsedUp (λ w. views.told w.disk) (λ w. views.faults w.disk) falls views.telling (terms_of scripted script) (game_by h script) script.facts.nodes v r). held-gone v s kept (used.held.held d) (used.none_left d) was)
+        (λ (used : IsDownForGood (λ w. views.told w.disk) (λ w. views.faults w.disk) falls views.telling (terms_of scripted script) (game_by h script) v r). held-gone v s kept (used d).0 (used d).1 was)
         (λ (worn : IsWornOut views.refused calls (terms_of scripted script) v r). worn-gone v s kept (worn d) was)
         stopped.cause
 
@@ -196,7 +197,7 @@ module _ {D O U : Type 0} (views : Views D O U) (h : Handler) (script : Script) 
     stopped-let disks has tells =
         let d = one-of r.stations.items v low in
         ⊎_elim
-        (λ (used : IsUsedUp (λ w. views.told w.disk) (λ w. views.faults w.disk) falls views.telling (terms_of scripted script) (game_by h script) script.facts.nodes v r). held-let v s disks tells (used.held.held d) (used.none_left d) has)
+        (λ (used : IsDownForGood (λ w. views.told w.disk) (λ w. views.faults w.disk) falls views.telling (terms_of scripted script) (game_by h script) v r). held-let v s disks tells (used d).0 (used d).1 has)
         (λ (worn : IsWornOut views.refused calls (terms_of scripted script) v r). worn-let v s.out tells (worn d) (stopped.refusals.each v d stopped.known).fails)
         stopped.cause
 
@@ -255,7 +256,7 @@ module _ {D O U A : Type 0} (told : Watched D → Option Story) (size : Watched 
         width = at.1 ∙ all;
         refusals = subst (λ (k : ℕ). AreRefused refused calls terms k r) all refusals.0;
         books = λ u d low. books-of v made accounts u d (omega (arith, low, all));
-        cause = subst (λ (k : ℕ). IsUsedUp told count falls telling terms g k v r ⊎ IsWornOut refused calls terms v r) all stops;
+        cause = ⊎_elim (λ (used : IsUsedUp told count falls telling terms g made v r). inl (λ d. (used.held.held d, used.none_left d))) (λ worn. inr worn) stops;
       }
 
   pub end-failed : (made : ℕ) → made ≡ g.nodes → (result : Result Lines RunFault) (fault : RunFault) → IsErrAnd result (λ e. e ≡ fault) → AccountsRunFault told count falls telling terms g fault made r → LeavesRunFault told size took handles fault g made r → StopsBy {T = Unit {0}} told count falls telling refused calls terms g (Err fault) made r → RefusedRunFault refused calls terms fault made r
@@ -264,3 +265,28 @@ module _ {D O U A : Type 0} (told : Watched D → Option Story) (size : Watched 
   end-failed made all (Err e) (Down v) same accounts leaves stops refusals = subst (λ (x : RunFault). EndsBy told size count falls telling took handles refused calls terms g (Err x) r) (sym same) (stopped-at v made all accounts leaves stops refusals)
   end-failed made all (Err e) Memory same accounts leaves stops refusals = subst (λ (x : RunFault). EndsBy told size count falls telling took handles refused calls terms g (Err x) r) (sym same) tt
   end-failed made all (Err e) (Damaged v disk place) same accounts leaves stops refusals = absurd leaves
+
+  -- ---- and in rounds
+
+  kept-books : (made : ℕ) → AreKept told count falls telling terms g made r → (u : ℕ) (d : Station D O U) → u < made → HasBooks told count falls telling terms g u (slice_index_or r.stations.items u d)
+  kept-books made are u d low =
+      ⊎_elim
+      (λ (up : IsAccounted told count falls telling terms g u (slice_index_or r.stations.items u d)). up.books)
+      (λ (held : IsHeld told count falls telling terms g u (slice_index_or r.stations.items u d)). held.books)
+      (are.each u d low)
+
+  shaken-at : (v made : ℕ) → made ≡ g.nodes → AccountsRoundsFault told count falls telling terms g (Down v) made r → LeavesRoundsFault told size took handles (Down v) g made r → StopsRoundsBy told count falls telling terms g {T = Unit {0}} refused calls (Err (Down v)) r → RefusedRunFault refused calls terms (Down v) made r → HasStoppedAt told size count falls telling took handles refused calls terms g v r
+  shaken-at v made all accounts leaves stops refusals = record {
+    known = subst (λ (k : ℕ). v < k) all leaves.0;
+    width = leaves.1.stands.width ∙ all;
+    refusals = subst (λ (k : ℕ). AreRefused refused calls terms k r) all refusals.0;
+    books = λ u d low. kept-books made accounts.0 u d (omega (arith, low, all));
+    cause = stops;
+  }
+
+  pub rounds-failed : (made : ℕ) → made ≡ g.nodes → (result : Result Lines RunFault) (fault : RunFault) → IsErrAnd result (λ e. e ≡ fault) → AccountsRoundsFault told count falls telling terms g fault made r → LeavesRoundsFault told size took handles fault g made r → StopsRoundsBy told count falls telling terms g {T = Unit {0}} refused calls (Err fault) r → RefusedRunFault refused calls terms fault made r
+      → EndsBy told size count falls telling took handles refused calls terms g result r
+  rounds-failed made all (Ok x) fault same accounts leaves stops refusals = absurd same
+  rounds-failed made all (Err e) (Down v) same accounts leaves stops refusals = subst (λ (x : RunFault). EndsBy told size count falls telling took handles refused calls terms g (Err x) r) (sym same) (shaken-at v made all accounts leaves stops refusals)
+  rounds-failed made all (Err e) Memory same accounts leaves stops refusals = subst (λ (x : RunFault). EndsBy told size count falls telling took handles refused calls terms g (Err x) r) (sym same) tt
+  rounds-failed made all (Err e) (Damaged v disk place) same accounts leaves stops refusals = absurd leaves

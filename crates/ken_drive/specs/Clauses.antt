@@ -57,6 +57,6 @@ module _ {D O U A : Type 0} (d : disk.Ghosts D) (u : outlet.Ghosts U) (a : app.G
   ReportsRun r result = (g : Game) (e : Over g r) → IsPlainRun g → IfOk result (IsReportOf (λ w. d.told w.disk) (λ w. d.size w.disk) u.took a.handler g r e)
 
 module _ {D O U A : Type 0} (d : disk.Ghosts D) (o : oracle.Ghosts O) (u : outlet.Ghosts U) (a : app.Ghosts A) where
-  -- a whole run that is drained, and tells what it says
+  -- a whole run that makes rounds, is drained, and tells what it says
   abbrev pub TellsRun : Run D O U A → Result Lines RunFault → Run D O U A → Type 0
   TellsRun old result new = (terms : Terms) (g : Game) (made : ℕ) → Up d u a g made old → made ≡ g.nodes → Accounted d o u a terms g made old → AreRefused u.faults u.fate terms made old → IsPlainRun g → EndsBy (λ w. d.told w.disk) (λ w. d.size w.disk) (λ w. d.faults w.disk) (λ w. d.fate w.disk) o.telling u.took a.handler u.faults u.fate terms g result new

@@ -25,7 +25,8 @@ use Rattle.ken_run.specs.declared.faults.RunFault.TheVariants.{Down}
 use Rattle.ken_run.specs.declared.faults.RunFault.TheVariants as run_faults
 use Rattle.ken_run.specs.declared.run.Run.{Run}
 use Rattle.ken_run.specs.declared.station.Station.{Station}
-use Rattle.ken_run.specs.Accounts.{AreAccounted, AreOwnDisks, HasBooks, IsUsedUp, Terms, faults_of}
+use Rattle.ken_rounds.specs.Shaken.{IsDownForGood}
+use Rattle.ken_run.specs.Accounts.{AreAccounted, AreOwnDisks, HasBooks, Terms, faults_of}
 use Rattle.ken_drive.specs.Ended.{IsEnded, IsReportOf, IsRunOf}
 use Rattle.ken_drive.specs.Finishing.{WasKept}
 use Rattle.ken_run.specs.Patched.{HaveImages}
@@ -132,7 +133,7 @@ pub record HasGoneDown {D O U : Type 0} (views : Views D O U) (g : Game) (terms 
   pub each : (u : ℕ) → u < made → IsKept views terms u (kept u)
   pub others : (u : ℕ) → made ≤ u → kept u ≡ None
 
--- what a run leaves that was drained and then told what it says, by the answer: it has ended, with a report and its accounts; or a node has
+-- what a run leaves that made its rounds, was drained and then told what it says, by the answer: it has ended, with a report and its accounts; or a node has
 -- failed too often
 module _ {D O U A : Type 0} (told : Watched D → Option Story) (size : Watched D → ℕ) (count : Watched D → ℕ) (fate : Watched D → Option Fate) (telling : Telling O) (took : U → Option (List Out)) (handles : A → Handler) (refused : U → ℕ) (calls : U → Option ship.Fate) (terms : Terms) (g : Game) where
   pub record HasToldOf (l : Lines) (r : Run D O U A) : Type 0 where
@@ -146,7 +147,7 @@ module _ {D O U A : Type 0} (told : Watched D → Option Story) (size : Watched 
     pub width : length r.stations.items ≡ g.nodes
     pub refusals : AreRefused refused calls terms g.nodes r
     pub books : (u : ℕ) (d : Station D O U) → u < g.nodes → HasBooks told count fate telling terms g u (slice_index_or r.stations.items u d)
-    pub cause : IsUsedUp told count fate telling terms g g.nodes v r ⊎ IsWornOut refused calls terms v r
+    pub cause : IsDownForGood told count fate telling terms g v r ⊎ IsWornOut refused calls terms v r
 
   abbrev pub EndsBy : Result Lines RunFault → Run D O U A → Type 0
   EndsBy (Ok l) r = HasToldOf l r

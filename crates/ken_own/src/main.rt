@@ -15,7 +15,7 @@ fn main(rt: HostRuntime) -> ExitCode {
     // That nodes can have this handler, and that its report can be printed.
     ledger_keeps_limits();
     ledger_keeps_lines();
-    let status = serve(rt.alloc(), Ledger, &mut source, &mut sink, &mut world);
+    let status = serve(&rt, rt.alloc(), Ledger, &mut source, &mut sink, &mut world);
     if status != Status::Settled {
         let _ = eprintln!(rt; "{status}");
     }

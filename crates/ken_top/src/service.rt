@@ -17,13 +17,16 @@ use ken_io::{Sink, Source, read_all};
 use ken_model::Lines;
 use ken_script::{LIMIT, read_service};
 use std::alloc::Global;
+use std::sync::Wait;
+use std::thread::Threads;
 
 /// Runs a service of one's own as `ken` runs the kinds, and promises the same of it: reads a script of the keys of `ken run` but
 /// `kind`, runs it with the application over the world's devices, and writes the report. The handler keeps the limits of a turn,
 /// and outputs no line feed.
 ///
 /// Each status comes as it does from `ken`, but for `Usage`, which never comes; a `kind` is refused as a key that isn't known.
-pub fn serve<A: App + Drop, S: Source, K: Sink, W: World>(
+pub fn serve<R: Threads + Wait + Sync, A: App + Sync + Drop, S: Source, K: Sink, W: World>(
+    rt: &R,
     alloc: Global,
     app: A,
     source: &mut S,
@@ -45,14 +48,15 @@ pub fn serve<A: App + Drop, S: Source, K: Sink, W: World>(
     ensures unwritten { IsQuiet result → sink.new ≡ sink.old }
     ensures plain { result ≢ Status.Usage }
 {
-    match run(alloc, app, source, world) {
+    match run(rt, alloc, app, source, world) {
         Ok(lines) => written(alloc, sink, &lines),
         Err(status) => status,
     }
 }
 
 /// Reads a service's script and runs it.
-fn run<A: App + Drop, S: Source, W: World>(
+fn run<R: Threads + Wait + Sync, A: App + Sync + Drop, S: Source, W: World>(
+    rt: &R,
     alloc: Global,
     app: A,
     source: &mut S,
@@ -73,6 +77,6 @@ fn run<A: App + Drop, S: Source, W: World>(
 {
     let bytes = read_all(alloc, source, LIMIT)?;
     let script = read_service(alloc, bytes.as_slice())?;
-    let lines = drive(alloc, app, &script, world)?;
+    let lines = drive(rt, alloc, app, &script, world)?;
     Ok(lines)
 }

@@ -19,15 +19,18 @@ use ken_model::Lines;
 use ken_report::print;
 use ken_script::LIMIT;
 use std::alloc::Global;
+use std::sync::Wait;
+use std::thread::Threads;
 
 /// Does what the program does. `words` begins with the program's name. With `run` it reads a script, runs it over the world's devices, and
 /// writes its report. With `check` and a length it reads a script of so many bytes and a report behind it, and writes `yes` where the
 /// report is one that a run of the script prints.
 ///
-/// Whatever the status, a call waits for nobody and returns. `Memory` comes where memory is wanted, and else as each
-/// status says. The world keeps the devices of a run that has ended, or of which a node is down, before anything is written.
-pub fn ken<R, S: Source, K: Sink, W: World>(
-    _rt: &R,
+/// A run makes the rounds that its script asks for: the workers of its nodes are threads then, as far as `rt` starts them, and one may wait
+/// where a wire is in another's hands. With no rounds, and with `check`, a call waits for nobody and returns. `Memory` comes where
+/// memory is wanted, and else as each status says. The world keeps the devices of a run that has ended, or of which a node is down, before anything is written.
+pub fn ken<R: Threads + Wait + Sync, S: Source, K: Sink, W: World>(
+    rt: &R,
     alloc: Global,
     words: &[String],
     source: &mut S,
@@ -54,14 +57,15 @@ pub fn ken<R, S: Source, K: Sink, W: World>(
     ensures unused { command_of (map string_bytes words.now) ≢ Some Run → world.new ≡ world.old }
 {
     match command_in(words) {
-        Some(Command::Run) => ran(alloc, source, sink, world),
+        Some(Command::Run) => ran(rt, alloc, source, sink, world),
         Some(Command::Check { length }) => checked(alloc, length, source, sink),
         None => Status::Usage,
     }
 }
 
 /// Reads a script, runs it, and writes its report.
-fn ran<S: Source, K: Sink, W: World>(
+fn ran<R: Threads + Wait + Sync, S: Source, K: Sink, W: World>(
+    rt: &R,
     alloc: Global,
     source: &mut S,
     sink: &mut K,
@@ -80,14 +84,19 @@ fn ran<S: Source, K: Sink, W: World>(
     ensures taken { TakesAtMost (LIMIT + 1) (S.left source.old) (S.left source.new) }
     ensures unwritten { IsQuiet result → sink.new ≡ sink.old }
 {
-    match run(alloc, source, world) {
+    match run(rt, alloc, source, world) {
         Ok(lines) => written(alloc, sink, &lines),
         Err(status) => status,
     }
 }
 
 /// Reads a script and runs it.
-fn run<S: Source, W: World>(alloc: Global, source: &mut S, world: &mut W) -> Result<Lines, Status>
+fn run<R: Threads + Wait + Sync, S: Source, W: World>(
+    rt: &R,
+    alloc: Global,
+    source: &mut S,
+    world: &mut W,
+) -> Result<Lines, Status>
     requires { HasKeptNothing (W.kept world.old) }
     ensures ran { IfOk result (IsRunOfSource kinds (views_of W.Dev.Disk W.Luck.Oracle W.Out.Outlet W.scripted)
         (W.kept world.new) (S.left source.old)) }
@@ -101,7 +110,7 @@ fn run<S: Source, W: World>(alloc: Global, source: &mut S, world: &mut W) -> Res
 {
     let bytes = read_all(alloc, source, LIMIT)?;
     let script = ken_script::read(alloc, bytes.as_slice())?;
-    let lines = drive_kind(alloc, &script, world)?;
+    let lines = drive_kind(rt, alloc, &script, world)?;
     Ok(lines)
 }
 

@@ -8,11 +8,19 @@ use ken_model::{Actors, Done, Facts, Items, MAX_NODES, OUTSIDE, Step};
 use ken_num::Lcg;
 use ken_top::Status;
 use std::alloc::{AllocError, Global};
+use std::process::Abort;
 use std::str::from_utf8;
+use std::sync::Wait;
 use std::test::Fail;
+use std::thread::Threads;
 
-/// How many scripts.
+/// How many scripts without rounds, and how many with some.
 const SCRIPTS: u64 = 120;
+
+const SCRIPTS_WITH_ROUNDS: u64 = 300;
+
+/// The most rounds.
+const ROUNDS: u64 = 8;
 
 // A command of kind kv: a put of up to 60 bytes, so that a page is soon full, a get, a delete, or none.
 fn random_command(alloc: Global, dice: &mut Lcg) -> Result<String, AllocError> {
@@ -138,7 +146,7 @@ pub(crate) fn random_refusals(
     Ok(items)
 }
 
-fn random_script(alloc: Global, dice: &mut Lcg) -> Result<String, AllocError> {
+fn random_script(alloc: Global, dice: &mut Lcg, rounds: u64) -> Result<String, AllocError> {
     let nodes = dice.next() % 5 + 1;
     let kind = match dice.next() % 7 {
         0 => "ring",
@@ -157,7 +165,7 @@ fn random_script(alloc: Global, dice: &mut Lcg) -> Result<String, AllocError> {
     );
     let outlets = random_refusals(alloc, dice, nodes)?;
     format!(in alloc;
-        "{{\"nodes\":{nodes},\"kind\":\"{kind}\",\"pages\":1,\"seed\":{seed},\"turns\":{turns},\"inputs\":[{inputs}],\"cuts\":[{cuts}],\"mail\":[{mail}],\"acks\":[{acks}],\"outlets\":[{outlets}]}}"
+        "{{\"nodes\":{nodes},\"kind\":\"{kind}\",\"pages\":1,\"seed\":{seed},\"turns\":{turns},\"rounds\":{rounds},\"inputs\":[{inputs}],\"cuts\":[{cuts}],\"mail\":[{mail}],\"acks\":[{acks}],\"outlets\":[{outlets}]}}"
     )
 }
 
@@ -310,33 +318,131 @@ fn replayed(alloc: Global, facts: &Facts, report: &str) -> Result<Option<String>
     Ok(Some(text))
 }
 
+fn number_in(word: Option<&str>) -> u64 {
+    word.unwrap_or("").parse::<u64>().unwrap_or(u64::MAX)
+}
+
+// What the lines of a node have told so far.
+#[derive(Drop)]
+struct Told {
+    turns: u64,
+    // The largest number that was emitted, the last one, and how often one didn't rise.
+    largest: u64,
+    last: u64,
+    again: u64,
+    // How many restarts there were, and with how many turns the node went on after the last.
+    restarts: u64,
+    went_on: u64,
+}
+
+impl Told {
+    // Whether a line of emission is right after those before it: no output is left out.
+    fn emit(&mut self, number: u64) -> bool {
+        let is_next = 1 <= number && number <= self.largest.saturating_add(1);
+        if number <= self.last {
+            self.again = self.again.saturating_add(1);
+        }
+        self.last = number;
+        self.largest = self.largest.max(number);
+        is_next
+    }
+
+    // Whether a line of a restart is: the node goes on with turns that it made, and never with fewer.
+    fn restart(&mut self, turns: u64) -> bool {
+        let is_next = self.went_on <= turns && turns <= self.turns;
+        self.restarts = self.restarts.saturating_add(1);
+        self.went_on = turns;
+        is_next
+    }
+}
+
+// Whether what a node emitted and its restarts are such: outputs come again at most as often as it was restarted.
+fn is_orderly(report: &str, node: u64) -> bool {
+    let mut told = Told {
+        turns: 0,
+        largest: 0,
+        last: 0,
+        again: 0,
+        restarts: 0,
+        went_on: 0,
+    };
+    for line in report.lines() {
+        let mut words = line.split_whitespace();
+        let kind = words.next().unwrap_or("");
+        let (second, third) = (number_in(words.next()), number_in(words.next()));
+        let right = match kind {
+            "turn" if third == node => {
+                told.turns = told.turns.saturating_add(1);
+                true
+            }
+            "emit" if second == node => told.emit(third),
+            "restart" if second == node => told.restart(number_in(words.next())),
+            _ => true,
+        };
+        if !right {
+            return false;
+        }
+    }
+    told.again <= told.restarts
+}
+
+// Runs a script, and compares its report with what the abstract network plays. Answers whether a node was restarted.
+fn compare<R: Threads + Wait + Sync + Abort>(
+    rt: &R,
+    alloc: Global,
+    text: &str,
+) -> Result<bool, Fail> {
+    let ran = run_of(rt, alloc, text)?;
+    let (status, report) = ran.ending()?;
+    assert!(rt;
+        matches!(status, Status::Settled | Status::Cut),
+        "{text}: {status}"
+    );
+    let Ok(script) = ken_script::read(alloc, text.as_bytes()) else {
+        return Ok(false);
+    };
+    let Some(played) = replayed(alloc, &script.facts, report)? else {
+        assert!(rt; false, "a step isn't defined: {text}");
+        return Ok(false);
+    };
+    let plain = faultless(alloc, report)?;
+    assert_eq!(rt; plain.as_str(), played.as_str(), "{text}");
+    for node in 0..u64::from(script.facts.nodes) {
+        assert!(rt; is_orderly(report, node), "node {node} of {text}: {report}");
+    }
+    Ok(report.contains("\nrestart "))
+}
+
 #[test]
 fn the_abstract_network_plays_what_is_reported(rt: HostRuntime) -> Result<(), Fail> {
     let mut dice = Lcg::new(2026);
     let mut restarts = 0_u64;
     for _script in 0..SCRIPTS {
-        let text = random_script(rt.alloc(), &mut dice)?;
-        let ran = run_of(&rt, &text)?;
-        let (status, report) = ran.ending()?;
-        assert!(rt;
-            matches!(status, Status::Settled | Status::Cut),
-            "{text}: {status}"
-        );
-        let Ok(script) = ken_script::read(rt.alloc(), text.as_bytes()) else {
-            continue;
-        };
-        let Some(played) = replayed(rt.alloc(), &script.facts, report)? else {
-            assert!(rt; false, "a step isn't defined: {text}");
-            continue;
-        };
-        let plain = faultless(rt.alloc(), report)?;
-        assert_eq!(rt; plain.as_str(), played.as_str(), "{text}");
-        if report.contains("\nrestart ") {
+        let text = random_script(rt.alloc(), &mut dice, 0)?;
+        if compare(&rt, rt.alloc(), &text)? {
             restarts = restarts.wrapping_add(1);
         }
     }
 
     // The faults were there.
     assert!(rt; restarts > SCRIPTS / 4, "{restarts} runs with restarts");
+    Ok(())
+}
+
+#[test]
+fn the_abstract_network_plays_what_rounds_report(rt: HostRuntime) -> Result<(), Fail> {
+    let mut dice = Lcg::new(2027);
+    let mut restarts = 0_u64;
+    for _script in 0..SCRIPTS_WITH_ROUNDS {
+        let rounds = dice.next() % ROUNDS + 1;
+        let text = random_script(rt.alloc(), &mut dice, rounds)?;
+        if compare(&rt, rt.alloc(), &text)? {
+            restarts = restarts.wrapping_add(1);
+        }
+    }
+    assert!(rt;
+        restarts > SCRIPTS_WITH_ROUNDS / 4,
+        "{restarts} runs with restarts"
+    );
     Ok(())
 }

@@ -7,6 +7,8 @@ use ken_model::{Items, Octets};
 use ken_top::{Status, ken};
 use std::alloc::{AllocError, Global};
 use std::str::{Utf8Error, from_utf8};
+use std::sync::Wait;
+use std::thread::Threads;
 
 // Three nodes pass a count of 2 on, from node 0.
 pub(crate) const THREE_NODES: &str = "{\"nodes\":3,\"kind\":\"ring\",\"inputs\":[[0,\"2\"]]}";
@@ -80,15 +82,16 @@ impl Ran {
 }
 
 // Calls the program with these words over a world in memory.
-pub(crate) fn call(
-    rt: &HostRuntime,
+pub(crate) fn call<R: Threads + Wait + Sync>(
+    rt: &R,
+    alloc: Global,
     line: &str,
     source: &mut MemSource,
     mut sink: MemSink,
 ) -> Result<Ran, AllocError> {
-    let words = words_in(rt.alloc(), line)?;
-    let mut world = MemWorld::new(rt.alloc());
-    let status = ken(rt, rt.alloc(), &words, source, &mut sink, &mut world);
+    let words = words_in(alloc, line)?;
+    let mut world = MemWorld::new(alloc);
+    let status = ken(rt, alloc, &words, source, &mut sink, &mut world);
     Ok(Ran {
         status,
         sink,
@@ -97,10 +100,14 @@ pub(crate) fn call(
 }
 
 // Runs a script.
-pub(crate) fn run_of(rt: &HostRuntime, script: &str) -> Result<Ran, AllocError> {
-    let mut source = source(rt.alloc(), script, 0)?;
-    let sink = sink(rt.alloc(), 0, WHOLE)?;
-    call(rt, RUN, &mut source, sink)
+pub(crate) fn run_of<R: Threads + Wait + Sync>(
+    rt: &R,
+    alloc: Global,
+    script: &str,
+) -> Result<Ran, AllocError> {
+    let mut source = source(alloc, script, 0)?;
+    let sink = sink(alloc, 0, WHOLE)?;
+    call(rt, alloc, RUN, &mut source, sink)
 }
 
 // A report without its restarts, and with each line once: what is left doesn't tell of faults.

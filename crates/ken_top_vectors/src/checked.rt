@@ -63,6 +63,7 @@ fn a_report_is_right_or_has_a_first_wrong_line(rt: HostRuntime) -> Result<(), Fa
         };
         let ran = call(
             &rt,
+            rt.alloc(),
             "ken check 44",
             &mut source,
             sink(rt.alloc(), 0, WHOLE)?,
@@ -87,7 +88,13 @@ fn a_check_has_a_length_and_a_script(rt: HostRuntime) -> Result<(), Fail> {
     ];
     for (words, status) in cases {
         let mut source = behind(rt.alloc(), THREE_NODES_REPORT, 0)?;
-        let ran = call(&rt, words, &mut source, sink(rt.alloc(), 0, WHOLE)?)?;
+        let ran = call(
+            &rt,
+            rt.alloc(),
+            words,
+            &mut source,
+            sink(rt.alloc(), 0, WHOLE)?,
+        )?;
         assert_eq!(rt; ran.status, status, "{words}");
     }
     Ok(())
@@ -105,6 +112,7 @@ fn a_call_of_the_source_or_the_sink_fails_in_a_check(rt: HostRuntime) -> Result<
         let mut source = behind(rt.alloc(), THREE_NODES_REPORT, read)?;
         let ran = call(
             &rt,
+            rt.alloc(),
             "ken check 44",
             &mut source,
             sink(rt.alloc(), write, WHOLE)?,

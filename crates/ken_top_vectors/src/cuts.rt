@@ -5,10 +5,15 @@ use ken_memdisk::MemDisk;
 use ken_store::Disks;
 use ken_top::Status;
 use std::alloc::{AllocError, Global};
+use std::sync::Wait;
 use std::test::Fail;
+use std::thread::Threads;
 
 // How many calls of each disk: more than any of them gets.
 const CALLS: u64 = 24;
+
+// How many rounds of threads come before the rest.
+const ROUNDS: u64 = 2;
 
 // The calls of a log that make it and seal a turn.
 const LOG_CALLS: u64 = 10;
@@ -29,10 +34,10 @@ struct Case {
 }
 
 impl Case {
-    fn script(&self, alloc: Global) -> Result<String, AllocError> {
+    fn script(&self, alloc: Global, rounds: u64) -> Result<String, AllocError> {
         let (node, disk, call, pick) = (self.node, self.disk, self.call, self.pick);
         format!(in alloc;
-            "{{\"nodes\":3,\"kind\":\"ring\",\"inputs\":[[0,\"2\"]],\"cuts\":[[{node},{disk},{call},{pick}]]}}"
+            "{{\"nodes\":3,\"kind\":\"ring\",\"inputs\":[[0,\"2\"]],\"rounds\":{rounds},\"cuts\":[[{node},{disk},{call},{pick}]]}}"
         )
     }
 
@@ -60,6 +65,24 @@ impl Case {
             }
         }
         Ok(false)
+    }
+
+    // Whether these are such lines after rounds, in which a cut of the image may come before the turn.
+    fn allows_after_rounds(
+        &self,
+        alloc: Global,
+        met: bool,
+        lines: &str,
+    ) -> Result<bool, AllocError> {
+        if !met {
+            return Ok(lines.is_empty());
+        }
+        let node = self.node;
+        let before = format!(in alloc; "restart {node} at 0\n")?;
+        Ok(
+            lines == before.as_str()
+                || lines == format!(in alloc; "restart {node} at 1\n")?.as_str(),
+        )
     }
 }
 
@@ -94,14 +117,19 @@ struct Seen {
     told: u64,
 }
 
-fn run_with(rt: &HostRuntime, case: Case) -> Result<Seen, Fail> {
-    let ran = run_of(rt, &case.script(rt.alloc())?)?;
+fn run_with<R: Threads + Wait + Sync>(
+    rt: &R,
+    alloc: Global,
+    case: Case,
+    rounds: u64,
+) -> Result<Seen, Fail> {
+    let ran = run_of(rt, alloc, &case.script(alloc, rounds)?)?;
     let (status, report) = ran.ending()?;
     let kept = ran.world.kept(case.node).ok_or("kept")?;
     Ok(Seen {
         status,
-        faultless: faultless(rt.alloc(), report)?,
-        restarts: restarts(rt.alloc(), report)?,
+        faultless: faultless(alloc, report)?,
+        restarts: restarts(alloc, report)?,
         told: met_pick(&kept.disks, case.disk),
     })
 }
@@ -130,7 +158,7 @@ fn cases(alloc: Global) -> Result<Vec<Case>, AllocError> {
 fn a_cut_changes_nothing_but_a_restart(rt: HostRuntime) -> Result<(), Fail> {
     let alloc = rt.alloc();
     for first in cases(alloc)? {
-        let met = run_with(&rt, first)?.told == 1;
+        let met = run_with(&rt, alloc, first, 0)?.told == 1;
         if first.disk != 1 {
             assert_eq!(rt;
                 met,
@@ -140,7 +168,7 @@ fn a_cut_changes_nothing_but_a_restart(rt: HostRuntime) -> Result<(), Fail> {
         }
         for pick in PICKS {
             let case = Case { pick, ..first };
-            let seen = run_with(&rt, case)?;
+            let seen = run_with(&rt, alloc, case, 0)?;
             assert_eq!(rt;
                 (seen.status, seen.faultless.as_str()),
                 (Status::Settled, THREE_NODES_REPORT),
@@ -149,6 +177,37 @@ fn a_cut_changes_nothing_but_a_restart(rt: HostRuntime) -> Result<(), Fail> {
             assert_eq!(rt; seen.told, if met { pick } else { 0 }, "{case:?}");
             let lines = seen.restarts.as_str();
             assert!(rt; case.allows(alloc, met, lines)?, "{case:?}: {lines}");
+        }
+    }
+    Ok(())
+}
+
+// So it is after rounds, whenever in them the call comes. The images are synced in each step, so all these calls of them are made.
+#[test]
+fn a_cut_in_rounds_changes_nothing_but_a_restart(rt: HostRuntime) -> Result<(), Fail> {
+    let alloc = rt.alloc();
+    for first in cases(alloc)? {
+        let met = first.disk == 1 || first.disk == 0 && first.call <= LOG_CALLS;
+        for pick in PICKS {
+            let case = Case { pick, ..first };
+            let seen = run_with(&rt, alloc, case, ROUNDS)?;
+            assert_eq!(rt;
+                (seen.status, seen.faultless.as_str(), seen.told),
+                (
+                    Status::Settled,
+                    THREE_NODES_REPORT,
+                    if met { pick } else { 0 }
+                ),
+                "{case:?}"
+            );
+            let lines = seen.restarts.as_str();
+            assert!(rt;
+                case.allows_after_rounds(alloc, met, lines)?,
+                "{case:?}: {lines}"
+            );
+            if !met {
+                break;
+            }
         }
     }
     Ok(())

@@ -14,24 +14,30 @@ struct Row {
 const RING_REPORT: &str =
     "turn 1 0 out 1 -\nturn 2 1 0 1 -\nturn 3 2 1 1 -\nemit 0 1 2\nemit 1 1 1\nemit 2 1 0\nheap 0 1\nheap 1 1\nheap 2 1\nend settled 3\n";
 
+const LANDED_REPORT: &str =
+    "turn 1 0 out 1 -\nturn 2 1 0 1 -\nturn 3 2 1 1 -\nemit 0 1 2\nemit 1 1 1\nemit 2 1 0\nrestart 0 at 1\nheap 0 1\nheap 1 1\nheap 2 1\nend settled 3\n";
+
+const TORN_REPORT: &str =
+    "turn 1 0 out 1 -\nturn 2 1 0 1 -\nturn 3 2 1 1 -\nemit 0 1 2\nemit 1 1 1\nemit 2 1 0\nrestart 0 at 0\nheap 0 1\nheap 1 1\nheap 2 1\nend settled 3\n";
+
 const SELF_REPORT: &str =
     "turn 1 0 out 1 -\nturn 2 0 0 1 -\nemit 0 1 1\nemit 0 2 0\nheap 0 2\nend settled 2\n";
 
 const RESTARTED_LAST: &str =
     "turn 1 1 out 1 -\nturn 2 0 1 1 -\nemit 0 1 0\nemit 1 1 1\nrestart 1 at 1\nheap 0 1\nheap 1 1\nend settled 2\n";
 
-const ROWS: [Row; 18] = [
+const ROWS: [Row; 22] = [
     // The first seal of node 0 is in doubt, and landed.
     Row {
         script: "{\"nodes\":3,\"kind\":\"ring\",\"inputs\":[[0,\"2\"]],\"cuts\":[[0,0,9,0]]}",
         status: Status::Settled,
-        report: "turn 1 0 out 1 -\nturn 2 1 0 1 -\nturn 3 2 1 1 -\nemit 0 1 2\nemit 1 1 1\nemit 2 1 0\nrestart 0 at 1\nheap 0 1\nheap 1 1\nheap 2 1\nend settled 3\n",
+        report: LANDED_REPORT,
     },
     // In doubt, and lost.
     Row {
         script: "{\"nodes\":3,\"kind\":\"ring\",\"inputs\":[[0,\"2\"]],\"cuts\":[[0,0,9,1]]}",
         status: Status::Settled,
-        report: "turn 1 0 out 1 -\nturn 2 1 0 1 -\nturn 3 2 1 1 -\nemit 0 1 2\nemit 1 1 1\nemit 2 1 0\nrestart 0 at 0\nheap 0 1\nheap 1 1\nheap 2 1\nend settled 3\n",
+        report: TORN_REPORT,
     },
     // A turn whose record was lost is made again with other draws.
     Row {
@@ -128,12 +134,36 @@ const ROWS: [Row; 18] = [
         status: Status::Script { rule: 11, index: 0 },
         report: "",
     },
+    // Rounds of threads before the rest: the report is the same,
+    Row {
+        script: "{\"nodes\":3,\"kind\":\"ring\",\"inputs\":[[0,\"2\"]],\"rounds\":4}",
+        status: Status::Settled,
+        report: RING_REPORT,
+    },
+    // also where the first seal of node 0 is in doubt, and landed,
+    Row {
+        script: "{\"nodes\":3,\"kind\":\"ring\",\"inputs\":[[0,\"2\"]],\"rounds\":4,\"cuts\":[[0,0,9,0]]}",
+        status: Status::Settled,
+        report: LANDED_REPORT,
+    },
+    // or was lost.
+    Row {
+        script: "{\"nodes\":3,\"kind\":\"ring\",\"inputs\":[[0,\"2\"]],\"rounds\":4,\"cuts\":[[0,0,9,1]]}",
+        status: Status::Settled,
+        report: TORN_REPORT,
+    },
+    // There are 1,000 rounds at most.
+    Row {
+        script: "{\"nodes\":3,\"kind\":\"ring\",\"inputs\":[[0,\"2\"]],\"rounds\":1001}",
+        status: Status::Script { rule: 7, index: 0 },
+        report: "",
+    },
 ];
 
 #[test]
 fn runs_with_faults_are_reported(rt: HostRuntime) -> Result<(), Fail> {
     for row in &ROWS {
-        let ran = run_of(&rt, row.script)?;
+        let ran = run_of(&rt, rt.alloc(), row.script)?;
         assert_eq!(rt; ran.ending()?, (row.status, row.report), "{}", row.script);
     }
     Ok(())
@@ -144,6 +174,7 @@ fn runs_with_faults_are_reported(rt: HostRuntime) -> Result<(), Fail> {
 fn a_refused_output_is_offered_again(rt: HostRuntime) -> Result<(), Fail> {
     let ran = run_of(
         &rt,
+        rt.alloc(),
         "{\"nodes\":1,\"kind\":\"ring\",\"inputs\":[[0,\"1\"]],\"outlets\":[[0,2]]}",
     )?;
     assert_eq!(rt; ran.ending()?, (Status::Settled, SELF_REPORT));
@@ -164,7 +195,7 @@ fn an_emitted_output_is_not_due_at_the_end(rt: HostRuntime) -> Result<(), Fail> 
     let script = format!(in rt.alloc();
         "{{\"nodes\":2,\"kind\":\"ring\",\"pages\":1,\"inputs\":[[1,\"1\"]],\"cuts\":[[1,1,5,0]],\"outlets\":[{fails}]}}"
     )?;
-    let ran = run_of(&rt, &script)?;
+    let ran = run_of(&rt, rt.alloc(), &script)?;
     assert_eq!(rt; ran.ending()?, (Status::Settled, RESTARTED_LAST));
     let kept = ran.world.kept(1).ok_or("kept")?;
     assert_eq!(rt; kept.out.calls(), 1);
@@ -197,7 +228,7 @@ fn turned_over(alloc: Global, pick: u64) -> Result<(String, String), AllocError>
 fn a_turnover_that_is_cut_is_reported(rt: HostRuntime) -> Result<(), Fail> {
     for pick in 0..2 {
         let (script, report) = turned_over(rt.alloc(), pick)?;
-        let ran = run_of(&rt, &script)?;
+        let ran = run_of(&rt, rt.alloc(), &script)?;
         assert_eq!(rt;
             ran.ending()?,
             (Status::Settled, report.as_str()),
@@ -228,11 +259,38 @@ fn an_output_may_be_refused_64_times(rt: HostRuntime) -> Result<(), Fail> {
         (65, Status::Down { node: 0 }, "", 0),
     ];
     for (refusals, status, report, taken) in cases {
-        let ran = run_of(&rt, &refusing(rt.alloc(), refusals)?)?;
+        let ran = run_of(&rt, rt.alloc(), &refusing(rt.alloc(), refusals)?)?;
         assert_eq!(rt; ran.ending()?, (status, report), "{refusals} refusals");
         let kept = ran.world.kept(0).ok_or("kept")?;
         assert_eq!(rt; kept.out.calls(), 65, "{refusals} refusals");
         assert_eq!(rt; kept.out.took().len(), taken, "{refusals} refusals");
+    }
+    Ok(())
+}
+
+// A script of eight nodes with rounds, the outlet of one of which refuses so many calls, one after the other.
+fn refused(alloc: Global, calls: u64) -> Result<String, AllocError> {
+    let mut outlets = String::new(alloc);
+    for call in 1..=calls {
+        let comma = if call == 1 { "" } else { "," };
+        outlets.push_str(&format!(in alloc; "{comma}[5,{call}]")?)?;
+    }
+    format!(in alloc;
+        "{{\"nodes\":8,\"kind\":\"ring\",\"pages\":1,\"inputs\":[[5,\"0\"]],\"rounds\":8,\"outlets\":[{outlets}]}}"
+    )
+}
+
+// One node of eight has its output refused in a round once too often, and is down. The devices of all are kept.
+#[test]
+fn a_node_of_eight_is_down_in_a_round(rt: HostRuntime) -> Result<(), Fail> {
+    let borne = run_of(&rt, rt.alloc(), &refused(rt.alloc(), 64)?)?;
+    assert_eq!(rt; borne.status, Status::Settled);
+    let ran = run_of(&rt, rt.alloc(), &refused(rt.alloc(), 65)?)?;
+    assert_eq!(rt; ran.ending()?, (Status::Down { node: 5 }, ""));
+    for node in 0..8 {
+        let kept = ran.world.kept(node).ok_or("kept")?;
+        let calls = if node == 5 { 65 } else { 0 };
+        assert_eq!(rt; kept.out.calls(), calls, "node {node}");
     }
     Ok(())
 }

@@ -9,7 +9,9 @@ use ken_num::Lcg;
 use ken_top::{Status, serve};
 use std::alloc::{AllocError, Global};
 use std::str::from_utf8;
+use std::sync::Wait;
 use std::test::Fail;
+use std::thread::Threads;
 
 /// How many scripts.
 const SCRIPTS: u64 = 60;
@@ -189,13 +191,17 @@ fn random_script(
 }
 
 // How a service ends, and what is out.
-fn served(alloc: Global, script: &str) -> Result<(Status, String), Fail> {
+fn served<R: Threads + Wait + Sync>(
+    rt: &R,
+    alloc: Global,
+    script: &str,
+) -> Result<(Status, String), Fail> {
     ledger_keeps_limits();
     ledger_keeps_lines();
     let mut source = source(alloc, script, 0)?;
     let mut sink = sink(alloc, 0, WHOLE)?;
     let mut world = MemWorld::new(alloc);
-    let status = serve(alloc, Ledger, &mut source, &mut sink, &mut world);
+    let status = serve(rt, alloc, Ledger, &mut source, &mut sink, &mut world);
     Ok((status, String::from_str(alloc, from_utf8(sink.bytes())?)?))
 }
 
@@ -208,7 +214,7 @@ fn a_ledger_is_the_plain_one_whatever_fails(rt: HostRuntime) -> Result<(), Fail>
         let nodes = dice.next() % 4 + 1;
         let letters = random_letters(alloc, &mut dice, nodes)?;
         let script = random_script(alloc, &mut dice, nodes, letters.as_slice())?;
-        let (status, report) = served(alloc, &script)?;
+        let (status, report) = served(&rt, alloc, &script)?;
         assert!(rt;
             matches!(status, Status::Settled | Status::Cut),
             "{script}: {status}"
@@ -250,7 +256,7 @@ fn a_service_takes_no_kind(rt: HostRuntime) -> Result<(), Fail> {
         ("{\"nodes\":1,\"inputs\":[]}", Status::Settled),
     ];
     for (script, want) in scripts {
-        let (status, report) = served(rt.alloc(), script)?;
+        let (status, report) = served(&rt, rt.alloc(), script)?;
         assert_eq!(rt; status, want, "{script}");
         let out = if status == Status::Settled {
             "heap 0 0\nend settled 0\n"

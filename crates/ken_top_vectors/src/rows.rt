@@ -6,7 +6,7 @@ use std::test::Fail;
 // One run by itself, so that each of its allocations can be made to fail: then `Memory` comes with a front of the report.
 #[test]
 fn a_count_is_passed_on_along_the_ring(rt: HostRuntime) -> Result<(), Fail> {
-    let ran = run_of(&rt, THREE_NODES)?;
+    let ran = run_of(&rt, rt.alloc(), THREE_NODES)?;
     assert_eq!(rt; ran.ending()?, (Status::Settled, THREE_NODES_REPORT));
     Ok(())
 }
@@ -54,7 +54,7 @@ fn a_settled_run_is_reported(rt: HostRuntime) -> Result<(), Fail> {
         ),
     ];
     for (nodes, items, report) in cases {
-        let ran = run_of(&rt, &ring(rt.alloc(), nodes, items)?)?;
+        let ran = run_of(&rt, rt.alloc(), &ring(rt.alloc(), nodes, items)?)?;
         assert_eq!(rt; ran.ending()?, (Status::Settled, report), "{items}");
     }
     Ok(())
@@ -103,7 +103,7 @@ fn what_a_run_drew_is_reported(rt: HostRuntime) -> Result<(), Fail> {
         ),
     ];
     for (script, report) in cases {
-        let ran = run_of(&rt, script)?;
+        let ran = run_of(&rt, rt.alloc(), script)?;
         assert_eq!(rt; ran.ending()?, (Status::Settled, report), "{script}");
     }
     Ok(())
@@ -144,7 +144,7 @@ fn numbers_are_added_up_and_shared_out(rt: HostRuntime) -> Result<(), Fail> {
         ),
     ];
     for (script, report) in cases {
-        let ran = run_of(&rt, script)?;
+        let ran = run_of(&rt, rt.alloc(), script)?;
         assert_eq!(rt; ran.ending()?, (Status::Settled, report), "{script}");
     }
     Ok(())
@@ -181,7 +181,7 @@ fn texts_are_kept_by_keys(rt: HostRuntime) -> Result<(), Fail> {
         emit 0 12 none\n\
         heap 0 0 32:3 64:3 96:3 128:3 160:3 192:3 224:3\n\
         end settled 12\n";
-    let ran = run_of(&rt, script)?;
+    let ran = run_of(&rt, rt.alloc(), script)?;
     assert_eq!(rt; ran.ending()?, (Status::Settled, report));
     Ok(())
 }
@@ -199,19 +199,19 @@ fn amounts_are_moved_between_accounts(rt: HostRuntime) -> Result<(), Fail> {
         heap 0 0 32:10\n\
         heap 1 0 32:10\n\
         end settled 3\n";
-    let ran = run_of(&rt, script)?;
+    let ran = run_of(&rt, rt.alloc(), script)?;
     assert_eq!(rt; ran.ending()?, (Status::Settled, report));
     Ok(())
 }
 
 #[test]
 fn a_run_that_is_cut_is_reported(rt: HostRuntime) -> Result<(), Fail> {
-    let ran = run_of(&rt, &ring(rt.alloc(), 1, "[0,\"1000\"]")?)?;
+    let ran = run_of(&rt, rt.alloc(), &ring(rt.alloc(), 1, "[0,\"1000\"]")?)?;
     assert_eq!(rt; ran.status, Status::Cut);
     assert!(rt; ran.sink.bytes().ends_with(b"\nend cut 1000 1\n"));
 
     let one_turn = "{\"nodes\":1,\"kind\":\"ring\",\"turns\":1,\"inputs\":[[0,\"5\"]]}";
-    let ran = run_of(&rt, one_turn)?;
+    let ran = run_of(&rt, rt.alloc(), one_turn)?;
     assert_eq!(rt;
         ran.ending()?,
         (
@@ -243,7 +243,7 @@ fn nothing_is_written_for_a_script_that_breaks_a_rule(rt: HostRuntime) -> Result
         (second.as_str(), (9, 1)),
     ];
     for (script, (rule, index)) in cases {
-        let ran = run_of(&rt, script)?;
+        let ran = run_of(&rt, rt.alloc(), script)?;
         assert_eq!(rt;
             ran.ending()?,
             (Status::Script { rule, index }, ""),
@@ -259,10 +259,22 @@ fn nothing_is_read_for_words_that_are_not_plain(rt: HostRuntime) -> Result<(), F
     let cases = ["", "ken", "ken walk", "ken Run", "ken run run"];
     for words in cases {
         let mut source = source(rt.alloc(), THREE_NODES, 0)?;
-        let refused = call(&rt, words, &mut source, sink(rt.alloc(), 0, WHOLE)?)?;
+        let refused = call(
+            &rt,
+            rt.alloc(),
+            words,
+            &mut source,
+            sink(rt.alloc(), 0, WHOLE)?,
+        )?;
         assert_eq!(rt; refused.ending()?, (Status::Usage, ""), "{words}");
         assert!(rt; refused.world.kept(0).is_none(), "{words}");
-        let ran = call(&rt, RUN, &mut source, sink(rt.alloc(), 0, WHOLE)?)?;
+        let ran = call(
+            &rt,
+            rt.alloc(),
+            RUN,
+            &mut source,
+            sink(rt.alloc(), 0, WHOLE)?,
+        )?;
         assert_eq!(rt;
             ran.ending()?,
             (Status::Settled, THREE_NODES_REPORT),
@@ -283,7 +295,13 @@ fn a_call_of_the_source_or_the_sink_fails(rt: HostRuntime) -> Result<(), Fail> {
     ];
     for ((read, write), piece, want, out) in cases {
         let mut source = source(rt.alloc(), THREE_NODES, read)?;
-        let ran = call(&rt, RUN, &mut source, sink(rt.alloc(), write, piece)?)?;
+        let ran = call(
+            &rt,
+            rt.alloc(),
+            RUN,
+            &mut source,
+            sink(rt.alloc(), write, piece)?,
+        )?;
         assert_eq!(rt; ran.ending()?, (want, out), "read {read}, write {write}");
 
         // The devices were kept before anything was written.

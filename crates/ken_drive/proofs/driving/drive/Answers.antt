@@ -1,4 +1,5 @@
 -- A run of a script, from its start to its end.
+use mir.Syntax.{of_param}
 use Rattle.std.proofs.Common.{◌∙◌, Err, refl, subst, arith}
 use Rattle.ken_run.specs.declared.faults.RunFault.TheVariants.{Down}
 use Rattle.ken_drive.specs.Driven.{EndsBy}
@@ -9,10 +10,10 @@ use Rattle.ken_drive.proofs.Stopping.{end-drives, end-lets, start-drives, start-
 use Rattle.ken_drive.proofs.driving.drive.Goals as goal
 
 pub start-requires : goal.start-requires
-start-requires g c = (c.type_bounds.send-W-Dev, (c.type_bounds.send-W-Luck, (c.type_bounds.send-W-Out, (c.requires.rules.limits, (script-modest c.args.script.now c.requires.rules, (c.requires.serves, c.requires.none))))))
+start-requires g c = (record { owned = c.type_bounds.send-W-Dev.owned; leaving = λ k. c.type_bounds.send-W-Dev.leaving (λ _. k (of_param 2)) }, (record { owned = c.type_bounds.send-W-Luck.owned; leaving = λ k. c.type_bounds.send-W-Luck.leaving (λ _. k (of_param 3)) }, (record { owned = c.type_bounds.send-W-Out.owned; leaving = λ k. c.type_bounds.send-W-Out.leaving (λ _. k (of_param 4)) }, (c.requires.rules.limits, (script-modest c.args.script.now c.requires.rules, (c.requires.serves, c.requires.none))))))
 
 pub told-requires : goal.told-requires
-told-requires g c = record { game = game_by (g.A.App.handler c.args.app) c.args.script.now; made = c.args.script.now.facts.nodes; running = (running_of (λ w. g.W.Dev.Disk.told w.disk) (λ w. g.W.Dev.Disk.size w.disk) g.W.Out.Outlet.took g.A.App.handler (game_by (g.A.App.handler c.args.app) c.args.script.now) c.args.script.now.facts.nodes c.in_ok-run.run' c.in_ok-run.ensures.starts.0.started); all = refl }
+told-requires g c = (record { owned = c.type_bounds.send-W-Dev.owned; leaving = λ k. c.type_bounds.send-W-Dev.leaving (λ _. k (of_param 1)) }, (record { owned = c.type_bounds.send-W-Luck.owned; leaving = λ k. c.type_bounds.send-W-Luck.leaving (λ _. k (of_param 2)) }, (record { owned = c.type_bounds.send-W-Out.owned; leaving = λ k. c.type_bounds.send-W-Out.leaving (λ _. k (of_param 3)) }, (c.type_bounds.sync-R, (record { shared = c.type_bounds.sync-A.shared }, record { game = game_by (g.A.App.handler c.args.app) c.args.script.now; made = c.args.script.now.facts.nodes; running = (running_of (λ w. g.W.Dev.Disk.told w.disk) (λ w. g.W.Dev.Disk.size w.disk) g.W.Out.Outlet.took g.A.App.handler (game_by (g.A.App.handler c.args.app) c.args.script.now) c.args.script.now.facts.nodes c.in_ok-run.run' c.in_ok-run.ensures.starts.0.started); all = refl })))))
 
 pub finish-requires : goal.finish-requires
 finish-requires g c =
@@ -20,7 +21,7 @@ finish-requires g c =
     let width = told.ended.running.stands.width in
     let all = told.ended.all in
     let few = c.requires.rules.limits.few_nodes in
-    (c.type_bounds.send-W-Dev, (c.type_bounds.send-W-Luck, (c.type_bounds.send-W-Out, omega (arith, width, all, few))))
+    (record { owned = c.type_bounds.send-W-Dev.owned; leaving = λ k. c.type_bounds.send-W-Dev.leaving (λ _. k (of_param 2)) }, (record { owned = c.type_bounds.send-W-Luck.owned; leaving = λ k. c.type_bounds.send-W-Luck.leaving (λ _. k (of_param 3)) }, (record { owned = c.type_bounds.send-W-Out.owned; leaving = λ k. c.type_bounds.send-W-Out.leaving (λ _. k (of_param 4)) }, omega (arith, width, all, few))))
 
 pub returns-in-Ok-clause-drives : goal.returns-in-Ok-clause-drives
 returns-in-Ok-clause-drives g c =
@@ -44,7 +45,7 @@ finish-requires-in-Err-Down g c =
     let stopped = subst (λ x. EndsBy (λ w. g.W.Dev.Disk.told w.disk) (λ w. g.W.Dev.Disk.size w.disk) (λ w. g.W.Dev.Disk.faults w.disk) (λ w. g.W.Dev.Disk.fate w.disk) g.W.Luck.Oracle.telling g.W.Out.Outlet.took g.A.App.handler g.W.Out.Outlet.faults g.W.Out.Outlet.fate (terms_of g.W.World.scripted c.args.script.now) (game_by (g.A.App.handler c.args.app) c.args.script.now) (Err x) c.told.new.run) c.in-Err-Down.field-0-is (c.in-Err-Down.ensures.tells (terms_of g.W.World.scripted c.args.script.now) (game_by (g.A.App.handler c.args.app) c.args.script.now) c.args.script.now.facts.nodes (running_of (λ w. g.W.Dev.Disk.told w.disk) (λ w. g.W.Dev.Disk.size w.disk) g.W.Out.Outlet.took g.A.App.handler (game_by (g.A.App.handler c.args.app) c.args.script.now) c.args.script.now.facts.nodes c.in_ok-run.run' c.in_ok-run.ensures.starts.0.started) refl c.in_ok-run.ensures.accounts c.in_ok-run.ensures.refused c.requires.rules.plain) in
     let width = stopped.width in
     let few = c.requires.rules.limits.few_nodes in
-    (c.type_bounds.send-W-Dev, (c.type_bounds.send-W-Luck, (c.type_bounds.send-W-Out, omega (arith, width, few))))
+    (record { owned = c.type_bounds.send-W-Dev.owned; leaving = λ k. c.type_bounds.send-W-Dev.leaving (λ _. k (of_param 2)) }, (record { owned = c.type_bounds.send-W-Luck.owned; leaving = λ k. c.type_bounds.send-W-Luck.leaving (λ _. k (of_param 3)) }, (record { owned = c.type_bounds.send-W-Out.owned; leaving = λ k. c.type_bounds.send-W-Out.leaving (λ _. k (of_param 4)) }, omega (arith, width, few))))
 
 pub returns-in-Err-Down-clause-drives : goal.returns-in-Err-Down-clause-drives
 returns-in-Err-Down-clause-drives g c =

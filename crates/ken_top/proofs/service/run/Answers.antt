@@ -8,7 +8,7 @@ use Rattle.ken_top.proofs.service.run.Goals as goal
 pub drive-requires : goal.drive-requires
 drive-requires g c =
     let f = c.in_ok-script.script.facts in
-    (record { owned = c.type_bounds.send-W-Dev.owned; leaving = λ k. c.type_bounds.send-W-Dev.leaving (λ _. k (of_param 2)) }, (record { owned = c.type_bounds.send-W-Luck.owned; leaving = λ k. c.type_bounds.send-W-Luck.leaving (λ _. k (of_param 3)) }, (record { owned = c.type_bounds.send-W-Out.owned; leaving = λ k. c.type_bounds.send-W-Out.leaving (λ _. k (of_param 4)) }, (record { keeps = c.requires.limits f.nodes f.size; lines = c.requires.lines f.nodes f.size }, (c.in_ok-script.ensures.keeps, c.requires.none)))))
+    (record { owned = c.type_bounds.send-W-Dev.owned; leaving = λ k. c.type_bounds.send-W-Dev.leaving (λ _. k (of_param 3)) }, (record { owned = c.type_bounds.send-W-Luck.owned; leaving = λ k. c.type_bounds.send-W-Luck.leaving (λ _. k (of_param 4)) }, (record { owned = c.type_bounds.send-W-Out.owned; leaving = λ k. c.type_bounds.send-W-Out.leaving (λ _. k (of_param 5)) }, (c.type_bounds.sync-R, (record { shared = c.type_bounds.sync-A.shared }, (record { keeps = c.requires.limits f.nodes f.size; lines = c.requires.lines f.nodes f.size }, (c.in_ok-script.ensures.keeps, c.requires.none)))))))
 
 pub returns-in_err-script-clause-refused : goal.returns-in_err-script-clause-refused
 returns-in_err-script-clause-refused g c =
