@@ -1,0 +1,4 @@
+pub mod Digits
+pub mod Leaves
+pub mod Entered
+pub mod Asked

@@ -1,0 +1,47 @@
+-- The command line as `clap` has it, and what its matches ask for.
+use Rattle.std.specs.Prelude.{ℕ, List, true, if◌then◌else◌, Option, Some, None, option_map, option_and_then, bytes_eq, codes}
+use Rattle.clap.specs.Words.{App, Row, Rule, Text, first_of, new_app, new_rule, with_rule, with_subcommand}
+use Rattle.clap.specs.Simple.{on_top}
+use Rattle.ken_words.specs.declared.commands.Command.{Command}
+use Rattle.ken_words.specs.declared.commands.Command.TheVariants.{Run, Check}
+use Rattle.ken_words.specs.Commands.{length_in, seed_in, nodes_in, inputs_in, rounds_in, soak_of}
+
+-- a value that has to be given, by its place
+abbrev pub value : Text → Rule
+value id = record (new_rule id) { required = true }
+
+abbrev pub run : App
+run = new_app (codes "run")
+
+abbrev pub check : App
+check = with_rule (new_app (codes "check")) (value (codes "LENGTH"))
+
+abbrev pub soak : App
+soak = with_rule (with_rule (with_rule (with_rule (new_app (codes "soak"))
+    (value (codes "SEED"))) (value (codes "NODES"))) (value (codes "INPUTS"))) (value (codes "ROUNDS"))
+
+-- with no help and no version
+abbrev pub bare : App → App
+bare = on_top (λ s. record s { disable_help_flag = true; disable_help_subcommand = true; disable_version_flag = true })
+
+-- the program
+abbrev pub ken : App
+ken = with_subcommand (with_subcommand (with_subcommand (bare (new_app (codes "ken"))) run.top) check.top) soak.top
+
+-- a value of a subcommand, read as a number
+abbrev pub read_at : (Text → Option ℕ) → Text → List Row → Option ℕ
+read_at reads id rows = option_and_then reads (first_of id rows)
+
+abbrev pub soak_in : List Row → Option Command
+soak_in rows = soak_of (read_at seed_in (codes "SEED") rows) (read_at nodes_in (codes "NODES") rows) (read_at inputs_in (codes "INPUTS") rows) (read_at rounds_in (codes "ROUNDS") rows)
+
+-- what a subcommand with these matches asks for
+abbrev pub asked_by : Text → List Row → Option Command
+asked_by name rows =
+    if bytes_eq name (codes "run") then Some Run
+    else (if bytes_eq name (codes "check") then option_map Check (read_at length_in (codes "LENGTH") rows)
+    else (if bytes_eq name (codes "soak") then soak_in rows else None))
+
+-- and what a parse asks for that met a subcommand, or none
+abbrev pub asked : Option (Text × List Row) → Option Command
+asked = option_and_then (λ p. asked_by p.0 p.1)

@@ -1,0 +1,10 @@
+//! What the words of the program's command line ask for.
+#![tactic(auto)]
+
+mod commands;
+mod numbers;
+mod parser;
+#[cfg(test)]
+mod tests;
+
+pub use commands::{Command, command_in};
