@@ -1,25 +1,20 @@
 -- That what the matches ask for is what the words ask for.
-use Rattle.std.proofs.Common.{◌≡◌, ◌∙◌, ◌⊎◌, ◌&&◌, ◌||◌, ℕ, Bool, cond, true, false, inl, inr, option_map, refl, sym, ap, ap₂, subst, List, [], ◌∷◌, drop, Option, Some, None, is_some, codes, true≢false}
+use Rattle.std.proofs.Common.{◌≡◌, ◌∙◌, ◌⊎◌, Bool, true, false, inl, inr, option_map, refl, sym, ap, subst, List, [], ◌∷◌, drop, Some, None, codes, true≢false}
 use Rattle.std.specs.Prelude.{option_and_then}
 use Rattle.std.specs.List.{list_all}
 use Rattle.std.specs.Str.{all_ascii_digits, bytes_eq}
 use Rattle.std.proofs.lemmas.Slice.Eq.{bytes_eq-Decides}
 use Rattle.clap.specs.Words.{Kinds, Shape, Text, fault_of, subcommand_of}
 use Rattle.clap.specs.Walk.{rows_after}
-use Rattle.clap.specs.Simple.{rows_at}
 use Rattle.clap.specs.Kinds.{or_else}
 use Rattle.clap.specs.declared.error.kind.ErrorKind.{ErrorKind}
 use Rattle.clap.specs.declared.error.kind.ErrorKind.TheVariants.{MissingRequiredArgument, UnknownArgument}
 use Rattle.clap.proofs.WalkLemmas.{both}
-use Rattle.ken_words.specs.declared.commands.Command.{Command}
 use Rattle.ken_words.specs.declared.commands.Command.TheVariants.{Check}
 use Rattle.ken_words.specs.Commands.{command_of, length_in}
 use Rattle.ken_words.specs.Parser.{asked, asked_by, ken}
-use Rattle.ken_words.proofs.Entered.{enters_none, entered_faults, entered_rows, found, met}
+use Rattle.ken_words.proofs.Entered.{AreDigits, enters_none, entered_faults, entered_rows, found, met}
 use Rattle.ken_words.proofs.Leaves.{check_leaf, check_more, check_none, check_one, check_rows, faults, run_0, run_leaf, run_more, soak_0, soak_1, soak_2, soak_3, soak_4, soak_leaf, soak_more, soak_rows}
-
-abbrev AreNumbers : List Text → Type 0
-AreNumbers words = list_all all_ascii_digits words ≡ true
 
 -- where `clap` finds no fault, the matches ask for what the words ask for; and where it finds one, the words ask for nothing
 pub record IsRead (words : List Text) : Type 0 where
@@ -49,13 +44,13 @@ check_none_of program a b (c ∷ []) = refl
 check_none_of program a b (c ∷ d ∷ []) = refl
 check_none_of program a b (c ∷ d ∷ e ∷ rest) = refl
 
-run_read : (program : Text) (words : List Text) → AreNumbers words → IsLeafRead program (codes "run") run_leaf words
+run_read : (program : Text) (words : List Text) → AreDigits words → IsLeafRead program (codes "run") run_leaf words
 run_read program [] digits = record { ok = λ _. refl; err = inl run_0 }
 run_read program (a ∷ rest) digits =
     let p = both (all_ascii_digits a) (list_all all_ascii_digits rest) digits in
     record { ok = not_both UnknownArgument [] _ (run_more a rest p.0); err = inr (run_none program a rest) }
 
-check_read : (program : Text) (words : List Text) → AreNumbers words → IsLeafRead program (codes "check") check_leaf words
+check_read : (program : Text) (words : List Text) → AreDigits words → IsLeafRead program (codes "check") check_leaf words
 check_read program [] digits = record { ok = not_both MissingRequiredArgument [] _ check_none; err = inr refl }
 check_read program (a ∷ []) digits =
     let p = both (all_ascii_digits a) true digits in
@@ -65,7 +60,7 @@ check_read program (a ∷ b ∷ rest) digits =
     let q = both (all_ascii_digits b) (list_all all_ascii_digits rest) p.1 in
     record { ok = not_both UnknownArgument [] _ (check_more a b rest p.0 q.0); err = inr (check_none_of program a b rest) }
 
-soak_read : (program : Text) (words : List Text) → AreNumbers words → IsLeafRead program (codes "soak") soak_leaf words
+soak_read : (program : Text) (words : List Text) → AreDigits words → IsLeafRead program (codes "soak") soak_leaf words
 soak_read program [] digits = record { ok = not_both MissingRequiredArgument [] _ soak_0; err = inr refl }
 soak_read program (a ∷ []) digits =
     let p = both (all_ascii_digits a) true digits in
@@ -129,7 +124,7 @@ other_none program word (a ∷ b ∷ c ∷ d ∷ []) no_run no_check no_soak = r
 other_none program word (a ∷ b ∷ c ∷ d ∷ e ∷ rest) no_run no_check no_soak = refl
 
 by_word : (program word : Text) (words : List Text) (r c s : Bool) → bytes_eq (codes "run") word ≡ r → bytes_eq (codes "check") word ≡ c → bytes_eq (codes "soak") word ≡ s
-    → AreNumbers words → IsRead (program ∷ word ∷ words)
+    → AreDigits words → IsRead (program ∷ word ∷ words)
 by_word program word words true c s is _ _ digits =
     subst (λ n. IsRead (program ∷ n ∷ words)) ((bytes_eq-Decides (codes "run") word).0 is) (named_read program (codes "run") run_leaf words refl refl refl (run_read program words digits))
 by_word program word words false true s _ is _ digits =
@@ -142,7 +137,7 @@ by_word program word words false false false no_run no_check no_soak digits =
     record { ok = λ _. ap asked (enters_none program word words none digits) ∙ sym nothing; err = inr nothing }
 
 -- words with digits alone after the first two
-pub reads : (words : List Text) → AreNumbers (drop 2 words) → IsRead words
+pub reads : (words : List Text) → AreDigits (drop 2 words) → IsRead words
 reads [] digits = record { ok = λ _. refl; err = inr refl }
 reads (program ∷ []) digits = record { ok = λ _. refl; err = inr refl }
 reads (program ∷ word ∷ words) digits = by_word program word words _ _ _ refl refl refl digits

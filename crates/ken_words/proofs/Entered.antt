@@ -1,19 +1,19 @@
 -- What `clap` makes of the word after the program's name: it enters the subcommand of that name, and else none.
-use Rattle.std.proofs.Common.{◌≡◌, ◌∙◌, ◌⊎◌, ◌==◌, ◌&&◌, ◌||◌, ℕ, Bool, cond, zero, suc, true, false, inl, inr, refl, sym, ap, ap₂, arith, List, [], ◌∷◌, ◌++◌, length, Option, Some, None, is_some, option_map, codes, ne_eqb, leb-true, nat_le}
+use Rattle.std.proofs.Common.{◌≡◌, ◌∙◌, ◌⊎◌, ◌==◌, ◌&&◌, ℕ, Bool, cond, zero, suc, true, false, inl, inr, refl, sym, ap, ap₂, arith, List, [], ◌∷◌, ◌++◌, length, Option, Some, None, is_some, option_map, codes, ne_eqb}
 use Rattle.std.specs.Prelude.{slice_get}
 use Rattle.std.specs.List.{AllByRecursion, find, fold, list_all}
 use Rattle.std.specs.Option.{option_map_or}
 use Rattle.std.specs.Str.{all_ascii_digits, bytes_eq, chars}
-use Rattle.std.specs.Char.{is_ascii_digit}
 use Rattle.clap.specs.Lexer.{long_of, short_of}
-use Rattle.clap.specs.Words.{App, Kinds, Row, Shape, Text, built, fault_of, subcommand_of}
-use Rattle.clap.specs.Walk.{Held, Names, Outcome, Walk, after_flag, after_step, answers_to, bundle_met, bundle_step, finished, idle, long_or_other, nothing_held, plain, refused, settled, short_or_plain, subcommand_met, subcommand_or_other, trailing, value, walk, walked, word_met}
+use Rattle.clap.specs.Words.{App, Kinds, Shape, Text, built, fault_of, subcommand_of}
+use Rattle.clap.specs.Walk.{Held, Names, Outcome, Walk, after_flag, after_step, answers_to, bundle_met, bundle_step, finished, idle, long_or_other, nothing_held, plain, refused, settled, short_or_plain, subcommand_met, subcommand_or_other, trailing, walked}
 use Rattle.clap.specs.Simple.{entered, label_of, names_of, rows_at}
-use Rattle.clap.specs.Faults.{check_fault, defaults_fault, entered_fault, level_fault, other_fault, settle_fault, step_fault, turn_fault, walk_fault}
+use Rattle.clap.specs.Faults.{check_fault, defaults_fault, entered_fault, other_fault, settle_fault, step_fault, walk_fault}
 use Rattle.clap.specs.Kinds.{or_else}
 use Rattle.clap.specs.declared.error.kind.ErrorKind.TheVariants.{DisplayHelp, InvalidSubcommand}
 use Rattle.clap.proofs.WalkLemmas.{both, walk_stopped}
 use Rattle.ken_words.specs.Parser.{ken}
+use Rattle.ken_words.proofs.Digits.{IsDigits, first_digit}
 use Rattle.ken_words.proofs.Leaves.{faults}
 
 -- the program as a parse has it
@@ -126,23 +126,26 @@ never (word ∷ rest) is_trailing none =
     let here = loose_on word is_trailing none.0 in
     ap (λ w. (fold (walked [] names) w rest).stopped) here.1 ∙ never rest here.0 none.1
 
+abbrev pub AreDigits : List Text → Type 0
+AreDigits words = list_all all_ascii_digits words ≡ true
+
 -- digits are the name of none
-no_name : (word : Text) → all_ascii_digits word ≡ true → met word ≡ None
+no_name : (word : Text) → IsDigits word → met word ≡ None
 no_name [] digits = refl
 no_name (x ∷ xs) digits =
-    let high = leb-true x 57 (both (nat_le 48 x) (nat_le x 57) (both (is_ascii_digit x) (all_ascii_digits xs) digits).0).1 in
+    let high = (first_digit x xs digits).1 in
     let run : (114 == x) ≡ false = ne_eqb 114 x (λ e. omega (arith, high, e)) in
     let check : (99 == x) ≡ false = ne_eqb 99 x (λ e. omega (arith, high, e)) in
     let soak : (115 == x) ≡ false = ne_eqb 115 x (λ e. omega (arith, high, e)) in
     rw (run, check, soak) refl
 
-no_names : (words : List Text) → list_all all_ascii_digits words ≡ true → AllByRecursion (λ word. met word ≡ None) words
+no_names : (words : List Text) → AreDigits words → AllByRecursion (λ word. met word ≡ None) words
 no_names [] digits = tt
 no_names (word ∷ rest) digits =
     let parts = both (all_ascii_digits word) (list_all all_ascii_digits rest) digits in
     (no_name word parts.0, no_names rest parts.1)
 
 -- so a word that is no subcommand's name enters none, and neither do the digits after it
-pub enters_none : (program word : Text) (words : List Text) → met word ≡ None → list_all all_ascii_digits words ≡ true
+pub enters_none : (program word : Text) (words : List Text) → met word ≡ None → AreDigits words
     → subcommand_of ken (program ∷ word ∷ words) ≡ None
 enters_none program word words none digits = ap (entered top) (never (word ∷ words) false (none, no_names words digits))

@@ -1,5 +1,6 @@
 -- What the words of a command line ask for.
-use Rattle.std.specs.Prelude.{ℕ, ◌^◌, ◌-◌, List, [], ◌∷◌, if◌then◌else◌, Option, Some, None, option_map, bytes_eq, codes}
+use Rattle.std.specs.Prelude.{ℕ, ◌^◌, ◌-◌, List, [], ◌∷◌, if◌then◌else◌, Option, Some, None, option_map, codes}
+use Rattle.std.specs.Str.{bytes_eq}
 use Rattle.ken_model.specs.declared.facts.TheConstants.{MAX_INPUTS, MAX_NODES}
 use Rattle.ken_script.specs.declared.scripts.TheConstants.{LIMIT, MAX_ROUNDS}
 use Rattle.ken_words.specs.declared.commands.Command.{Command}
@@ -30,7 +31,9 @@ soak_of _ _ _ _ = None
 -- the program's name, a command's name and its numbers; other words ask for nothing
 abbrev pub command_of : List (List ℕ) → Option Command
 command_of (name ∷ word ∷ []) = if bytes_eq word (codes "run") then Some Run else None
-command_of (name ∷ word ∷ number ∷ []) = if bytes_eq word (codes "check") then option_map Check (length_in number) else None
+command_of (name ∷ word ∷ number ∷ []) =
+    if bytes_eq word (codes "check") then option_map Check (length_in number) else None
 command_of (name ∷ word ∷ seed ∷ nodes ∷ inputs ∷ rounds ∷ []) =
-    if bytes_eq word (codes "soak") then soak_of (seed_in seed) (nodes_in nodes) (inputs_in inputs) (rounds_in rounds) else None
+    if bytes_eq word (codes "soak")
+    then soak_of (seed_in seed) (nodes_in nodes) (inputs_in inputs) (rounds_in rounds) else None
 command_of _ = None

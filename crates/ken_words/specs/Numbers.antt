@@ -9,4 +9,6 @@ is_number word = nat_lt 0 (length word) && nat_le (length word) 20 && all_ascii_
 
 -- the number that a word writes, from `least` to `most`; zeros may stand in front
 abbrev pub number_in : ℕ → ℕ → List ℕ → Option ℕ
-number_in least most word = if is_number word && nat_le least (value_from 0 word) && nat_le (value_from 0 word) most then Some (value_from 0 word) else None
+number_in least most word =
+    if is_number word && nat_le least (value_from 0 word) && nat_le (value_from 0 word) most
+    then Some (value_from 0 word) else None

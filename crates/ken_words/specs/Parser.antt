@@ -1,5 +1,6 @@
 -- The command line as `clap` has it, and what its matches ask for.
-use Rattle.std.specs.Prelude.{ℕ, List, true, if◌then◌else◌, Option, Some, None, option_map, option_and_then, bytes_eq, codes}
+use Rattle.std.specs.Prelude.{ℕ, List, true, if◌then◌else◌, Option, Some, None, option_map, option_and_then, codes}
+use Rattle.std.specs.Str.{bytes_eq}
 use Rattle.clap.specs.Words.{App, Row, Rule, Text, first_of, new_app, new_rule, with_rule, with_subcommand}
 use Rattle.clap.specs.Simple.{on_top}
 use Rattle.ken_words.specs.declared.commands.Command.{Command}
@@ -33,7 +34,8 @@ abbrev pub read_at : (Text → Option ℕ) → Text → List Row → Option ℕ
 read_at reads id rows = option_and_then reads (first_of id rows)
 
 abbrev pub soak_in : List Row → Option Command
-soak_in rows = soak_of (read_at seed_in (codes "SEED") rows) (read_at nodes_in (codes "NODES") rows) (read_at inputs_in (codes "INPUTS") rows) (read_at rounds_in (codes "ROUNDS") rows)
+soak_in rows = soak_of (read_at seed_in (codes "SEED") rows) (read_at nodes_in (codes "NODES") rows)
+    (read_at inputs_in (codes "INPUTS") rows) (read_at rounds_in (codes "ROUNDS") rows)
 
 -- what a subcommand with these matches asks for
 abbrev pub asked_by : Text → List Row → Option Command

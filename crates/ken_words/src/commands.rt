@@ -32,11 +32,12 @@ pub enum Command {
     },
 }
 
-/// The command that plain words ask for: the program's name, and then `run`, `check` and a length, or `soak` and a seed,
-/// nodes, inputs and rounds. `None` for any others. The only error is want of memory.
+/// The command that plain words ask for: the program's name, and then `run`, or `check` and a length, or `soak` and a
+/// seed, nodes, inputs and rounds. `None` for any others. The only error is want of memory.
 pub fn command_in(alloc: Global, words: &[String]) -> Result<Option<Command>, AllocError>
     ensures { IfOk result (λ command. command ≡ command_of (map string_bytes words.now)) }
 {
+    // What `clap` takes beyond plain words, such as `--`, is no number.
     if !have_digits(words) {
         return Ok(None);
     }

@@ -1,5 +1,6 @@
 // Numbers on the command line.
-ghost use Rattle.std.specs.Prelude.{◌≡◌, ◌<◌, ◌≤◌, ◌&&◌, map, drop, length, string_bytes, true, nat_le, if◌then◌else◌, Some, None, IfSome};
+ghost use Rattle.std.specs.Prelude.{◌≡◌, ◌<◌, ◌≤◌, ◌&&◌, map, drop, length, string_bytes, true};
+ghost use Rattle.std.specs.Prelude.{nat_le, if◌then◌else◌, Some, None, IfSome};
 ghost use Rattle.std.specs.List.{list_all};
 ghost use Rattle.std.specs.Str.{all_ascii_digits};
 ghost use Rattle.ken_num.specs.Numbers.{value_from};

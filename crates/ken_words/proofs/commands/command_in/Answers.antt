@@ -1,5 +1,5 @@
-use Rattle.std.proofs.Common.{◌≡◌, ◌∙◌, inl, inr, sym, ap, subst, map, string_bytes, Global}
-use Rattle.clap.specs.Words.{HasKind, app_of, fault_of, is_simple, is_simple_and_free, subcommand_of}
+use Rattle.std.proofs.Common.{◌∙◌, inl, inr, sym, ap, subst, map, string_bytes, Global}
+use Rattle.clap.specs.Words.{HasKind, fault_of, is_simple, is_simple_and_free, subcommand_of}
 use Rattle.ken_words.specs.Parser.{asked}
 use Rattle.ken_words.proofs.Asked.{reads}
 use Rattle.ken_words.proofs.commands.command_in.Goals as goal

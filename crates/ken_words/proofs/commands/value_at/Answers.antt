@@ -1,8 +1,6 @@
-use Rattle.std.proofs.Common.{◌≡◌, ◌∙◌, sym, ap, arith, option_map, None}
-use Rattle.std.specs.Prelude.{option_and_then}
-use Rattle.clap.specs.Words.{first_of, found_of, rows_of}
+use Rattle.std.proofs.Common.{arith}
+use Rattle.clap.specs.Words.{found_of}
 use Rattle.clap.proofs.WalkLemmas.{first_value-rows}
-use Rattle.ken_words.specs.Numbers.{number_in}
 use Rattle.ken_words.proofs.commands.value_at.Goals as goal
 
 pub returns-in_err-get_str-clause-number : goal.returns-in_err-get_str-clause-number
