@@ -14,7 +14,8 @@ use Rattle.ken_words.specs.declared.commands.Command.TheVariants.{Check}
 use Rattle.ken_words.specs.Commands.{command_of, length_in}
 use Rattle.ken_words.specs.Parser.{asked, asked_by, ken}
 use Rattle.ken_words.proofs.Entered.{AreDigits, enters_none, entered_faults, entered_rows, found, met}
-use Rattle.ken_words.proofs.Leaves.{check_leaf, check_more, check_none, check_one, check_rows, faults, run_0, run_leaf, run_more, soak_0, soak_1, soak_2, soak_3, soak_4, soak_leaf, soak_more, soak_rows}
+use Rattle.ken_words.proofs.Leaves.{check_leaf, check_more, check_0, check_1, check_rows, faults, run_0, run_leaf, run_more, soak_leaf}
+use Rattle.ken_words.proofs.Soaks.{soak_0, soak_1, soak_2, soak_3, soak_4, soak_more, soak_rows}
 
 -- where `clap` finds no fault, the matches ask for what the words ask for; and where it finds one, the words ask for nothing
 pub record IsRead (words : List Text) : Type 0 where
@@ -31,34 +32,34 @@ not_both : {A : Type 0} (x : ErrorKind) (xs ys : Kinds) → ys ≡ x ∷ xs → 
 not_both x xs ys some none = let bad : [] ≡ x ∷ xs = sym none ∙ some in absurd cc
 
 -- other numbers of words than the command's
-run_none : (program a : Text) (rest : List Text) → command_of (program ∷ codes "run" ∷ a ∷ rest) ≡ None
-run_none program a [] = refl
-run_none program a (b ∷ []) = refl
-run_none program a (b ∷ c ∷ []) = refl
-run_none program a (b ∷ c ∷ d ∷ []) = refl
-run_none program a (b ∷ c ∷ d ∷ e ∷ rest) = refl
+run_nothing : (program a : Text) (rest : List Text) → command_of (program ∷ codes "run" ∷ a ∷ rest) ≡ None
+run_nothing program a [] = refl
+run_nothing program a (b ∷ []) = refl
+run_nothing program a (b ∷ c ∷ []) = refl
+run_nothing program a (b ∷ c ∷ d ∷ []) = refl
+run_nothing program a (b ∷ c ∷ d ∷ e ∷ rest) = refl
 
-check_none_of : (program a b : Text) (rest : List Text) → command_of (program ∷ codes "check" ∷ a ∷ b ∷ rest) ≡ None
-check_none_of program a b [] = refl
-check_none_of program a b (c ∷ []) = refl
-check_none_of program a b (c ∷ d ∷ []) = refl
-check_none_of program a b (c ∷ d ∷ e ∷ rest) = refl
+check_nothing : (program a b : Text) (rest : List Text) → command_of (program ∷ codes "check" ∷ a ∷ b ∷ rest) ≡ None
+check_nothing program a b [] = refl
+check_nothing program a b (c ∷ []) = refl
+check_nothing program a b (c ∷ d ∷ []) = refl
+check_nothing program a b (c ∷ d ∷ e ∷ rest) = refl
 
 run_read : (program : Text) (words : List Text) → AreDigits words → IsLeafRead program (codes "run") run_leaf words
 run_read program [] digits = record { ok = λ _. refl; err = inl run_0 }
 run_read program (a ∷ rest) digits =
     let p = both (all_ascii_digits a) (list_all all_ascii_digits rest) digits in
-    record { ok = not_both UnknownArgument [] _ (run_more a rest p.0); err = inr (run_none program a rest) }
+    record { ok = not_both UnknownArgument [] _ (run_more a rest p.0); err = inr (run_nothing program a rest) }
 
 check_read : (program : Text) (words : List Text) → AreDigits words → IsLeafRead program (codes "check") check_leaf words
-check_read program [] digits = record { ok = not_both MissingRequiredArgument [] _ check_none; err = inr refl }
+check_read program [] digits = record { ok = not_both MissingRequiredArgument [] _ check_0; err = inr refl }
 check_read program (a ∷ []) digits =
     let p = both (all_ascii_digits a) true digits in
-    record { ok = λ _. ap (λ o. option_map Check (option_and_then length_in o)) (check_rows a p.0); err = inl (check_one a p.0) }
+    record { ok = λ _. ap (λ o. option_map Check (option_and_then length_in o)) (check_rows a p.0); err = inl (check_1 a p.0) }
 check_read program (a ∷ b ∷ rest) digits =
     let p = both (all_ascii_digits a) _ digits in
     let q = both (all_ascii_digits b) (list_all all_ascii_digits rest) p.1 in
-    record { ok = not_both UnknownArgument [] _ (check_more a b rest p.0 q.0); err = inr (check_none_of program a b rest) }
+    record { ok = not_both UnknownArgument [] _ (check_more a b rest p.0 q.0); err = inr (check_nothing program a b rest) }
 
 soak_read : (program : Text) (words : List Text) → AreDigits words → IsLeafRead program (codes "soak") soak_leaf words
 soak_read program [] digits = record { ok = not_both MissingRequiredArgument [] _ soak_0; err = inr refl }
