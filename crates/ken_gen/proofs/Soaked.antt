@@ -1,5 +1,5 @@
 -- A soak run: its inputs make few visits and leave little, so no node is short of turns and each root is what was left.
-use Rattle.std.proofs.Common.{◌≡◌, ℕ, zero, suc, ◌+◌, ◌-◌, ◌*◌, ◌/◌, ◌%◌, ◌<◌, ◌≤◌, List, [], ◌∷◌, map, length, drop, sum_by, All, Bool, true, false, ◌==◌, nat_lt, if◌then◌else◌, Option, Some, None, decimal, refl, sym, ap, subst, ◌∙◌, arith, eq-eqb, eqb-true, ltb-true, lit<, length-drop}
+use Rattle.std.proofs.Common.{◌≡◌, ℕ, zero, suc, ◌+◌, ◌-◌, ◌*◌, ◌/◌, ◌%◌, ◌^◌, ◌<◌, ◌≤◌, List, [], ◌∷◌, map, length, drop, sum_by, All, Bool, true, false, ◌==◌, nat_lt, if◌then◌else◌, Option, Some, None, decimal, refl, sym, ap, subst, ◌∙◌, arith, eq-eqb, eqb-true, ltb-true, lit<, length-drop}
 use Rattle.std.specs.List.{AllByRecursion, range_with_len}
 use Rattle.std.proofs.Math.Nat.{mod-eq_of_lt}
 use Rattle.std.proofs.lemmas.List.Elements.{All-nil, All-cons}
@@ -19,7 +19,7 @@ use Rattle.ken_gen.specs.Inputs.{input_at, inputs_from, past_input}
 use Rattle.ken_gen.specs.Shares.{Visit, counted, counted_of, left, path, path_of, visits}
 use Rattle.ken_gen.specs.ShareLaws.{IsShareGame, IsShared}
 use Rattle.ken_gen.specs.SoakLaws.{SoaksComeOut, soak_game}
-use Rattle.ken_gen.specs.Summary.{summary, summary_of, totals_in}
+use Rattle.ken_gen.specs.Summary.{all_roots, all_turns, summary, summary_of, total_by, totals_in}
 use Rattle.ken_gen.proofs.Keeps.{drawn_below, inputs_length}
 use Rattle.ken_gen.proofs.Links.{on_link, weighed}
 use Rattle.ken_num.proofs.ReadBack.{num_decimal}
@@ -140,6 +140,11 @@ map-range f h a zero same = refl
 map-range f h a (suc n) same =
     ap (λ y. y ∷ map f (range_with_len (a + 1) n)) (same a (omega arith)) ∙ ap (λ ys. h a ∷ ys) (map-range f h (a + 1) n (λ k less. same k (omega (arith, less))))
 
+-- what is small at each node is small in sum
+sum-range : (f : NodeTotal → ℕ) (h : ℕ → NodeTotal) (a n : ℕ) → ((v : ℕ) → f (h v) ≤ 10000000) → sum_by f (map h (range_with_len a n)) ≤ n * 10000000
+sum-range f h a zero few = omega arith
+sum-range f h a (suc n) few = omega (arith, sum_by-cons f (h a) (map h (range_with_len (a + 1) n)), few a, sum-range f h (a + 1) n few)
+
 abbrev total_of : ℕ → ℕ → NodeTotal
 total_of turns root = record { turns = turns; root = root }
 
@@ -167,22 +172,38 @@ module _ (seed nodes inputs : ℕ) (schedule : List Step) (some : 0 < nodes) (fe
       let all = cut.each cut.some.0 cut.some.1 cut.some.2 in
       omega (arith, more, all)
 
-  told : IsSettled net → summary_of seed inputs (totals_in g net) ≡ summary seed nodes inputs
-  unfolding summary
-  told settled = ap (summary_of seed inputs) (map-range _ _ 0 nodes each)
-    where
-      shared : IsShared g net
-      shared = shares_come_out g schedule is_share legal settled
+  module _ (settled : IsSettled net) where
+    shared : IsShared g net
+    shared = shares_come_out g schedule is_share legal settled
 
-      each : (v : ℕ) → v < 0 + nodes → total_of (net.place v).turns (net.place v).value.root ≡ total_of (visits nodes v (inputs_from nodes inputs seed)) (left nodes v (inputs_from nodes inputs seed))
-      each v known =
-          let less : v < nodes = omega (arith, known) in
-          let root : (net.place v).value.root ≡ left nodes v (inputs_from nodes inputs seed) = shared.roots v less ∙ mod-eq_of_lt (omega (arith, soak-left nodes inputs seed v, few_inputs)) in
-          ap (λ (k : ℕ). total_of k (net.place v).value.root) (shared.turns v less) ∙ ap (total_of (visits nodes v (inputs_from nodes inputs seed))) root
+    each : (v : ℕ) → v < 0 + nodes → total_of (net.place v).turns (net.place v).value.root ≡ total_of (visits nodes v (inputs_from nodes inputs seed)) (left nodes v (inputs_from nodes inputs seed))
+    each v known =
+        let less : v < nodes = omega (arith, known) in
+        let root : (net.place v).value.root ≡ left nodes v (inputs_from nodes inputs seed) = shared.roots v less ∙ mod-eq_of_lt (omega (arith, soak-left nodes inputs seed v, few_inputs)) in
+        ap (λ (k : ℕ). total_of k (net.place v).value.root) (shared.turns v less) ∙ ap (total_of (visits nodes v (inputs_from nodes inputs seed))) root
+
+    totals : totals_in g net ≡ map (total_by nodes (inputs_from nodes inputs seed)) (range_with_len 0 nodes)
+    totals = map-range _ _ 0 nodes each
+
+    told : summary_of seed inputs (totals_in g net) ≡ summary seed nodes inputs
+    unfolding summary
+    told = ap (summary_of seed inputs) totals
+
+    few_turns : all_turns (totals_in g net) < 2 ^ 64
+    few_turns =
+        let sum = sum-range (λ (t : NodeTotal). t.turns) (total_by nodes (inputs_from nodes inputs seed)) 0 nodes (λ v. omega (arith, soak-visits nodes inputs seed v, few_inputs)) in
+        omega (arith, ap all_turns totals, sum, few_nodes)
+
+    small_roots : all_roots (totals_in g net) < 2 ^ 64
+    small_roots =
+        let sum = sum-range (λ (t : NodeTotal). t.root) (total_by nodes (inputs_from nodes inputs seed)) 0 nodes (λ v. omega (arith, soak-left nodes inputs seed v, few_inputs)) in
+        omega (arith, ap all_roots totals, sum, few_nodes)
 
 pub soaks_come_out : SoaksComeOut
 soaks_come_out seed nodes inputs schedule some few_nodes few_inputs legal = record {
   enough = enough seed nodes inputs schedule some few_nodes few_inputs legal;
   not_cut = not_cut seed nodes inputs schedule some few_nodes few_inputs legal;
   told = told seed nodes inputs schedule some few_nodes few_inputs legal;
+  few_turns = few_turns seed nodes inputs schedule some few_nodes few_inputs legal;
+  small_roots = small_roots seed nodes inputs schedule some few_nodes few_inputs legal;
 }
