@@ -30,4 +30,5 @@ pub mod AtEnd
 pub mod Refusals
 pub mod RefusalsFirst
 pub mod StartingNode
+pub mod Counts
 pub mod StartingRun

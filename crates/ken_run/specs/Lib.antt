@@ -5,6 +5,7 @@ pub mod Devices
 pub mod Running
 pub mod Left
 pub mod Accounts
+pub mod Counts
 pub mod Known
 pub mod Flowing
 pub mod Patched

@@ -25,6 +25,7 @@ use Rattle.ken_node.specs.Up.{IsUp, MayBeCalled, MayBeCalledOn, MayTakeTurns}
 use Rattle.ken_run.specs.declared.faults.RunFault.{RunFault}
 use Rattle.ken_run.specs.declared.station.Station.{Station}
 use Rattle.ken_run.specs.Accounts.{AccountsStation, IsHeld, Terms}
+use Rattle.ken_run.specs.Counts.{KeepCounts}
 use Rattle.ken_run.specs.Ends.{WereGiven, WerePut}
 use Rattle.ken_run.specs.Creating.{BeginsAccounts, BeginsStation, CreatesStation, IsBorn, IsFresh, MayBeBorn, RaisesStation}
 use Rattle.ken_run.specs.Stations.{RestartsStation}
@@ -84,6 +85,10 @@ module _ {D O U : Type 0} (d : disk.Ghosts D) where
   -- what became of its disks, by the answer
   abbrev pub FailsDisks : Station D O U → Result Took NodeFault → Station D O U → Type 0
   FailsDisks old result new = (before after : Disks (Watched D)) → HasDisks before old.node.stage → HasDisks after new.node.stage → DisksFailBy (λ w. d.told w.disk) (λ w. d.faults w.disk) (λ w. d.fate w.disk) result before after
+
+  -- no count of faults of its disks fell
+  abbrev pub KeepsCounts : Station D O U → Station D O U → Type 0
+  KeepsCounts old new = KeepCounts (λ w. d.faults w.disk) old.node.stage new.node.stage
 
   abbrev pub KeepsImageTold : Station D O U → Station D O U → Type 0
   KeepsImageTold old new = image_told (λ w. d.told w.disk) new.node.stage ≡ image_told (λ w. d.told w.disk) old.node.stage

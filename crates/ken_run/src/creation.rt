@@ -2,7 +2,7 @@
 ghost use Rattle.std.specs.Prelude.{◌≡◌, ◌≤◌, ◌^◌, ◌<◌, ◌+◌, [], replicate, IfOk};
 ghost use Rattle.ken_node.specs.Stages.{refusals_in};
 ghost use Rattle.ken_run.specs.Clauses.{AccountsJoined, AddsStation, JoinsRun, MayAdd, RefusesJoined};
-ghost use Rattle.ken_run.specs.StationClauses.{AccountsBegun, AccountsMade, AccountsRaised, Begins, IsMade, IsRaised, IsRestartOf, KeepsEmissions, MayBegin, MayComeBack, RefusedNone};
+ghost use Rattle.ken_run.specs.StationClauses.{AccountsBegun, AccountsMade, AccountsRaised, Begins, IsMade, IsRaised, IsRestartOf, KeepsCounts, KeepsEmissions, MayBegin, MayComeBack, RefusedNone};
 
 use crate::faults::RunFault;
 use crate::inboxes::InFlight;
@@ -22,6 +22,7 @@ impl<D: Disk, O: Oracle, U: Outlet> Station<D, O, U> {
         requires { MayComeBack D.Disk self.old }
         ensures back { IsRaised D.Disk most self.old result self.new }
         ensures accounts { AccountsRaised D.Disk O.Oracle most self.old result self.new }
+        ensures counts { KeepsCounts D.Disk self.old self.new }
         ensures emissions { KeepsEmissions self.old self.new }
         ensures refusals { refusals_in self.new.node.stage ≤ refusals_in self.old.node.stage }
         ensures rest { IsRestartOf self.old self.new }

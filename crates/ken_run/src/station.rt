@@ -14,6 +14,7 @@ ghost use Rattle.ken_run.specs.StationClauses.{
   FailsDisks,
   HearsAs,
   IsRestartOf,
+  KeepsCounts,
   KeepsDisks,
   KeepsEmissions,
   KeepsImageTold,
@@ -142,6 +143,7 @@ impl<D: Disk, O: Oracle, U: Outlet> Station<D, O, U> {
         ensures emissions { KeepsEmissions self.old self.new }
         ensures refusals { refusals_in self.new.node.stage ≤ refusals_in self.old.node.stage }
         ensures accounts { AccountsBack D.Disk O.Oracle self.old result self.new }
+        ensures counts { KeepsCounts D.Disk self.old self.new }
         ensures rest { IsRestartOf self.old self.new }
     {
         self.lines.reserve(1)?;

@@ -2,6 +2,7 @@
 use Rattle.std.proofs.Common.{Err, subst, arith}
 use Rattle.ken_run.specs.Accounts.{AccountsStation}
 use Rattle.ken_run.specs.Stations.{RestartsStation}
+use Rattle.ken_run.proofs.Counts.{counts-same, raised-kept}
 use Rattle.ken_run.proofs.StartingNode.{down-again, down-at-first, held-at-first, may-restart-still, raised}
 use Rattle.ken_run.proofs.station.Station.raise.Goals as goal
 
@@ -20,7 +21,11 @@ tries-smaller g c =
     omega (arith, more, left)
 
 pub tries-init : goal.tries-init
-tries-init g c = (down-at-first (λ w. g.D.Disk.told w.disk) c.args.self.now, held-at-first (λ w. g.D.Disk.told w.disk) (λ w. g.D.Disk.faults w.disk) (λ w. g.D.Disk.fate w.disk) g.O.Oracle.telling c.args.most c.args.self.now)
+tries-init g c = (
+  down-at-first (λ w. g.D.Disk.told w.disk) c.args.self.now,
+  held-at-first (λ w. g.D.Disk.told w.disk) (λ w. g.D.Disk.faults w.disk) (λ w. g.D.Disk.fate w.disk) g.O.Oracle.telling c.args.most c.args.self.now,
+  counts-same (λ w. g.D.Disk.faults w.disk) c.args.self.now.node.stage,
+)
 
 pub returns-in-Ok-clause-accounts : goal.returns-in-Ok-clause-accounts
 returns-in-Ok-clause-accounts g c = λ terms game v held few. let left = c.tries-test.true in c.in-Ok.ensures.accounts terms game v (c.tries.invariant.1.held terms game v few held) (omega (arith, left, few))
@@ -45,6 +50,7 @@ tries-preserved g c = (
         (c.in-Err-Disk.ensures.accounts terms game v (c.tries.invariant.1.held terms game v few held) (omega (arith, left, few)));
     refusals = let before = c.tries.invariant.1.refusals in let less = c.restart.ensures.refusals in omega (arith, before, less);
   },
+  raised-kept (λ w. g.D.Disk.told w.disk) (λ w. g.D.Disk.faults w.disk) c.args.self.now c.tries.self c.restart.new.self c.requires c.tries.invariant.0 c.tries.invariant.2 c.restart.ensures.counts,
 )
 
 pub returns-clause-back : goal.returns-clause-back
@@ -55,3 +61,15 @@ returns-clause-back g c = λ game v given n doubt down.
 pub returns-in-Err-Damaged-clause-back : goal.returns-in-Err-Damaged-clause-back
 returns-in-Err-Damaged-clause-back g c = λ game v given n doubt down.
     subst (λ x. RestartsStation (λ w. g.D.Disk.told w.disk) (λ w. g.D.Disk.size w.disk) (Err x) game v given n doubt c.tries.self c.restart.new.self) c.in-Err-Damaged.field-0-is (c.in-Err-Damaged.ensures.back game v given n doubt (c.tries.invariant.0.down game v given n doubt down))
+
+pub returns-in-Ok-clause-counts : goal.returns-in-Ok-clause-counts
+returns-in-Ok-clause-counts g c = raised-kept (λ w. g.D.Disk.told w.disk) (λ w. g.D.Disk.faults w.disk) c.args.self.now c.tries.self c.restart.new.self c.requires c.tries.invariant.0 c.tries.invariant.2 c.restart.ensures.counts
+
+pub returns-in-Err-Damaged-clause-counts : goal.returns-in-Err-Damaged-clause-counts
+returns-in-Err-Damaged-clause-counts g c = raised-kept (λ w. g.D.Disk.told w.disk) (λ w. g.D.Disk.faults w.disk) c.args.self.now c.tries.self c.restart.new.self c.requires c.tries.invariant.0 c.tries.invariant.2 c.restart.ensures.counts
+
+pub returns-in-Err-clause-counts : goal.returns-in-Err-clause-counts
+returns-in-Err-clause-counts g c = raised-kept (λ w. g.D.Disk.told w.disk) (λ w. g.D.Disk.faults w.disk) c.args.self.now c.tries.self c.restart.new.self c.requires c.tries.invariant.0 c.tries.invariant.2 c.restart.ensures.counts
+
+pub returns-clause-counts : goal.returns-clause-counts
+returns-clause-counts g c = c.tries.invariant.2

@@ -1,7 +1,8 @@
 -- A station's restart is its node's.
-use Rattle.std.proofs.Common.{Ok, refl, rules}
+use Rattle.std.proofs.Common.{ℕ, Ok, Err, refl, rules}
 use Rattle.ken_node.specs.Restarts.{pick_of}
 use Rattle.ken_run.proofs.AccountsRestarts.{restart-disks-err, restart-station}
+use Rattle.ken_run.proofs.Counts.{counts-same, restart-kept}
 use Rattle.ken_run.proofs.Leaving.{restart-failed}
 use Rattle.ken_run.proofs.station.Station.restart.Goals as goal
 
@@ -22,3 +23,14 @@ pub returns-clause-accounts : goal.returns-clause-accounts
 returns-clause-accounts g c = λ terms game v h less.
     restart-station (λ w. g.D.Disk.told w.disk) (λ w. g.D.Disk.size w.disk) (λ w. g.D.Disk.faults w.disk) (λ w. g.D.Disk.fate w.disk) g.O.Oracle.telling terms game v c.args.self.now _ h less refl (c.in_ok-turns.ensures.synced game v h.given h.stood_for h.doubt h.down h.books.synced) c.in_ok-turns.ensures.emissions (pick_of (λ w. g.D.Disk.hinted w.disk)) (Ok tt)
     (c.in_ok-turns.turns, (c.in_ok-turns.ensures.up game v h.given h.stood_for h.doubt h.down, search rules, search rules)) c.in_ok-turns.ensures.disks
+
+pub returns-in_err-reserve-clause-counts : goal.returns-in_err-reserve-clause-counts
+returns-in_err-reserve-clause-counts g c = counts-same (λ w. g.D.Disk.faults w.disk) c.args.self.now.node.stage
+
+pub returns-in_err-turns-clause-counts : goal.returns-in_err-turns-clause-counts
+returns-in_err-turns-clause-counts g c = λ before after had has.
+    restart-kept (λ w. g.D.Disk.told w.disk) (λ w. g.D.Disk.faults w.disk) (λ w. g.D.Disk.fate w.disk) {T = ℕ} (pick_of (λ w. g.D.Disk.hinted w.disk) before) (Err c.in_err-turns.field-0.0) before after (c.in_err-turns.ensures.disks before after had has)
+
+pub returns-clause-counts : goal.returns-clause-counts
+returns-clause-counts g c = λ before after had has.
+    restart-kept (λ w. g.D.Disk.told w.disk) (λ w. g.D.Disk.faults w.disk) (λ w. g.D.Disk.fate w.disk) (pick_of (λ w. g.D.Disk.hinted w.disk) before) (Ok c.in_ok-turns.turns) before after (c.in_ok-turns.ensures.disks before after had has)
