@@ -103,7 +103,7 @@ module _ {D R O U A : Type 0} {b : base.Ghosts (WireNet R)} (d : disk.Ghosts D) 
   leaves (Err run_faults.Memory) a = tt
   leaves (Err (run_faults.Damaged v disk place)) a = undamaged v disk place a
 
-  pub serves : (result : Result (Unit {0}) RunFault) → AnswersBy d o most ran faults result now last → ServesBy g made 1 result r r2
+  pub serves : (result : Result (Unit {0}) RunFault) → AnswersBy d o most ran faults result now last → ServesBy w.faults g made 1 result r r2
   serves (Ok x) a =
       let rd = rounded a.made in
       round.all-served w e o u handles rd.wires g made r running whole crews crews2 tallies now faults c0 t0 s0 lent rd come a.had last (a.raised.0 ∙ now-count a.made a.had) most r2 same restarts stations (leaves (Ok x) a) (all-on a.made a.had x a)

@@ -1,5 +1,6 @@
 mod Accounts
 mod Asked
+mod Counts
 mod Crews
 mod Ends
 mod Group

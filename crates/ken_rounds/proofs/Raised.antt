@@ -22,6 +22,7 @@ use Rattle.ken_node.specs.Stages.{refusals_in}
 use Rattle.ken_node.specs.Up.{IsUp}
 use Rattle.ken_run.specs.declared.station.Station.{Station}
 use Rattle.ken_run.specs.Accounts.{AccountsStation, IsAccounted, IsHeld, Terms}
+use Rattle.ken_run.specs.Counts.{KeepCounts}
 use Rattle.ken_run.specs.Creating.{RaisesStation}
 use Rattle.ken_run.specs.Refusals.{HasFailedLast, IsRefused}
 use Rattle.ken_run.specs.Devices.{MayFailAt}
@@ -37,6 +38,7 @@ use Rattle.ken_rounds.proofs.Node.{HasGoneDown, NodeIs, StateIs}
 pub record RaisedAs {D O U : Type 0} (d : disk.Ghosts (Watched D)) (o : oracle.Ghosts O) (most : ℕ) (result : Result (Unit {0}) NodeFault) (old new : Station D O U) : Type 0 where
   pub back : (g : Game) (v : ℕ) (given : List Packet) (n : Node) (doubt : Doubt) → IsDown d.told g v given n doubt old.node.stage → RaisesStation d.told d.size result g v given n doubt most old new
   pub accounts : (terms : Terms) (g : Game) (v : ℕ) → IsHeld d.told d.faults d.fate o.telling terms g v old → most ≤ terms.most → AccountsStation d.told d.faults d.fate o.telling terms g result v new
+  pub counts : KeepCounts d.faults old.node.stage new.node.stage
   pub emissions : KeepsEmissions old new
   pub refusals : refusals_in new.node.stage ≤ refusals_in old.node.stage
   pub rest : IsRestartOf old new

@@ -26,8 +26,11 @@ use Rattle.ken_node.specs.Up.{IsUp}
 use Rattle.ken_run.specs.declared.run.Run.{Run}
 use Rattle.ken_run.specs.declared.station.Station.{Station}
 use Rattle.ken_run.specs.Accounts.{AreAccounted, IsAccounted, IsHeld, Terms}
+use Rattle.ken_run.specs.Counts.{KeepCounts}
 use Rattle.ken_run.specs.Refusals.{AreRefused, HasFailedLast, IsRefused, IsWornOut}
 use Rattle.ken_run.specs.Running.{IsRunning}
+use Rattle.ken_run.proofs.AccountsCalls.{HasSome}
+use Rattle.ken_run.proofs.Counts.{counts-then}
 use Rattle.ken_run.proofs.Lifted.{after-length}
 use Rattle.ken_wire.specs.declared.wire_net.WireNet.{WireNet}
 use Rattle.ken_beside.specs.On.{IsOn}
@@ -42,10 +45,11 @@ use Rattle.ken_rounds.specs.Crews.{CrewPlayed}
 use Rattle.ken_rounds.specs.Faults.{ComeTo, HadMemory, has_fallen, is_disk}
 use Rattle.ken_rounds.specs.Lending.{AreLent, HasCome, HaveCome, station_at}
 use Rattle.ken_rounds.specs.Manned.{CameBack, IsMannedBy}
-use Rattle.ken_rounds.specs.Quota.{AreServed, IsServed, MeetsQuota}
+use Rattle.ken_rounds.specs.Quota.{AreServed, CountsRose, IsServed, MeetsQuota}
 use Rattle.ken_rounds.specs.Raising.{HadMemoryAll}
 use Rattle.ken_rounds.specs.Shaken.{AreKept, down, IsDownForGood, IsShaken, IsSomehow, up}
 use Rattle.ken_rounds.proofs.Accounts.{accounted, held}
+use Rattle.ken_rounds.proofs.Counts.{counts-down, counts-rose-then, counts-up, has-returned}
 use Rattle.ken_rounds.proofs.Crews.{crew-played}
 use Rattle.ken_rounds.proofs.Group as group
 use Rattle.ken_rounds.proofs.Node.{HasGoneDown, node-is, state-is}
@@ -157,6 +161,18 @@ module _ {R D O U A : Type 0} {b : base.Ghosts (WireNet R)} (d : disk.Ghosts (Wa
         (first-false (is_disk faults.handler) (is_disk faults.patcher) none_fell) (rounded.ran v c0 in-crews).handler on.whole.workers.working in
         let made = has-made d g.handler 16 (crew v).turns (crew2 v).turns has-come.turns (crew v).patches (crew2 v).patches has-come.patches (crew v).sends (crew2 v).sends has-come.sends makes (has-come.met not-memory) in
         subst (λ stage. HasMade 16 stage (is v).node.stage) (sym manned.stage) (subst (HasMade 16 (Created (crew v).turns (crew v).patches (crew v).sends)) (sym back.stage) made)
+
+    -- what the round made of its disks' counts of faults
+    has-disks : HasSome (is v).node.stage
+    has-disks = has-returned d e o u g v (running.nodes v) (crew v) (crew2 v) (rounded.acks v) (rounded.acks2 v) (rounded.mail v) (rounded.mail2 v) has-come.turns has-come.patches has-come.sends (was v) (is v) played manned back
+
+    kept-counts : has_fallen (crew2 v).faults ≡ false → KeepCounts d.faults (was v).node.stage (is v).node.stage
+    kept-counts =
+        counts-up d e o u g v (running.nodes v) (crew v) (crew2 v) (rounded.acks v) (rounded.acks2 v) (rounded.mail v) (rounded.mail2 v) has-come.turns has-come.patches has-come.sends (was v) (is v) played manned back
+
+    rose-counts : has_fallen (crew2 v).faults ≡ true → KeepCounts d.faults (was v).node.stage (is v).node.stage × CountsRose d.faults (was v).node.stage (is v).node.stage
+    rose-counts =
+        counts-down d e o u g v (running.nodes v) (crew v) (crew2 v) (rounded.acks v) (rounded.acks2 v) (rounded.mail v) (rounded.mail2 v) has-come.turns has-come.patches has-come.sends (was v) (is v) played manned back
 
     -- a node whose disk failed may be restarted
     pub may-rise : fault v ≡ Some Disk → MayRestart d.told (is v).node.stage
@@ -323,27 +339,45 @@ module _ {R D O U A : Type 0} {b : base.Ghosts (WireNet R)} (d : disk.Ghosts (Wa
 
       -- ---- their turns
 
-      served : (v : ℕ) (low : v < made) → ((old : Stage (Watched D)) → HasMade 16 old (then v).node.stage → MeetsQuota g (16 * 1) old (then v).node.stage) → WentOn d o most (fault v) (is v) (then v) → IsServed g (16 * 1) (was v) (then v)
+      served : (v : ℕ) (low : v < made) → ((old : Stage (Watched D)) → HasMade 16 old (then v).node.stage → MeetsQuota g (16 * 1) old (then v).node.stage) → WentOn d o most (fault v) (is v) (then v) → IsServed d.faults g (16 * 1) (was v) (then v)
       served v low meets (inl (none, alike)) =
-          let made : HasMade 16 (was v).node.stage (then v).node.stage =
-          subst (λ (s : Station D O U). HasMade 16 (was v).node.stage s.node.stage) (sym alike) (made-turns v low (let so = subst (ComeTo (crew2 v).faults) none (come-to v low) in so.1)) in
+          let stood = (let so = subst (ComeTo (crew2 v).faults) none (come-to v low) in so.1) in
+          let made : HasMade 16 (was v).node.stage (then v).node.stage = subst (λ (s : Station D O U). HasMade 16 (was v).node.stage s.node.stage) (sym alike) (made-turns v low stood) in
           let tries = (back v low).restarts in
           let kept = ap (λ (s : Station D O U). s.restarts) alike in
-          record { tries = omega (arith, tries, kept); quota = λ also. meets (was v).node.stage made; quiet = λ also. made.quiet }
+          let again : (then v).restarts ≡ (was v).restarts = omega (arith, tries, kept) in
+          let quota = meets (was v).node.stage made in
+          record {
+            unfailed = λ _. quota;
+            caused = inl again;
+            counts = subst (λ (s : Station D O U). KeepCounts d.faults (was v).node.stage s.node.stage) (sym alike) (kept-counts v low stood);
+            tries = omega (arith, again);
+            quota = λ also. quota;
+            quiet = λ also. made.quiet;
+          }
       served v low meets (inr (disk, raised)) =
           let fallen = (let so = subst (ComeTo (crew2 v).faults) disk (come-to v low) in so.1) in
           let went = (node-played v low).state.down fallen in
           let again = (raised.back g v went.last (node-played v low).after_it went.doubt went.down).1.2 in
           let tries = (back v low).restarts in
-          record { tries = omega (arith, tries, again); quota = λ also. absurd (omega (arith, also, tries, again)); quiet = λ also. absurd (omega (arith, also, tries, again)) }
+          let counts = rose-counts v low fallen in
+          let rose : CountsRose d.faults (was v).node.stage (then v).node.stage = counts-rose-then d.faults (was v).node.stage (is v).node.stage (then v).node.stage (has-disks v low) counts.1 raised.counts in
+          record {
+            unfailed = λ none. absurd (none rose);
+            caused = inr rose;
+            counts = counts-then d.faults (was v).node.stage (is v).node.stage (then v).node.stage (has-disks v low) counts.0 raised.counts;
+            tries = omega (arith, tries, again);
+            quota = λ also. absurd (omega (arith, also, tries, again));
+            quiet = λ also. absurd (omega (arith, also, tries, again));
+          }
 
-      pub all-served : IsRunning d.told d.size u.took handles g made r2 → ((v : ℕ) → v < made → WentOn d o most (fault v) (is v) (then v)) → AreServed g made 1 r r2
+      pub all-served : IsRunning d.told d.size u.took handles g made r2 → ((v : ℕ) → v < made → WentOn d o most (fault v) (is v) (then v)) → AreServed d.faults g made 1 r r2
       all-served now all v other low =
           let here = at v other low in
           let there : slice_index_or r.stations.items v other ≡ was v = get_or_default r.stations.items v other s0 (in-stations v low) in
           let is_up : IsUp d.told d.size g v (now.nodes v) (then v).node.stage = subst (λ (s : Station D O U). IsUp d.told d.size g v (now.nodes v) s.node.stage) here (now.up v other low) in
           let one = served v low (λ old made_it. meets-quota d.told d.size g now.nodes now.emissions now.stands.limits now.stands.accord v 16 old (then v).node.stage is_up made_it) (all v low) in
-          subst (λ (s : Station D O U). IsServed g (16 * 1) s (slice_index_or r2.stations.items v other)) (sym there) (subst (IsServed g (16 * 1) (was v)) (sym here) one)
+          subst (λ (s : Station D O U). IsServed d.faults g (16 * 1) s (slice_index_or r2.stations.items v other)) (sym there) (subst (IsServed d.faults g (16 * 1) (was v)) (sym here) one)
 
       -- ---- their accounts
 

@@ -1,5 +1,5 @@
 -- What the turns that a handler made come to at its node, after the meeting.
-use Rattle.std.proofs.Common.{◌≡◌, ℕ, ◌+◌, ◌*◌, ◌^◌, ◌≤◌, ◌⊎◌, inl, inr, List, [], ◌∷◌, length, Option, sym, ap, subst, arith}
+use Rattle.std.proofs.Common.{◌≡◌, ◌∙◌, ℕ, ◌+◌, ◌*◌, ◌^◌, ◌≤◌, ◌⊎◌, inl, inr, List, [], ◌∷◌, length, Option, refl, sym, ap, subst, arith}
 use Rattle.std.specs.List.{AllByRecursion}
 use Rattle.ken_disk.specs.declared.disk.Disk as disk
 use Rattle.ken_disk.specs.Story.{Story}
@@ -23,11 +23,15 @@ use Rattle.ken_node.specs.declared.watched.Watched.{Watched}
 use Rattle.ken_node.specs.Stages.{turns_in}
 use Rattle.ken_node.specs.Up.{IsUp}
 use Rattle.ken_node.proofs.Over.{capped_over}
+use Rattle.ken_run.specs.Counts.{KeepCounts}
 use Rattle.ken_run.specs.Patched.{HasNoInput}
+use Rattle.ken_run.proofs.AccountsCalls.{HasSome}
+use Rattle.ken_run.proofs.Counts.{counts-same, counts-then}
 use Rattle.ken_beside.specs.Meetings.{HaveEmptied}
 use Rattle.ken_beside.proofs.On.{up_is_on}
 use Rattle.ken_run.specs.declared.station.Station.{Station}
-use Rattle.ken_rounds.specs.Quota.{all, IsServed, MeetsQuota, more, none_waits}
+use Rattle.ken_rounds.specs.Quota.{all, CountsRose, IsServed, MeetsQuota, more, none_waits}
+use Rattle.ken_rounds.proofs.Counts.{counts-rose-then, then-counts-rose}
 use Rattle.ken_rounds.proofs.Turns.{Makes, NoneWaits, Stuck, stuck-capped}
 
 module _ {D : Type 0} where
@@ -98,22 +102,54 @@ module _ {D : Type 0} (g : Game) where
   quota-fewer some many a b low (all x) = all x
   quota-fewer some many a b low (none_waits x) = none_waits x
 
-module _ {D O U : Type 0} (g : Game) where
-  pub served-none : (a : Station D O U) → IsServed g (16 * 0) a a
-  served-none a = record { tries = omega arith; quota = λ same. more (omega arith); quiet = λ same x. x }
+module _ {D O U : Type 0} (count : Watched D → ℕ) (g : Game) where
+  -- a node was restarted only where a count of its disks rose, so where none did it meets the quota
+  unfailed-meets : (turns : ℕ) (a b : Station D O U) → (b.restarts ≡ a.restarts) ⊎ CountsRose count a.node.stage b.node.stage → (b.restarts ≡ a.restarts → MeetsQuota g turns a.node.stage b.node.stage)
+      → (CountsRose count a.node.stage b.node.stage → ⊥) → MeetsQuota g turns a.node.stage b.node.stage
+  unfailed-meets turns a b (inl same) quota none = quota same
+  unfailed-meets turns a b (inr rose) quota none = absurd (none rose)
 
-  pub served-then : (rounds : ℕ) (a b c : Station D O U) → IsServed g (16 * rounds) a b → IsServed g (16 * 1) b c → IsServed g (16 * (rounds + 1)) a c
-  served-then rounds a b c one two =
+  caused-then : (a b c : Station D O U) → HasSome b.node.stage → KeepCounts count a.node.stage b.node.stage → KeepCounts count b.node.stage c.node.stage
+      → (b.restarts ≡ a.restarts) ⊎ CountsRose count a.node.stage b.node.stage → (c.restarts ≡ b.restarts) ⊎ CountsRose count b.node.stage c.node.stage → (c.restarts ≡ a.restarts) ⊎ CountsRose count a.node.stage c.node.stage
+  caused-then a b c mid one two (inl same) (inl still) = inl (still ∙ same)
+  caused-then a b c mid one two (inr rose) later = inr (counts-rose-then count a.node.stage b.node.stage c.node.stage mid rose two)
+  caused-then a b c mid one two (inl same) (inr rose) = inr (then-counts-rose count a.node.stage b.node.stage c.node.stage mid one rose)
+
+  pub served-none : (a : Station D O U) → IsServed count g (16 * 0) a a
+  served-none a = record {
+    unfailed = λ none. more (omega arith);
+    caused = inl refl;
+    counts = counts-same count a.node.stage;
+    tries = omega arith;
+    quota = λ same. more (omega arith);
+    quiet = λ same x. x;
+  }
+
+  pub served-then : (rounds : ℕ) (a b c : Station D O U) → HasSome b.node.stage → IsServed count g (16 * rounds) a b → IsServed count g (16 * 1) b c → IsServed count g (16 * (rounds + 1)) a c
+  served-then rounds a b c mid one two =
       let first = one.tries in
       let second = two.tries in
       let one_same : c.restarts ≡ a.restarts → b.restarts ≡ a.restarts = λ same. omega (arith, first, second, same) in
       let two_same : c.restarts ≡ a.restarts → c.restarts ≡ b.restarts = λ same. omega (arith, first, second, same) in
+      let quota : c.restarts ≡ a.restarts → MeetsQuota g (16 * (rounds + 1)) a.node.stage c.node.stage =
+      λ same. quota-then g rounds a.node.stage b.node.stage c.node.stage (one.quota (one_same same)) (two.quota (two_same same)) (two.quiet (two_same same)) in
+      let caused = caused-then a b c mid one.counts two.counts one.caused two.caused in
       record {
+        unfailed = unfailed-meets (16 * (rounds + 1)) a c caused quota;
+        caused = caused;
+        counts = counts-then count a.node.stage b.node.stage c.node.stage mid one.counts two.counts;
         tries = omega (arith, first, second);
-        quota = λ same. quota-then g rounds a.node.stage b.node.stage c.node.stage (one.quota (one_same same)) (two.quota (two_same same)) (two.quiet (two_same same));
+        quota = quota;
         quiet = λ same x. two.quiet (two_same same) (one.quiet (one_same same) x);
       }
 
   -- fewer turns than it made
-  pub served-fewer : (some many : ℕ) (a b : Station D O U) → some ≤ many → IsServed g many a b → IsServed g some a b
-  served-fewer some many a b low is = record { tries = is.tries; quota = λ same. quota-fewer g some many a.node.stage b.node.stage low (is.quota same); quiet = is.quiet }
+  pub served-fewer : (some many : ℕ) (a b : Station D O U) → some ≤ many → IsServed count g many a b → IsServed count g some a b
+  served-fewer some many a b low is = record {
+    unfailed = λ none. quota-fewer g some many a.node.stage b.node.stage low (is.unfailed none);
+    caused = is.caused;
+    counts = is.counts;
+    tries = is.tries;
+    quota = λ same. quota-fewer g some many a.node.stage b.node.stage low (is.quota same);
+    quiet = is.quiet;
+  }

@@ -27,7 +27,7 @@ module _ {D O U A : Type 0} (d : disk.Ghosts D) (u : outlet.Ghosts U) (a : app.G
 
   -- the turns that its nodes made in so many rounds
   abbrev pub QuotaRounds : {T : Type 0} → ℕ → Run D O U A → Result T RunFault → Run D O U A → Type 0
-  QuotaRounds rounds old result new = (g : Game) (made : ℕ) → Up d u a g made old → made ≡ g.nodes → ServesBy g made rounds result old new
+  QuotaRounds rounds old result new = (g : Game) (made : ℕ) → Up d u a g made old → made ≡ g.nodes → ServesBy (λ w. d.faults w.disk) g made rounds result old new
 
   -- and whose outlets had refused so often
   abbrev pub RefusesRounds : {T : Type 0} → Run D O U A → Result T RunFault → Run D O U A → Type 0

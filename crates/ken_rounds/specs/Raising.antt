@@ -9,7 +9,7 @@ use Rattle.ken_ship.specs.declared.faults.NodeFault.TheVariants.{Disk, Damaged, 
 use Rattle.ken_run.specs.declared.faults.RunFault.{RunFault}
 use Rattle.ken_run.specs.declared.faults.RunFault.TheVariants as run_faults
 use Rattle.ken_run.specs.declared.station.Station.{Station}
-use Rattle.ken_run.specs.StationClauses.{AccountsRaised, IsRaised, IsRestartOf, KeepsEmissions, MayComeBack}
+use Rattle.ken_run.specs.StationClauses.{AccountsRaised, IsRaised, IsRestartOf, KeepsCounts, KeepsEmissions, MayComeBack}
 use Rattle.ken_rounds.specs.Lending.{station_at}
 
 module _ {D O U : Type 0} (d : disk.Ghosts D) where
@@ -25,6 +25,7 @@ module _ {D O U : Type 0} (d : disk.Ghosts D) (o : oracle.Ghosts O) (most : ℕ)
   pub record WasRaised (result : Result (Unit {0}) NodeFault) (old new : Station D O U) : Type 0 where
     pub back : IsRaised d most old result new
     pub accounts : AccountsRaised d o most old result new
+    pub counts : KeepsCounts d old new
     pub emissions : KeepsEmissions old new
     pub refusals : refusals_in new.node.stage ≤ refusals_in old.node.stage
     pub rest : IsRestartOf old new

@@ -10,7 +10,7 @@ returns-in-Err-Disk g c =
     let r = c.in-Err-Disk.ensures in
     let disk : c.in-Some-Disk.field-0 ≡ Disk = rw c.in-Some-Disk.is at c.in-Some-Disk.field-0-is in
     let raised : WasRaised g.D.Disk g.O.Oracle c.args.most (Err c.in-Err-Disk.field-0) c.args.station.now c.raise.new.self =
-    record { back = r.back; accounts = r.accounts; emissions = r.emissions; refusals = r.refusals; rest = r.rest } in (
+    record { back = r.back; accounts = r.accounts; counts = r.counts; emissions = r.emissions; refusals = r.refusals; rest = r.rest } in (
       refl,
       used_up (subst (λ (x : NodeFault). c.args.fault ≡ Some x) disk c.in-Some-Disk.is)
           (subst (λ x. WasRaised g.D.Disk g.O.Oracle c.args.most (Err x) c.args.station.now c.raise.new.self) c.in-Err-Disk.field-0-is raised),
@@ -21,7 +21,7 @@ returns-in-Err-Damaged g c =
     let r = c.in-Err-Damaged.ensures in
     let disk : c.in-Some-Disk.field-0 ≡ Disk = rw c.in-Some-Disk.is at c.in-Some-Disk.field-0-is in
     let raised : WasRaised g.D.Disk g.O.Oracle c.args.most (Err c.in-Err-Damaged.field-0) c.args.station.now c.raise.new.self =
-    record { back = r.back; accounts = r.accounts; emissions = r.emissions; refusals = r.refusals; rest = r.rest } in (
+    record { back = r.back; accounts = r.accounts; counts = r.counts; emissions = r.emissions; refusals = r.refusals; rest = r.rest } in (
       subst (λ (x : NodeFault). c.args.fault ≡ Some x) disk c.in-Some-Disk.is,
       subst (λ x. WasRaised g.D.Disk g.O.Oracle c.args.most (Err x) c.args.station.now c.raise.new.self) c.in-Err-Damaged.field-0-is raised,
     )

@@ -104,7 +104,7 @@ module _ (g : given.Over) (c : goal.After-drop-faults g) where
 pub returns-clause-leaves : goal.returns-clause-leaves
 returns-clause-leaves g c = λ game made up whole.
     ends.leaves g.D.Disk (watched_disk.ghosts g.row.D g.D.Disk g.D.Disk-dict) _ g.O.Oracle g.U.Outlet g.A.App.handler c.restarts.result
-    (λ result old new r. record { back = r.back; accounts = r.accounts; emissions = r.emissions; refusals = r.refusals; rest = r.rest })
+    (λ result old new r. record { back = r.back; accounts = r.accounts; counts = r.counts; emissions = r.emissions; refusals = r.refusals; rest = r.rest })
     game made c.args.run.now c.put_stations.new.self up whole c.lend_all.new.crews.items c.round-ran.new.crews.items c.lend_all.new.tallies.items c.bring_all_back.new.stations.items c.answer_for-answer.new.stations.items c.as_slice.result.now
     (some_at c.lend_all.new.crews.items 0 (crews-some g c game made up whole)) (some_at c.lend_all.new.tallies.items 0 (tallies-some g c game made up whole)) (some_at c.args.run.now.stations.items 0 (stations-some g c game made up whole))
     (lent g c) (come g c) (rest g c) (restarts g c) (put g c) c.round-ran.result (asked.it-ran (watched_disk.ghosts g.row.D g.D.Disk g.D.Disk-dict) _ g.O.Oracle g.U.Outlet c.lend_all.new.crews.items c.round-ran.new.crews.items (g.A.App.handler c.app.result.now) game.handler (of-game g c game made up whole) c.round-ran.result c.round-ran.ensures.ok)
@@ -113,7 +113,7 @@ returns-clause-leaves g c = λ game made up whole.
 pub returns-clause-accounts : goal.returns-clause-accounts
 returns-clause-accounts g c = λ terms game made up whole accounted.
     ends.accounts g.D.Disk (watched_disk.ghosts g.row.D g.D.Disk g.D.Disk-dict) _ g.O.Oracle g.U.Outlet g.A.App.handler c.restarts.result
-    (λ result old new r. record { back = r.back; accounts = r.accounts; emissions = r.emissions; refusals = r.refusals; rest = r.rest })
+    (λ result old new r. record { back = r.back; accounts = r.accounts; counts = r.counts; emissions = r.emissions; refusals = r.refusals; rest = r.rest })
     game made c.args.run.now c.put_stations.new.self up whole c.lend_all.new.crews.items c.round-ran.new.crews.items c.lend_all.new.tallies.items c.bring_all_back.new.stations.items c.answer_for-answer.new.stations.items c.as_slice.result.now
     (some_at c.lend_all.new.crews.items 0 (crews-some g c game made up whole)) (some_at c.lend_all.new.tallies.items 0 (tallies-some g c game made up whole)) (some_at c.args.run.now.stations.items 0 (stations-some g c game made up whole))
     (lent g c) (come g c) (rest g c) (restarts g c) (put g c) c.round-ran.result (asked.it-ran (watched_disk.ghosts g.row.D g.D.Disk g.D.Disk-dict) _ g.O.Oracle g.U.Outlet c.lend_all.new.crews.items c.round-ran.new.crews.items (g.A.App.handler c.app.result.now) game.handler (of-game g c game made up whole) c.round-ran.result c.round-ran.ensures.ok)
@@ -122,7 +122,7 @@ returns-clause-accounts g c = λ terms game made up whole accounted.
 pub returns-clause-refused : goal.returns-clause-refused
 returns-clause-refused g c = λ terms game made up whole are.
     ends.refuses g.D.Disk (watched_disk.ghosts g.row.D g.D.Disk g.D.Disk-dict) _ g.O.Oracle g.U.Outlet g.A.App.handler c.restarts.result
-    (λ result old new r. record { back = r.back; accounts = r.accounts; emissions = r.emissions; refusals = r.refusals; rest = r.rest })
+    (λ result old new r. record { back = r.back; accounts = r.accounts; counts = r.counts; emissions = r.emissions; refusals = r.refusals; rest = r.rest })
     game made c.args.run.now c.put_stations.new.self up whole c.lend_all.new.crews.items c.round-ran.new.crews.items c.lend_all.new.tallies.items c.bring_all_back.new.stations.items c.answer_for-answer.new.stations.items c.as_slice.result.now
     (some_at c.lend_all.new.crews.items 0 (crews-some g c game made up whole)) (some_at c.lend_all.new.tallies.items 0 (tallies-some g c game made up whole)) (some_at c.args.run.now.stations.items 0 (stations-some g c game made up whole))
     (lent g c) (come g c) (rest g c) (restarts g c) (put g c) c.round-ran.result (asked.it-ran (watched_disk.ghosts g.row.D g.D.Disk g.D.Disk-dict) _ g.O.Oracle g.U.Outlet c.lend_all.new.crews.items c.round-ran.new.crews.items (g.A.App.handler c.app.result.now) game.handler (of-game g c game made up whole) c.round-ran.result c.round-ran.ensures.ok)
@@ -131,7 +131,7 @@ returns-clause-refused g c = λ terms game made up whole are.
 pub returns-clause-stops : goal.returns-clause-stops
 returns-clause-stops g c = λ terms game made up whole accounted are.
     ends.stops g.D.Disk (watched_disk.ghosts g.row.D g.D.Disk g.D.Disk-dict) _ g.O.Oracle g.U.Outlet g.A.App.handler c.restarts.result
-    (λ result old new r. record { back = r.back; accounts = r.accounts; emissions = r.emissions; refusals = r.refusals; rest = r.rest })
+    (λ result old new r. record { back = r.back; accounts = r.accounts; counts = r.counts; emissions = r.emissions; refusals = r.refusals; rest = r.rest })
     game made c.args.run.now c.put_stations.new.self up whole c.lend_all.new.crews.items c.round-ran.new.crews.items c.lend_all.new.tallies.items c.bring_all_back.new.stations.items c.answer_for-answer.new.stations.items c.as_slice.result.now
     (some_at c.lend_all.new.crews.items 0 (crews-some g c game made up whole)) (some_at c.lend_all.new.tallies.items 0 (tallies-some g c game made up whole)) (some_at c.args.run.now.stations.items 0 (stations-some g c game made up whole))
     (lent g c) (come g c) (rest g c) (restarts g c) (put g c) c.round-ran.result (asked.it-ran (watched_disk.ghosts g.row.D g.D.Disk g.D.Disk-dict) _ g.O.Oracle g.U.Outlet c.lend_all.new.crews.items c.round-ran.new.crews.items (g.A.App.handler c.app.result.now) game.handler (of-game g c game made up whole) c.round-ran.result c.round-ran.ensures.ok)
@@ -140,7 +140,7 @@ returns-clause-stops g c = λ terms game made up whole accounted are.
 pub returns-clause-quota : goal.returns-clause-quota
 returns-clause-quota g c = λ game made up whole.
     ends.serves g.D.Disk (watched_disk.ghosts g.row.D g.D.Disk g.D.Disk-dict) _ g.O.Oracle g.U.Outlet g.A.App.handler c.restarts.result
-    (λ result old new r. record { back = r.back; accounts = r.accounts; emissions = r.emissions; refusals = r.refusals; rest = r.rest })
+    (λ result old new r. record { back = r.back; accounts = r.accounts; counts = r.counts; emissions = r.emissions; refusals = r.refusals; rest = r.rest })
     game made c.args.run.now c.put_stations.new.self up whole c.lend_all.new.crews.items c.round-ran.new.crews.items c.lend_all.new.tallies.items c.bring_all_back.new.stations.items c.answer_for-answer.new.stations.items c.as_slice.result.now
     (some_at c.lend_all.new.crews.items 0 (crews-some g c game made up whole)) (some_at c.lend_all.new.tallies.items 0 (tallies-some g c game made up whole)) (some_at c.args.run.now.stations.items 0 (stations-some g c game made up whole))
     (lent g c) (come g c) (rest g c) (restarts g c) (put g c) c.round-ran.result (asked.it-ran (watched_disk.ghosts g.row.D g.D.Disk g.D.Disk-dict) _ g.O.Oracle g.U.Outlet c.lend_all.new.crews.items c.round-ran.new.crews.items (g.A.App.handler c.app.result.now) game.handler (of-game g c game made up whole) c.round-ran.result c.round-ran.ensures.ok)

@@ -3,6 +3,7 @@ use Rattle.std.proofs.Common.{◌∙◌, refl, arith}
 use Rattle.std.proofs.lemmas.Result.{err_from_is_err_and}
 use Rattle.ken_run.specs.declared.run.Run.{Run}
 use Rattle.ken_run.specs.Clauses.{Drains}
+use Rattle.ken_run.proofs.AccountsCalls.{up-has}
 use Rattle.ken_rounds.specs.Clauses.{KeepsRest}
 use Rattle.ken_rounds.proofs.Served.{served-fewer, served-none, served-then}
 use Rattle.ken_rounds.proofs.rounds.threaded.Goals as goal
@@ -15,7 +16,7 @@ loop-round-init g c = record {
   leaves = λ game made up whole. up;
   accounts = λ terms game made up whole accounted. accounted;
   refused = λ terms game made up whole are. are;
-  quota = λ game made up whole v d low. served-none game _;
+  quota = λ game made up whole v d low. served-none (λ w. g.D.Disk.faults w.disk) game _;
   rest = record { nodes = refl; app = refl; restarts = refl; waiting = refl };
 }
 
@@ -35,7 +36,10 @@ loop-round-preserved g c =
       leaves = λ game made up whole. one.leaves game made (before.leaves game made up whole) whole;
       accounts = λ terms game made up whole accounted. one.accounts terms game made (before.leaves game made up whole) whole (before.accounts terms game made up whole accounted);
       refused = λ terms game made up whole are. one.refused terms game made (before.leaves game made up whole) whole (before.refused terms game made up whole are);
-      quota = λ game made up whole v d low. served-then game c.loop-round._round _ _ _ (before.quota game made up whole v d low) (one.quota game made (before.leaves game made up whole) whole v d low);
+      quota = λ game made up whole v d low.
+          let mid = before.leaves game made up whole in
+          served-then (λ w. g.D.Disk.faults w.disk) game c.loop-round._round _ _ _ (up-has (λ w. g.D.Disk.told w.disk) (λ w. g.D.Disk.size w.disk) game v (mid.nodes v) _ (mid.up v d low))
+          (before.quota game made up whole v d low) (one.quota game made (before.leaves game made up whole) whole v d low);
       rest = rest-then before.rest one.rest;
     }
 
@@ -84,7 +88,7 @@ returns-in_err-one_round-clause-rest g c = rest-then c.loop-round.invariant.rest
 pub returns-clause-quota : goal.returns-clause-quota
 returns-clause-quota g c = λ game made up whole v d low.
     let past = c.loop-round-test.false in
-    served-fewer game _ _ _ _ (omega (arith, past)) (c.loop-round.invariant.quota game made up whole v d low)
+    served-fewer (λ w. g.D.Disk.faults w.disk) game _ _ _ _ (omega (arith, past)) (c.loop-round.invariant.quota game made up whole v d low)
 
 pub returns-clause-rest : goal.returns-clause-rest
 returns-clause-rest g c = c.loop-round.invariant.rest
