@@ -1,0 +1,7 @@
+//! A soak run: the script of a few numbers is run under its faults, and what it came to is summed up.
+#![tactic(auto)]
+
+mod soaking;
+mod totals;
+
+pub use soaking::soak;
