@@ -53,9 +53,9 @@ where
 
 /// Runs a script with an application over the devices of a world, and answers the lines of its report. The script's kind isn't
 /// looked at. Where it asks for rounds, the workers of all nodes run as threads in these, and then one thread goes on. A round
-/// may wait where a wire is in another thread's hands; with no rounds nothing waits. The disks, the oracle and the outlet of each node are given to `World::keep` then. `Down`: that node's disks failed once
-/// more than it may be restarted, or its outlet refused one output 65 times in a row; the devices of each node that was made are
-/// given back too. After `Memory` nothing is kept.
+/// may wait where a wire is in another thread's hands; with no rounds nothing waits. The disks, the oracle and the outlet of each
+/// node are given to `World::keep` then. `Down`: that node's disks failed once more than it may be restarted, or its outlet refused
+/// one output 65 times in a row; the devices of each node that was made are given back too. After `Memory` nothing is kept.
 pub fn drive<R: Threads + Wait + Sync, W: World, A: App + Sync + Drop>(
     rt: &R,
     alloc: Global,

@@ -165,7 +165,9 @@ fn random_script(alloc: Global, dice: &mut Lcg, rounds: u64) -> Result<String, A
     );
     let outlets = random_refusals(alloc, dice, nodes)?;
     format!(in alloc;
-        "{{\"nodes\":{nodes},\"kind\":\"{kind}\",\"pages\":1,\"seed\":{seed},\"turns\":{turns},\"rounds\":{rounds},\"inputs\":[{inputs}],\"cuts\":[{cuts}],\"mail\":[{mail}],\"acks\":[{acks}],\"outlets\":[{outlets}]}}"
+        "\
+            {{\"nodes\":{nodes},\"kind\":\"{kind}\",\"pages\":1,\"seed\":{seed},\"turns\":{turns},\"rounds\":{rounds},\"inputs\":[{inputs}],\
+            \"cuts\":[{cuts}],\"mail\":[{mail}],\"acks\":[{acks}],\"outlets\":[{outlets}]}}"
     )
 }
 

@@ -37,7 +37,9 @@ impl Case {
     fn script(&self, alloc: Global, rounds: u64) -> Result<String, AllocError> {
         let (node, disk, call, pick) = (self.node, self.disk, self.call, self.pick);
         format!(in alloc;
-            "{{\"nodes\":3,\"kind\":\"ring\",\"inputs\":[[0,\"2\"]],\"rounds\":{rounds},\"cuts\":[[{node},{disk},{call},{pick}]]}}"
+            "\
+                {{\"nodes\":3,\"kind\":\"ring\",\"inputs\":[[0,\"2\"]],\
+                \"rounds\":{rounds},\"cuts\":[[{node},{disk},{call},{pick}]]}}"
         )
     }
 

@@ -11,14 +11,17 @@ struct Row {
     report: &'static str,
 }
 
-const RING_REPORT: &str =
-    "turn 1 0 out 1 -\nturn 2 1 0 1 -\nturn 3 2 1 1 -\nemit 0 1 2\nemit 1 1 1\nemit 2 1 0\nheap 0 1\nheap 1 1\nheap 2 1\nend settled 3\n";
+const RING_REPORT: &str = "\
+        turn 1 0 out 1 -\nturn 2 1 0 1 -\nturn 3 2 1 1 -\nemit 0 1 2\nemit 1 1 1\nemit 2 1 0\nheap 0 1\n\
+        heap 1 1\nheap 2 1\nend settled 3\n";
 
-const LANDED_REPORT: &str =
-    "turn 1 0 out 1 -\nturn 2 1 0 1 -\nturn 3 2 1 1 -\nemit 0 1 2\nemit 1 1 1\nemit 2 1 0\nrestart 0 at 1\nheap 0 1\nheap 1 1\nheap 2 1\nend settled 3\n";
+const LANDED_REPORT: &str = "\
+        turn 1 0 out 1 -\nturn 2 1 0 1 -\nturn 3 2 1 1 -\nemit 0 1 2\nemit 1 1 1\nemit 2 1 0\nrestart 0 at 1\n\
+        heap 0 1\nheap 1 1\nheap 2 1\nend settled 3\n";
 
-const TORN_REPORT: &str =
-    "turn 1 0 out 1 -\nturn 2 1 0 1 -\nturn 3 2 1 1 -\nemit 0 1 2\nemit 1 1 1\nemit 2 1 0\nrestart 0 at 0\nheap 0 1\nheap 1 1\nheap 2 1\nend settled 3\n";
+const TORN_REPORT: &str = "\
+        turn 1 0 out 1 -\nturn 2 1 0 1 -\nturn 3 2 1 1 -\nemit 0 1 2\nemit 1 1 1\nemit 2 1 0\nrestart 0 at 0\n\
+        heap 0 1\nheap 1 1\nheap 2 1\nend settled 3\n";
 
 const SELF_REPORT: &str =
     "turn 1 0 out 1 -\nturn 2 0 0 1 -\nemit 0 1 1\nemit 0 2 0\nheap 0 2\nend settled 2\n";
@@ -61,11 +64,16 @@ const ROWS: [Row; 22] = [
     Row {
         script: "{\"nodes\":2,\"kind\":\"tally\",\"inputs\":[[0,\"1\"],[0,\"2\"],[0,\"3\"]],\"mail\":[[0,1,1,2]]}",
         status: Status::Settled,
-        report: "turn 1 0 out 1 -\nturn 2 0 out 2 -\nturn 2 1 0 1 -\nturn 3 0 out 3 -\nturn 3 1 0 2 -\nturn 4 1 0 3 -\nemit 0 1 1\nemit 0 2 3\nemit 0 3 6\nemit 1 1 1\nemit 1 2 3\nemit 1 3 6\nheap 0 6\nheap 1 6\nend settled 6\n",
+        report: "\
+            turn 1 0 out 1 -\nturn 2 0 out 2 -\nturn 2 1 0 1 -\nturn 3 0 out 3 -\nturn 3 1 0 2 -\nturn 4 1 0 3 -\n\
+            emit 0 1 1\nemit 0 2 3\nemit 0 3 6\nemit 1 1 1\nemit 1 2 3\nemit 1 3 6\nheap 0 6\nheap 1 6\n\
+            end settled 6\n",
     },
     // A mail and an acknowledgement are lost.
     Row {
-        script: "{\"nodes\":3,\"kind\":\"ring\",\"inputs\":[[0,\"2\"]],\"mail\":[[0,1,1,\"lose\"]],\"acks\":[[1,0,1,\"lose\"]]}",
+        script: "\
+            {\"nodes\":3,\"kind\":\"ring\",\"inputs\":[[0,\"2\"]],\"mail\":[[0,1,1,\"lose\"]],\
+            \"acks\":[[1,0,1,\"lose\"]]}",
         status: Status::Settled,
         report: RING_REPORT,
     },
@@ -79,13 +87,19 @@ const ROWS: [Row; 22] = [
     Row {
         script: "{\"nodes\":1,\"kind\":\"ring\",\"inputs\":[[0,\"1\"]],\"cuts\":[[0,0,11,1]]}",
         status: Status::Settled,
-        report: "turn 1 0 out 1 -\nturn 2 0 0 1 -\nemit 0 1 1\nemit 0 1 1\nemit 0 2 0\nrestart 0 at 1\nheap 0 2\nend settled 2\n",
+        report: "\
+            turn 1 0 out 1 -\nturn 2 0 0 1 -\nemit 0 1 1\nemit 0 1 1\nemit 0 2 0\nrestart 0 at 1\nheap 0 2\n\
+            end settled 2\n",
     },
     // The last patch of five is torn.
     Row {
-        script: "{\"nodes\":1,\"kind\":\"ring\",\"pages\":1,\"inputs\":[[0,\"0\"],[0,\"0\"],[0,\"0\"],[0,\"0\"],[0,\"0\"]],\"cuts\":[[0,1,5,7]]}",
+        script: "\
+            {\"nodes\":1,\"kind\":\"ring\",\"pages\":1,\"inputs\":[[0,\"0\"],[0,\"0\"],[0,\"0\"],[0,\"0\"],\
+            [0,\"0\"]],\"cuts\":[[0,1,5,7]]}",
         status: Status::Settled,
-        report: "turn 1 0 out 1 -\nturn 2 0 out 2 -\nturn 3 0 out 3 -\nturn 4 0 out 4 -\nturn 5 0 out 5 -\nemit 0 1 0\nemit 0 2 0\nemit 0 3 0\nemit 0 4 0\nemit 0 5 0\nrestart 0 at 5\nheap 0 5\nend settled 5\n",
+        report: "\
+            turn 1 0 out 1 -\nturn 2 0 out 2 -\nturn 3 0 out 3 -\nturn 4 0 out 4 -\nturn 5 0 out 5 -\nemit 0 1 0\n\
+            emit 0 2 0\nemit 0 3 0\nemit 0 4 0\nemit 0 5 0\nrestart 0 at 5\nheap 0 5\nend settled 5\n",
     },
     // Without inputs one pass is made: the sync of its image fails.
     Row {
@@ -106,13 +120,17 @@ const ROWS: [Row; 22] = [
     },
     // So neither a later cut of its image counts, nor a later call of its outlet.
     Row {
-        script: "{\"nodes\":2,\"kind\":\"ring\",\"pages\":1,\"inputs\":[[1,\"1\"]],\"restarts\":1,\"cuts\":[[1,1,5,0],[1,1,7,0]]}",
+        script: "\
+            {\"nodes\":2,\"kind\":\"ring\",\"pages\":1,\"inputs\":[[1,\"1\"]],\"restarts\":1,\"cuts\":[[1,1,5,0],\
+            [1,1,7,0]]}",
         status: Status::Settled,
         report: RESTARTED_LAST,
     },
     // A node that may be restarted twice fails three times.
     Row {
-        script: "{\"nodes\":1,\"kind\":\"ring\",\"inputs\":[[0,\"0\"]],\"restarts\":2,\"cuts\":[[0,0,1,1],[0,0,2,1],[0,0,3,1]]}",
+        script: "\
+            {\"nodes\":1,\"kind\":\"ring\",\"inputs\":[[0,\"0\"]],\"restarts\":2,\"cuts\":[[0,0,1,1],[0,0,2,1],\
+            [0,0,3,1]]}",
         status: Status::Down { node: 0 },
         report: "",
     },
@@ -124,7 +142,9 @@ const ROWS: [Row; 22] = [
     },
     // No acts, cuts and failing calls, told as such.
     Row {
-        script: "{\"nodes\":3,\"kind\":\"ring\",\"inputs\":[[0,\"2\"]],\"restarts\":0,\"cuts\":[],\"mail\":[],\"acks\":[],\"outlets\":[]}",
+        script: "\
+            {\"nodes\":3,\"kind\":\"ring\",\"inputs\":[[0,\"2\"]],\"restarts\":0,\"cuts\":[],\"mail\":[],\
+            \"acks\":[],\"outlets\":[]}",
         status: Status::Settled,
         report: RING_REPORT,
     },
@@ -193,7 +213,9 @@ fn an_emitted_output_is_not_due_at_the_end(rt: HostRuntime) -> Result<(), Fail> 
         fails.push_str(&format!(in rt.alloc(); "{comma}[1,{call}]")?)?;
     }
     let script = format!(in rt.alloc();
-        "{{\"nodes\":2,\"kind\":\"ring\",\"pages\":1,\"inputs\":[[1,\"1\"]],\"cuts\":[[1,1,5,0]],\"outlets\":[{fails}]}}"
+        "\
+            {{\"nodes\":2,\"kind\":\"ring\",\"pages\":1,\"inputs\":[[1,\"1\"]],\"cuts\":[[1,1,5,0]],\
+            \"outlets\":[{fails}]}}"
     )?;
     let ran = run_of(&rt, rt.alloc(), &script)?;
     assert_eq!(rt; ran.ending()?, (Status::Settled, RESTARTED_LAST));

@@ -186,7 +186,9 @@ fn random_script(
     );
     let outlets = random_refusals(alloc, dice, nodes)?;
     format!(in alloc;
-        "{{\"nodes\":{nodes},\"pages\":1,\"seed\":{seed},\"turns\":{turns},\"inputs\":[{inputs}],\"cuts\":[{cuts}],\"mail\":[{mail}],\"acks\":[{acks}],\"outlets\":[{outlets}]}}"
+        "\
+            {{\"nodes\":{nodes},\"pages\":1,\"seed\":{seed},\"turns\":{turns},\"inputs\":[{inputs}],\
+            \"cuts\":[{cuts}],\"mail\":[{mail}],\"acks\":[{acks}],\"outlets\":[{outlets}]}}"
     )
 }
 

@@ -253,7 +253,9 @@ const ROWS: [Row; 7] = [
         cuts: (9, 1),
         refusals: 0,
         status: Status::Settled,
-        report: "turn 1 0 out 1 -\nturn 2 1 0 1 -\nturn 3 2 1 1 -\nemit 0 1 2\nemit 1 1 1\nemit 2 1 0\nrestart 0 at 0\nrestart 1 at 0\nrestart 2 at 0\nheap 0 1\nheap 1 1\nheap 2 1\nend settled 3\n",
+        report: "\
+            turn 1 0 out 1 -\nturn 2 1 0 1 -\nturn 3 2 1 1 -\nemit 0 1 2\nemit 1 1 1\nemit 2 1 0\nrestart 0 at 0\n\
+            restart 1 at 0\nrestart 2 at 0\nheap 0 1\nheap 1 1\nheap 2 1\nend settled 3\n",
         kept: 3,
     },
     // Clocks that stand at 7, and the words 1000 and 1001.
@@ -262,7 +264,9 @@ const ROWS: [Row; 7] = [
         cuts: (0, 0),
         refusals: 0,
         status: Status::Settled,
-        report: "turn 1 1 out 1 7,1001\nturn 2 1 1 1 7,1001\nturn 3 1 1 2 7,1001\nemit 1 1 1\nemit 1 2 1\nemit 1 3 1\nheap 0 0\nheap 1 7\nend settled 3\n",
+        report: "\
+            turn 1 1 out 1 7,1001\nturn 2 1 1 1 7,1001\nturn 3 1 1 2 7,1001\nemit 1 1 1\nemit 1 2 1\nemit 1 3 1\n\
+            heap 0 0\nheap 1 7\nend settled 3\n",
         kept: 2,
     },
     // 64 refusals of an output are borne.

@@ -1,5 +1,7 @@
 // Worked rows: scripts without faults, refusals, and the statuses.
 use crate::calls::*;
+use ken_io::MemSource;
+use ken_model::{Items, Octets};
 use ken_top::Status;
 use std::test::Fail;
 
@@ -310,6 +312,41 @@ fn a_call_of_the_source_or_the_sink_fails(rt: HostRuntime) -> Result<(), Fail> {
             read == 0,
             "read {read}, write {write}"
         );
+    }
+    Ok(())
+}
+
+// The bytes of the script, one a call, and then the end.
+#[test]
+fn each_call_of_a_source_fails_once(rt: HostRuntime) -> Result<(), Fail> {
+    let alloc = rt.alloc();
+    for failing in 1..=45 {
+        let bytes = Octets::new(THREE_NODES.as_bytes().to_vec(alloc)?);
+        let mut source = MemSource::new(bytes, Items::new(vec![in alloc; failing]?), 1);
+        let ran = call(&rt, alloc, RUN, &mut source, sink(alloc, 0, WHOLE)?)?;
+        assert_eq!(rt; ran.ending()?, (Status::Read, ""), "{failing}");
+        assert!(rt; ran.world.kept(0).is_none(), "{failing}");
+    }
+    Ok(())
+}
+
+// A line a call.
+#[test]
+fn each_call_of_a_sink_fails_once(rt: HostRuntime) -> Result<(), Fail> {
+    let alloc = rt.alloc();
+    let mut written = String::new(alloc);
+    let mut failing = 0;
+    for line in THREE_NODES_REPORT.lines() {
+        failing += 1;
+        let mut source = source(alloc, THREE_NODES, 0)?;
+        let ran = call(&rt, alloc, RUN, &mut source, sink(alloc, failing, WHOLE)?)?;
+        assert_eq!(rt;
+            ran.ending()?,
+            (Status::Write, written.as_str()),
+            "{failing}"
+        );
+        written.push_str(line)?;
+        written.push_str("\n")?;
     }
     Ok(())
 }
