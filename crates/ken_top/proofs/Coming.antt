@@ -1,12 +1,12 @@
 -- What came of a source in pieces.
-use Rattle.std.proofs.Common.{◌≡◌, ℕ, ◌+◌, ◌-◌, ◌<◌, ◌≤◌, ◌^◌, ⊎_elim, List, [], ◌++◌, Option, Some, None, length, take, subst, sym, ap, ◌∙◌, refl, arith, append_assoc, append-nil, length-append, length-take}
+use Rattle.std.proofs.Common.{◌≡◌, ℕ, ◌+◌, ◌-◌, ◌<◌, ◌≤◌, ◌^◌, ⊎_elim, List, [], ◌++◌, Option, Some, None, length, take, subst, sym, refl, arith, append_assoc, append-nil, length-append, length-take}
 use Rattle.std.specs.Io.KnownBytes.{Consumes, IsAtEnd}
 use Rattle.std.proofs.KnownBytes.{Consumes-trans}
 use Rattle.ken_model.specs.Game.{Game, game_of}
 use Rattle.ken_io.specs.Transfers.{TakesAtMost}
 use Rattle.ken_check.specs.declared.judging.Judging.{Judging}
 use Rattle.ken_check.specs.declared.verdict.Verdict.{Verdict}
-use Rattle.ken_check.specs.Incoming.{HasRead, IsUnderWay}
+use Rattle.ken_check.specs.Incoming.{HasRead}
 use Rattle.ken_check.specs.Judged.{IsJudged}
 use Rattle.ken_script.specs.declared.faults.ScriptFault.{ScriptFault}
 use Rattle.ken_script.specs.declared.scripts.Script.{Script}

@@ -3,3 +3,4 @@ mod Complete
 mod Texts
 mod Judging
 mod Coming
+mod Soaked

@@ -4,3 +4,4 @@ pub mod Headline
 pub mod Checked
 pub mod Pieces
 pub mod Statuses
+pub mod Soaks

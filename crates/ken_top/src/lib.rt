@@ -1,11 +1,11 @@
 //! The top calls: a script is read, run over the devices of a world with the handler of its kind or with one of one's own, and
-//! its report written; or a report is checked.
+//! its report written; or a report is checked; or a script is made of a seed, and its run summed up.
 #![tactic(auto)]
 
 mod checking;
-mod command;
 mod incoming;
 mod service;
+mod soaking;
 mod status;
 mod top;
 

@@ -10,9 +10,9 @@ use std::fmt;
 /// How the program ends. It prints as the text for standard error, which is empty for `Settled` and `Checked`.
 #[derive(Clone, Copy, Debug, PartialEq, Eq)]
 pub enum Status {
-    /// The run is settled, and its report is written.
+    /// The run is settled, and its report or its summary is written.
     Settled,
-    /// The command line is neither `run` alone nor `check` and a length. Nothing was read or written.
+    /// The command line is none of `run` alone, `check` and a length, and `soak` and its four numbers. Nothing was read or written.
     Usage,
     /// The script breaks this rule and none before it, first at this index from 0. Nothing was written.
     Script { rule: u8, index: u64 },
@@ -25,7 +25,7 @@ pub enum Status {
     Down { node: u8 },
     /// The source failed. Nothing was written.
     Read,
-    /// The sink failed. A front of the report, or of `yes`, is out.
+    /// The sink failed. A front of the report, of `yes` or of the summary is out.
     Write,
     /// There wasn't memory enough. Nothing is out, or a front of the report.
     Memory,

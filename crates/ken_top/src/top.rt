@@ -1,34 +1,39 @@
 // The top call.
-ghost use Rattle.std.specs.Prelude.{◌≡◌, ◌≢◌, ◌↔◌, ◌+◌, ◌≤◌, ℕ, true, map, string_bytes, Some, None, IfOk, IfErr, IsErrOf};
+ghost use Rattle.std.specs.Prelude.{◌≡◌, ◌≢◌, ◌⊎◌, ◌+◌, ◌≤◌, ℕ, true, map, string_bytes, Some, None, IfOk, IfErr, IsErrOf};
 ghost use Rattle.ken_io.specs.Causes.{Rose};
 ghost use Rattle.ken_io.specs.Transfers.{TakesAtMost};
 ghost use Rattle.ken_drive.specs.Clauses.{views_of};
 ghost use Rattle.ken_drive.specs.Worlds.{HasKeptNothing};
 ghost use Rattle.ken_top.specs.Headline.{Ran, HasCauses, IsQuiet, IsComplete, IsLet, IsRunOfSource, IsRefusal, IsOut};
 ghost use Rattle.ken_top.specs.Checked.{Checks};
-ghost use Rattle.ken_top.specs.Commands.{command_of, most_read};
-ghost use Rattle.ken_top.specs.declared.command.Command.TheVariants.{Run, Check};
+ghost use Rattle.ken_words.specs.Commands.{command_of};
+ghost use Rattle.ken_words.specs.declared.commands.Command.TheVariants.{Run, Check, Soak};
+ghost use Rattle.ken_top.specs.Commands.{most_read, ReadsNothing, UsesNoWorld};
 ghost use Rattle.ken_top.specs.Programs.{kinds};
+ghost use Rattle.ken_top.specs.Soaks.{IsThrough, Soaks};
 
 use crate::checking::checked;
-use crate::command::{Command, command_in};
+use crate::soaking::soaked;
 use crate::status::Status;
 use ken_drive::{World, drive_kind};
 use ken_io::{Sink, Source, read_all};
 use ken_model::Lines;
 use ken_report::print;
 use ken_script::LIMIT;
+use ken_words::{Command, command_in, commands_fit};
 use std::alloc::Global;
 use std::sync::Wait;
 use std::thread::Threads;
 
 /// Does what the program does. `words` begins with the program's name. With `run` it reads a script, runs it over the world's devices, and
 /// writes its report. With `check` and a length it reads a script of so many bytes and a report behind it, and writes `yes` where the
-/// report is one that a run of the script prints.
+/// report is one that a run of the script prints. With `soak`, a seed, and numbers of nodes, inputs and rounds it makes a script of these,
+/// runs it, and writes the summary of what its nodes came to.
 ///
 /// A run makes the rounds that its script asks for: the workers of its nodes are threads then, as far as `rt` starts them, and one may wait
-/// where a wire is in another's hands. With no rounds, and with `check`, a call waits for nobody and returns. `Memory` comes where
-/// memory is wanted, and else as each status says. The world keeps the devices of a run that has ended, or of which a node is down, before anything is written.
+/// where a wire is in another's hands. So nothing here says that a call returns, though one without rounds calls nothing that waits. `Memory`
+/// comes where memory is wanted, and else as each status says. The world keeps the devices of a run that has ended, or of which a node is
+/// down, before anything is written.
 pub fn ken<R: Threads + Wait + Sync, S: Source, K: Sink, W: World>(
     rt: &R,
     alloc: Global,
@@ -38,28 +43,51 @@ pub fn ken<R: Threads + Wait + Sync, S: Source, K: Sink, W: World>(
     world: &mut W,
 ) -> Status
     requires { HasKeptNothing (W.kept world.old) }
-    ensures usage { (result ≡ Status.Usage) ↔ (command_of (map string_bytes words.now) ≡ None) }
+    ensures usage { result ≡ Status.Usage → command_of (map string_bytes words.now) ≡ None }
+    ensures plain { command_of (map string_bytes words.now) ≡ None → (result ≡ Status.Usage) ⊎ (result ≡ Status.Memory) }
     ensures runs { command_of (map string_bytes words.now) ≡ Some Run
         → Ran kinds (views_of W.Dev.Disk W.Luck.Oracle W.Out.Outlet W.scripted)
         (W.kept world.new) (S.left source.old) (K.took sink.old) (K.took sink.new) result }
     ensures checks { (size : ℕ) → command_of (map string_bytes words.now) ≡ Some (Check size)
         → Checks size (S.left source.old) (K.took sink.old) (K.took sink.new) result }
+    ensures soaks { (seed nodes inputs rounds : ℕ) → command_of (map string_bytes words.now) ≡ Some (Soak seed nodes inputs rounds)
+        → Soaks (views_of W.Dev.Disk W.Luck.Oracle W.Out.Outlet W.scripted)
+        (W.kept world.new) seed nodes inputs rounds (K.took sink.old) (K.took sink.new) result }
     ensures down { W.scripted ≡ true → IsLet kinds (S.left source.old) result }
     ensures complete { command_of (map string_bytes words.now) ≡ Some Run
         → W.scripted ≡ true
         → (Rose (S.faults source.old) (S.faults source.new) → ⊥)
         → (Rose (K.faults sink.old) (K.faults sink.new) → ⊥)
         → IsComplete kinds (S.left source.old) result }
+    ensures through { (seed nodes inputs rounds : ℕ) → command_of (map string_bytes words.now) ≡ Some (Soak seed nodes inputs rounds)
+        → W.scripted ≡ true
+        → (Rose (K.faults sink.old) (K.faults sink.new) → ⊥)
+        → IsThrough result }
     ensures causes { HasCauses (S.faults source.old) (S.faults source.new) (K.faults sink.old) (K.faults sink.new) result }
     ensures taken { TakesAtMost (most_read (command_of (map string_bytes words.now)) + 1) (S.left source.old) (S.left source.new) }
-    ensures unread { result ≡ Status.Usage → source.new ≡ source.old }
+    ensures unread { ReadsNothing (command_of (map string_bytes words.now)) → source.new ≡ source.old }
     ensures unwritten { IsQuiet result → sink.new ≡ sink.old }
-    ensures unused { command_of (map string_bytes words.now) ≢ Some Run → world.new ≡ world.old }
+    ensures silent { command_of (map string_bytes words.now) ≡ None → sink.new ≡ sink.old }
+    ensures unused { UsesNoWorld (command_of (map string_bytes words.now)) → world.new ≡ world.old }
 {
-    match command_in(words) {
-        Some(Command::Run) => ran(rt, alloc, source, sink, world),
-        Some(Command::Check { length }) => checked(alloc, length, source, sink),
-        None => Status::Usage,
+    match command_in(alloc, words) {
+        Ok(Some(Command::Run)) => ran(rt, alloc, source, sink, world),
+        Ok(Some(Command::Check { length })) => checked(alloc, length, source, sink),
+        Ok(
+            Some(
+                Command::Soak {
+                    seed,
+                    nodes,
+                    inputs,
+                    rounds,
+                },
+            ),
+        ) => {
+            commands_fit();
+            soaked(rt, alloc, seed, nodes, inputs, rounds, sink, world)
+        }
+        Ok(None) => Status::Usage,
+        Err(_) => Status::Memory,
     }
 }
 

@@ -1,9 +1,8 @@
-use Rattle.std.proofs.Common.{◌≡◌, ◌∙◌, ℕ, List, Option, length, min, sym, ap, subst, rules}
+use Rattle.std.proofs.Common.{ℕ, List, subst}
 use Rattle.std.proofs.lemmas.Result.{err_from_is_err_and}
 use Rattle.ken_script.specs.Faults.{IsFaultOf}
 use Rattle.ken_script.specs.Says.{Says}
-use Rattle.ken_top.specs.declared.checking.TheConstants.{MOST_INPUT}
-use Rattle.ken_top.proofs.Judging.{IsParted, judged_in, parted, reading_refused, refused_in, script_refused, took_all}
+use Rattle.ken_top.proofs.Judging.{judged_in, parted, reading_refused, refused_in, script_refused, took_all}
 use Rattle.ken_top.proofs.checking.judged.Goals as goal
 
 pub returns-in_err-text-clause-refused : goal.returns-in_err-text-clause-refused

@@ -1,4 +1,3 @@
-use Rattle.std.proofs.Common.{◌∷◌, []}
 use Rattle.ken_model.specs.Game.{game_of}
 use Rattle.ken_top.proofs.Coming.{long_judged, report_of}
 use Rattle.ken_top.proofs.checking.report_judged.Goals as goal
