@@ -35,10 +35,10 @@ class Case:
         return self.runs < LEAST_RUNS or self.spent < SECONDS
 
 
-def build():
-    """rt builds a program only to run it."""
-    words = ["rt", "run", "--", "store", "copy", "1", "1"]
-    done = subprocess.run(words, cwd=BENCH, capture_output=True, text=True)
+def build(crate=BENCH, words=("store", "copy", "1", "1")):
+    """rt builds a program only to run it, here with these words and no input."""
+    words = ["rt", "run", "--", *words]
+    done = subprocess.run(words, cwd=crate, stdin=subprocess.DEVNULL, capture_output=True, text=True)
     if done.returncode:
         raise SystemExit(done.stdout + done.stderr)
 
