@@ -22,7 +22,7 @@ const LOG_CALLS: u64 = 10;
 const IMAGE_MADE: u64 = 17;
 
 // What a crash leaves: only what was synced, two mixtures, and all that was written.
-const PICKS: [u64; 4] = [1, 2, 7, 0];
+pub(crate) const PICKS: [u64; 4] = [1, 2, 7, 0];
 
 // A cut of a disk of a node.
 #[derive(Clone, Copy, Debug)]
@@ -98,7 +98,7 @@ fn met_pick(disks: &Disks<MemDisk>, disk: u8) -> u64 {
 }
 
 // The lines of restarts.
-fn restarts(alloc: Global, report: &str) -> Result<String, AllocError> {
+pub(crate) fn restarts(alloc: Global, report: &str) -> Result<String, AllocError> {
     let mut text = String::new(alloc);
     for line in report.lines() {
         if line.starts_with("restart ") {

@@ -1,5 +1,6 @@
 // Scripts with faults, and their reports.
 use crate::calls::*;
+use crate::cuts::{PICKS, restarts};
 use ken_top::Status;
 use std::alloc::{AllocError, Global};
 use std::test::Fail;
@@ -227,8 +228,18 @@ fn an_emitted_output_is_not_due_at_the_end(rt: HostRuntime) -> Result<(), Fail> 
 // How many turns fill a log and go one further.
 const TURNS: u64 = 33;
 
-// A script of that many turns, whose second log fails when its gate is opened, and the report of its run.
-fn turned_over(alloc: Global, pick: u64) -> Result<(String, String), AllocError> {
+// How many calls of the second log make it and seal a turn in it, and which of them opens that turn's gate.
+const SECOND_CALLS: u64 = 10;
+
+const GATE: u64 = 9;
+
+// A script of that many turns, in which a call of the second log fails, and the report of its run without restarts.
+fn turned_over(
+    alloc: Global,
+    call: u64,
+    pick: u64,
+    rounds: u64,
+) -> Result<(String, String), AllocError> {
     let mut inputs = String::new(alloc);
     let mut turns = String::new(alloc);
     let mut outputs = String::new(alloc);
@@ -239,23 +250,47 @@ fn turned_over(alloc: Global, pick: u64) -> Result<(String, String), AllocError>
         outputs.push_str(&format!(in alloc; "emit 0 {turn} 0\n")?)?;
     }
     let script = format!(in alloc;
-        "{{\"nodes\":1,\"kind\":\"ring\",\"pages\":1,\"inputs\":[{inputs}],\"cuts\":[[0,2,5,{pick}]]}}"
+        "\
+            {{\"nodes\":1,\"kind\":\"ring\",\"pages\":1,\"rounds\":{rounds},\"inputs\":[{inputs}],\
+            \"cuts\":[[0,2,{call},{pick}]]}}"
     )?;
-    let report = format!(in alloc; "{turns}{outputs}restart 0 at 32\nheap 0 33\nend settled 33\n")?;
+    let report = format!(in alloc; "{turns}{outputs}heap 0 33\nend settled 33\n")?;
     Ok((script, report))
 }
 
-// A log is full after 32 turns. With pick 0 the cut leaves the other log, with pick 1 it leaves the full one.
+// Whether such a run may have these restarts: the last turn is lost, unless its gate is written and stands.
+fn allows(call: u64, pick: u64, restarts: &str) -> bool {
+    let lost = restarts == "restart 0 at 32\n";
+    let landed = restarts == "restart 0 at 33\n";
+    if call < GATE || pick == 1 {
+        lost
+    } else if pick == 0 {
+        landed
+    } else {
+        lost || landed
+    }
+}
+
+// A log is full after 32 turns. Whichever call of the turnover fails, or of the turn after it, nothing is seen of it but a restart, with
+// rounds and without.
 #[test]
-fn a_turnover_that_is_cut_is_reported(rt: HostRuntime) -> Result<(), Fail> {
-    for pick in 0..2 {
-        let (script, report) = turned_over(rt.alloc(), pick)?;
-        let ran = run_of(&rt, rt.alloc(), &script)?;
-        assert_eq!(rt;
-            ran.ending()?,
-            (Status::Settled, report.as_str()),
-            "pick {pick}"
-        );
+fn a_turnover_that_is_cut_changes_nothing_but_a_restart(rt: HostRuntime) -> Result<(), Fail> {
+    let alloc = rt.alloc();
+    for rounds in [0, 2] {
+        for call in 1..=SECOND_CALLS {
+            for pick in PICKS {
+                let (script, report) = turned_over(alloc, call, pick, rounds)?;
+                let ran = run_of(&rt, alloc, &script)?;
+                let (status, out) = ran.ending()?;
+                let seen = faultless(alloc, out)?;
+                assert_eq!(rt;
+                    (status, seen.as_str()),
+                    (Status::Settled, report.as_str()),
+                    "{script}"
+                );
+                assert!(rt; allows(call, pick, &restarts(alloc, out)?), "{script}");
+            }
+        }
     }
     Ok(())
 }
