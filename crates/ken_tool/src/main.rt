@@ -1,12 +1,13 @@
 //! The program `ken`: rollback recovery over a simulated group of nodes. `ken run` reads a script on standard input and
 //! writes the report of its run. `ken check LENGTH` reads a script of so many bytes and a report behind it, and says whether the
-//! report is one that a run of the script prints.
+//! report is one that a run of the script prints. `ken soak` makes a script of a seed and three numbers, runs it, and sums it up.
 #![tactic(auto)]
 
 use ken_drive::MemWorld;
 use ken_io::{StdSink, StdSource};
 use ken_top::{Status, ken};
 use std::env;
+use std::io::ErrorKind;
 use std::process::ExitCode;
 
 fn main(rt: HostRuntime) -> ExitCode {
@@ -27,6 +28,9 @@ fn main(rt: HostRuntime) -> ExitCode {
 
 /// The words of the command line. Words that aren't text are no plain words.
 fn command_line(rt: &HostRuntime) -> Result<Vec<String>, Status> {
-    let args = env::args(rt).map_err(|_| Status::Usage)?;
+    let args = env::args(rt).map_err(|error| match error.kind() {
+        ErrorKind::OutOfMemory => Status::Memory,
+        _ => Status::Usage,
+    })?;
     args.collect(rt.alloc()).map_err(|_| Status::Memory)
 }
