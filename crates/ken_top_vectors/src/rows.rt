@@ -335,9 +335,9 @@ fn each_call_of_a_source_fails_once(rt: HostRuntime) -> Result<(), Fail> {
 fn each_call_of_a_sink_fails_once(rt: HostRuntime) -> Result<(), Fail> {
     let alloc = rt.alloc();
     let mut written = String::new(alloc);
-    let mut failing = 0;
+    let mut failing: u64 = 0;
     for line in THREE_NODES_REPORT.lines() {
-        failing += 1;
+        failing = failing.saturating_add(1);
         let mut source = source(alloc, THREE_NODES, 0)?;
         let ran = call(&rt, alloc, RUN, &mut source, sink(alloc, failing, WHOLE)?)?;
         assert_eq!(rt;
