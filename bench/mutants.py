@@ -88,6 +88,12 @@ def spell_pages(spelling, pages):
         spelling.put((page, 4), data)
 
 
+def spell_outputs(spelling, outputs):
+    for place, text in outputs:
+        spelling.put((place, 8))
+        spelling.text(text)
+
+
 def spell_base(base):
     spelling = Spelling()
     spelling.put((base.stamp, 8), *[(value, 8) for value in base.consumed + base.sent], (base.made, 8))
@@ -96,9 +102,7 @@ def spell_base(base):
         spelling.put((to, 1), (place, 8), (stamp, 8))
         spelling.text(text)
     spelling.length(len(base.outputs), 4)
-    for place, text in base.outputs:
-        spelling.put((place, 8))
-        spelling.text(text)
+    spell_outputs(spelling, base.outputs)
     spell_pages(spelling, base.pages)
     return spelling
 
@@ -113,9 +117,7 @@ def spell_record(record):
         fields.put((to, 1), (place, 8))
         fields.text(text)
     fields.length(len(record.outputs), 1)
-    for place, text in record.outputs:
-        fields.put((place, 8))
-        fields.text(text)
+    spell_outputs(fields, record.outputs)
     spell_pages(fields, record.pages)
     spelling = Spelling()
     spelling.length(len(fields.data), 4)
