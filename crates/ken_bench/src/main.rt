@@ -16,6 +16,7 @@ use fault::Fault;
 use report::Report;
 use std::alloc::Global;
 use std::env;
+use std::io::ErrorKind;
 use std::process::ExitCode;
 use std::sync::Wait;
 use std::thread::Threads;
@@ -37,14 +38,13 @@ fn main(rt: HostRuntime) -> ExitCode {
     }
 }
 
+// The words of the command line. Words that aren't text ask for nothing.
 fn command_line(rt: &HostRuntime) -> Result<Vec<String>, Fault> {
-    let Ok(args) = env::args(rt) else {
-        return Err(Fault::Usage);
-    };
-    match args.collect(rt.alloc()) {
-        Ok(words) => Ok(words),
-        Err(_) => Err(Fault::Memory),
-    }
+    let args = env::args(rt).map_err(|error| match error.kind() {
+        ErrorKind::OutOfMemory => Fault::Memory,
+        _ => Fault::Usage,
+    })?;
+    args.collect(rt.alloc()).map_err(|_| Fault::Memory)
 }
 
 fn run<R: Threads + Wait + Sync>(rt: &R, alloc: Global, words: &[String]) -> Result<Report, Fault> {

@@ -5,44 +5,52 @@ use crate::line::Line;
 use crate::words::{Owner, Work};
 use ken_log::{Log, LogFault};
 use ken_memdisk::MemDisk;
-use ken_model::{PAGE, State, Value};
+use ken_model::{Message, PAGE, State};
 use ken_packet::{Packet, PacketFault, decode};
 use ken_record::Record;
 use ken_script::{Script, ScriptFault, read};
-use ken_store::{Disks, Recovered, StoreFault, recover};
+use ken_store::{Disks, Recovered, Store, StoreFault, recover};
 use std::alloc::Global;
 
-/// The line that answers a case with these fields.
-pub(crate) fn answer(alloc: Global, work: &Work, fields: &[Vec<u8>]) -> Result<Vec<u8>, Fault> {
-    let line = match (work, fields) {
-        (Work::Mount, [log]) => mounted(alloc, log)?,
+/// Makes the line that answers a case with these fields.
+pub(crate) fn answer(
+    alloc: Global,
+    work: &Work,
+    fields: &[Vec<u8>],
+    line: &mut Line,
+) -> Result<(), Fault> {
+    match (work, fields) {
+        (Work::Mount, [log]) => mounted(alloc, log, line),
         (Work::Recover(owner), [log, image, second]) => {
-            recovered(alloc, owner, log, image, second)?
+            recovered(alloc, owner, log, image, second, line)
         }
-        (Work::Decode, [packet]) => decoded(alloc, packet)?,
-        (Work::Read, [script]) => script_read(alloc, script)?,
-        _ => return Err(Fault::Usage),
-    };
-    Ok(line.end()?)
+        (Work::Decode, [packet]) => decoded(alloc, packet, line),
+        (Work::Read, [script]) => script_read(alloc, script, line),
+        _ => Err(Fault::Usage),
+    }
 }
 
-fn mounted(alloc: Global, log: &[u8]) -> Result<Line, Fault> {
+fn mounted(alloc: Global, log: &[u8], line: &mut Line) -> Result<(), Fault> {
     match Log::mount(alloc, disk_of(alloc, log)?) {
-        Ok((log, records)) => whole_log(alloc, &log, &records),
-        Err((LogFault::Unformatted, _disk)) => Ok(Line::new(alloc, "unformatted")?),
-        Err((LogFault::Damaged { place }, _disk)) => {
-            let mut line = Line::new(alloc, "damaged")?;
-            line.number(place)?;
-            Ok(line)
-        }
+        Ok((log, records)) => whole_log(&log, &records, line),
+        Err((LogFault::Unformatted, _disk)) => Ok(line.begin("unformatted")?),
+        Err((LogFault::Damaged { place }, _disk)) => damaged(&[place], line),
         Err((LogFault::Disk, _disk)) => Err(Fault::Disk),
         Err((LogFault::Memory, _disk)) => Err(Fault::Memory),
     }
 }
 
-fn whole_log(alloc: Global, log: &Log<MemDisk>, records: &[Record]) -> Result<Line, Fault> {
+fn damaged(numbers: &[u64], line: &mut Line) -> Result<(), Fault> {
+    line.begin("damaged")?;
+    for number in numbers {
+        line.number(*number)?;
+    }
+    Ok(())
+}
+
+fn whole_log(log: &Log<MemDisk>, records: &[Record], line: &mut Line) -> Result<(), Fault> {
     let header = log.header();
-    let mut line = Line::new(alloc, "ok")?;
+    line.begin("ok")?;
     line.numbers(&[
         u64::from(header.node),
         u64::from(header.nodes),
@@ -65,7 +73,7 @@ fn whole_log(alloc: Global, log: &Log<MemDisk>, records: &[Record]) -> Result<Li
             record.pages.len() as u64,
         ])?;
     }
-    Ok(line)
+    Ok(())
 }
 
 fn recovered(
@@ -74,30 +82,42 @@ fn recovered(
     log: &[u8],
     image: &[u8],
     second: &[u8],
-) -> Result<Line, Fault> {
+    line: &mut Line,
+) -> Result<(), Fault> {
     let disks = Disks {
         log: disk_of(alloc, log)?,
         image: disk_of(alloc, image)?,
         second: disk_of(alloc, second)?,
     };
     match recover(alloc, disks, owner.node, owner.nodes, owner.pages) {
-        Ok(Recovered::Fresh(_disks)) => Ok(Line::new(alloc, "fresh")?),
-        Ok(Recovered::Whole(store, state, _records)) => {
-            whole_store(alloc, &state, &store.value(alloc)?)
-        }
+        Ok(Recovered::Fresh(_disks)) => Ok(line.begin("fresh")?),
+        Ok(Recovered::Whole(store, state, _records)) => whole_store(alloc, &store, &state, line),
         Err((StoreFault::Damaged { disk, place }, _disks)) => {
-            let mut line = Line::new(alloc, "damaged")?;
-            line.number(u64::from(disk))?;
-            line.number(place)?;
-            Ok(line)
+            damaged(&[u64::from(disk), place], line)
         }
         Err((StoreFault::Disk, _disks)) => Err(Fault::Disk),
         Err((StoreFault::Memory, _disks)) => Err(Fault::Memory),
     }
 }
 
-fn whole_store(alloc: Global, state: &State, value: &Value) -> Result<Line, Fault> {
-    let mut line = Line::new(alloc, "ok")?;
+fn whole_store(
+    alloc: Global,
+    store: &Store<MemDisk>,
+    state: &State,
+    line: &mut Line,
+) -> Result<(), Fault> {
+    line.begin("ok")?;
+    whole_state(state, line)?;
+    let value = store.value(alloc)?;
+    line.number(value.root)?;
+    line.number(value.blocks.len() as u64)?;
+    for block in value.blocks.as_slice() {
+        line.item(&[block.place], block.bytes.as_slice())?;
+    }
+    Ok(())
+}
+
+fn whole_state(state: &State, line: &mut Line) -> Result<(), Fault> {
     line.number(state.turns)?;
     line.number(state.stamp)?;
     line.numbers(state.consumed.as_slice())?;
@@ -112,50 +132,43 @@ fn whole_store(alloc: Global, state: &State, value: &Value) -> Result<Line, Faul
     for out in state.outs.as_slice() {
         line.item(&[out.number], out.text.as_slice())?;
     }
-    line.number(value.root)?;
-    line.number(value.blocks.len() as u64)?;
-    for block in value.blocks.as_slice() {
-        line.item(&[block.place], block.bytes.as_slice())?;
-    }
-    Ok(line)
+    Ok(())
 }
 
-fn decoded(alloc: Global, packet: &[u8]) -> Result<Line, Fault> {
+fn decoded(alloc: Global, packet: &[u8], line: &mut Line) -> Result<(), Fault> {
     match decode(alloc, packet) {
-        Ok(Packet::Mail(message)) => {
-            let mut line = Line::new(alloc, "mail")?;
-            let ends = [u64::from(message.from), u64::from(message.to)];
-            line.numbers(&ends)?;
-            line.item(&[message.number, message.stamp], message.bytes.as_slice())?;
-            Ok(line)
-        }
+        Ok(Packet::Mail(message)) => mail(&message, line),
         Ok(Packet::Ack { from, to, through }) => {
-            let mut line = Line::new(alloc, "ack")?;
+            line.begin("ack")?;
             line.numbers(&[u64::from(from), u64::from(to)])?;
-            line.number(through)?;
-            Ok(line)
+            Ok(line.number(through)?)
         }
-        Err(PacketFault::BadPacket) => Ok(Line::new(alloc, "none")?),
+        Err(PacketFault::BadPacket) => Ok(line.begin("none")?),
         Err(PacketFault::Memory) => Err(Fault::Memory),
     }
 }
 
-fn script_read(alloc: Global, script: &[u8]) -> Result<Line, Fault> {
+fn mail(message: &Message, line: &mut Line) -> Result<(), Fault> {
+    line.begin("mail")?;
+    line.numbers(&[u64::from(message.from), u64::from(message.to)])?;
+    Ok(line.item(&[message.number, message.stamp], message.bytes.as_slice())?)
+}
+
+fn script_read(alloc: Global, script: &[u8], line: &mut Line) -> Result<(), Fault> {
     match read(alloc, script) {
-        Ok(script) => whole_script(alloc, &script),
+        Ok(script) => whole_script(&script, line),
         Err(ScriptFault::Rule { rule, index }) => {
-            let mut line = Line::new(alloc, "script")?;
+            line.begin("script")?;
             line.number(u64::from(rule))?;
-            line.number(index)?;
-            Ok(line)
+            Ok(line.number(index)?)
         }
         Err(ScriptFault::Memory) => Err(Fault::Memory),
     }
 }
 
-fn whole_script(alloc: Global, script: &Script) -> Result<Line, Fault> {
+fn whole_script(script: &Script, line: &mut Line) -> Result<(), Fault> {
     let facts = &script.facts;
-    let mut line = Line::new(alloc, "ok")?;
+    line.begin("ok")?;
     line.numbers(&[
         u64::from(facts.nodes),
         facts.size / PAGE,
@@ -171,5 +184,5 @@ fn whole_script(alloc: Global, script: &Script) -> Result<Line, Fault> {
         script.acks.len() as u64,
         script.outlets.len() as u64,
     ])?;
-    Ok(line)
+    Ok(())
 }

@@ -12,7 +12,7 @@ pub(crate) fn disk_of(alloc: Global, bytes: &[u8]) -> Result<MemDisk, Fault>
     ensures { IfOk result (λ disk. IsAtRest disk.held.story.now) }
 {
     if bytes.len() as u64 > MAX_LEN {
-        return Err(Fault::Memory);
+        return Err(Fault::Usage);
     }
     let mut disk = MemDisk::new(alloc, &[])?;
     disk.write(0, bytes)?;

@@ -2,7 +2,7 @@ use hex::encode;
 use ken_num::put_decimal;
 use std::alloc::{AllocError, Global};
 
-/// A line of an answer: words with a space between two.
+/// A line of an answer: words with a space between two. It is begun anew for each case.
 #[derive(Drop)]
 pub(crate) struct Line {
     alloc: Global,
@@ -10,12 +10,18 @@ pub(crate) struct Line {
 }
 
 impl Line {
-    /// A line of one word.
-    pub(crate) fn new(alloc: Global, word: &str) -> Result<Self, AllocError> {
-        Ok(Line {
+    /// A line of no words.
+    pub(crate) fn new(alloc: Global) -> Self {
+        Line {
             alloc,
-            bytes: Vec::from_slice(alloc, word.as_bytes())?,
-        })
+            bytes: Vec::new(alloc),
+        }
+    }
+
+    /// Begins the line anew, with a word.
+    pub(crate) fn begin(&mut self, word: &str) -> Result<(), AllocError> {
+        self.bytes.clear();
+        self.bytes.extend_from_slice(word.as_bytes())
     }
 
     /// Appends a number.
@@ -44,8 +50,8 @@ impl Line {
     }
 
     /// The bytes of the line, with its line feed.
-    pub(crate) fn end(mut self) -> Result<Vec<u8>, AllocError> {
+    pub(crate) fn end(&mut self) -> Result<&[u8], AllocError> {
         self.bytes.extend_from_slice(b"\n")?;
-        Ok(self.bytes)
+        Ok(self.bytes.as_slice())
     }
 }

@@ -14,8 +14,10 @@ use cases::fields_of;
 use fault::Fault;
 use ken_io::{Sink, StdSink, StdSource, read_all, write_all};
 use ken_model::Octets;
+use line::Line;
 use std::alloc::Global;
 use std::env;
+use std::io::ErrorKind;
 use std::process::ExitCode;
 use words::{Work, work_of};
 
@@ -33,11 +35,7 @@ fn main(rt: HostRuntime) -> ExitCode {
 }
 
 fn run(rt: &HostRuntime) -> Result<(), Fault> {
-    let words: Vec<String> = env::args(rt)
-        .map_err(|_| Fault::Usage)?
-        .collect(rt.alloc())
-        .map_err(|_| Fault::Memory)?;
-    let work = work_of(&words)?;
+    let work = work_of(&command_line(rt)?)?;
     let mut source = StdSource::new(rt.stdin());
     let mut sink = StdSink::new(rt.stdout());
     let input = read_all(rt.alloc(), &mut source, MOST_INPUT)?;
@@ -47,6 +45,15 @@ fn run(rt: &HostRuntime) -> Result<(), Fault> {
     answer_all(rt.alloc(), &work, &input, &mut sink)
 }
 
+// The words of the command line. Words that aren't text ask for nothing.
+fn command_line(rt: &HostRuntime) -> Result<Vec<String>, Fault> {
+    let args = env::args(rt).map_err(|error| match error.kind() {
+        ErrorKind::OutOfMemory => Fault::Memory,
+        _ => Fault::Usage,
+    })?;
+    args.collect(rt.alloc()).map_err(|_| Fault::Memory)
+}
+
 // Answers each line that isn't empty, in order.
 fn answer_all<K: Sink>(
     alloc: Global,
@@ -54,12 +61,16 @@ fn answer_all<K: Sink>(
     input: &Octets,
     sink: &mut K,
 ) -> Result<(), Fault> {
-    for line in input.as_slice().split(|byte| *byte == b'\n') {
-        if !line.is_empty() {
-            let fields = fields_of(alloc, line)?;
-            let answer = answer(alloc, work, &fields)?;
-            write_all(sink, answer.as_slice())?;
+    let mut line = Line::new(alloc);
+    for case in input.as_slice().split(|byte| *byte == b'\n') {
+        if !case.is_empty() {
+            answer_one(alloc, work, case, &mut line)?;
+            write_all(sink, line.end()?)?;
         }
     }
     Ok(())
+}
+
+fn answer_one(alloc: Global, work: &Work, case: &[u8], line: &mut Line) -> Result<(), Fault> {
+    answer(alloc, work, &fields_of(alloc, case)?, line)
 }

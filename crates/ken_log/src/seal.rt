@@ -17,6 +17,9 @@ use ken_disk::{Disk, DiskFault, MAX_LEN};
 use ken_record::Record;
 use std::alloc::{AllocError, Global};
 
+// Room for the record of a turn that changes one page and has short texts.
+const SHORT_RECORD: usize = 512;
+
 impl<D: Disk> Log<D> {
     /// Adds a record, by four calls of the disk: the record is written behind the closed gate, with the next gate closed
     /// behind it, and synced; then the gate is opened, and synced. A crash at any moment leaves the records before, or these
@@ -58,7 +61,7 @@ fn staged(alloc: Global, item: &Record) -> Result<Vec<u8>, AllocError>
     requires { IsRecord One item.now }
     ensures { IfOk result (λ body. body.items ≡ record_bytes One item.now ++ 0 ∷ []) }
 {
-    let mut body = Vec::new(alloc);
+    let mut body = Vec::with_capacity(alloc, SHORT_RECORD)?;
     item.put(&mut body)?;
     body.push(CLOSED)?;
     Ok(body)

@@ -95,7 +95,7 @@ fn staged(alloc: Global, header: &Header, base: &Base) -> Result<Vec<u8>, AllocE
     requires base { IsBase (version_of header.now) base.now }
     ensures { IfOk result (λ body. body.items ≡ (header_bytes header.now ++ base_bytes (version_of header.now) base.now) ++ 0 ∷ []) }
 {
-    let mut body = Vec::new(alloc);
+    let mut body = Vec::with_capacity(alloc, HEADER_FIELDS + header.base_len as usize + 1)?;
     header.put(&mut body)?;
     base.put(&mut body)?;
     body.push(CLOSED)?;

@@ -1,4 +1,4 @@
-ghost use Rattle.std.specs.Prelude.{◌≡◌, ◌++◌, ◌↔◌, ◌≤◌, IfOk, IsTrue, OnOk};
+ghost use Rattle.std.specs.Prelude.{◌≡◌, ◌++◌, [], ◌↔◌, ◌≤◌, IfOk, IsTrue, OnOk};
 ghost use Rattle.ken_record.specs.Spelling.{number, text};
 ghost use Rattle.ken_record.specs.Grammar.{IsText};
 ghost use Rattle.ken_packet.specs.Packets.{IsMail, IsAck, IsPacket, head, counts, mail_bytes, ack_bytes, packet_bytes};
@@ -10,6 +10,12 @@ use std::alloc::{AllocError, Global};
 pub(crate) const MAIL: u8 = 1;
 
 pub(crate) const ACK: u8 = 2;
+
+// The kind, the two ends, the number, the stamp, and the length of the text.
+const MAIL_HEAD: usize = 3 + 8 + 8 + 2;
+
+// The kind, the two ends, and the number.
+const ACK_LEN: usize = 3 + 8;
 
 /// What goes from one node to another.
 #[derive(Debug, Drop)]
@@ -62,17 +68,25 @@ pub fn encode_mail(alloc: Global, message: &Message) -> Result<Octets, AllocErro
     requires { IsMail message.now }
     ensures { IfOk result (λ bytes. bytes ≡ mail_bytes message.now) }
 {
-    let mut out = Vec::new(alloc);
+    let mut out = mail_room(alloc, message.bytes.as_slice())?;
     put_head(&mut out, MAIL, message.from, message.to)?;
     put_counts(&mut out, message.number, message.stamp)?;
     put_text(&mut out, message.bytes.as_slice())?;
     Ok(Octets::new(out))
 }
 
+// No bytes yet, and room for a mail with that text.
+fn mail_room(alloc: Global, text: &[u8]) -> Result<Vec<u8>, AllocError>
+    requires { IsText text.now }
+    ensures { IfOk result (λ out. out.items ≡ []) }
+{
+    Vec::with_capacity(alloc, MAIL_HEAD + text.len())
+}
+
 fn encode_ack(alloc: Global, from: u8, to: u8, through: u64) -> Result<Octets, AllocError>
     ensures { IfOk result (λ bytes. bytes ≡ ack_bytes from to through) }
 {
-    let mut out = Vec::new(alloc);
+    let mut out = Vec::with_capacity(alloc, ACK_LEN)?;
     put_head(&mut out, ACK, from, to)?;
     put_count(&mut out, through)?;
     Ok(Octets::new(out))
