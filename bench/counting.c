@@ -4,6 +4,8 @@
 #include <stddef.h>
 #include <stdio.h>
 #include <stdlib.h>
+#include <sys/syscall.h>
+#include <unistd.h>
 
 extern void *__libc_malloc(size_t size);
 extern void *__libc_calloc(size_t count, size_t size);
@@ -34,4 +36,12 @@ __attribute__((destructor)) static void tell(void)
     const char *descriptor = getenv("KEN_TELL");
     if (descriptor)
         dprintf(atoi(descriptor), "%lu", atomic_load(&calls));
+}
+
+/* A program that ends by this call runs no destructor. */
+void _exit(int status)
+{
+    tell();
+    for (;;)
+        syscall(SYS_exit_group, status);
 }
