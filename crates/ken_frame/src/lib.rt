@@ -2,5 +2,7 @@
 #![tactic(auto)]
 
 mod frame;
+mod shelf;
 
 pub use frame::{FRAME, Frame};
+pub use shelf::Shelf;
