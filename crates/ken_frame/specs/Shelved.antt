@@ -1,6 +1,7 @@
 -- Frames on a shelf, the top first.
-use Rattle.std.specs.Prelude.{◌≡◌, ℕ, List, [], ◌∷◌, length, Option, None, Some, Box}
+use Rattle.std.specs.Prelude.{◌≡◌, ℕ, List, [], ◌∷◌, length, Option, None, Some}
 use Rattle.std.specs.declared.alloc.Global.{Global}
+use Rattle.ken_frame.specs.declared.raw.Own.{Own}
 use Rattle.ken_frame.specs.declared.frame.Node.{Node, Node', Held-Node-next, None', Some'}
 
 abbrev mutual
@@ -13,7 +14,7 @@ abbrev mutual
   below (Some' p n) = from_node n
 
 -- the same from a link to the top
-abbrev pub chain : Option (Box Node Global) → List (List ℕ)
+abbrev pub chain : Option (Own Node Global) → List (List ℕ)
 chain None = []
 chain (Some b) = from_node b.value
 

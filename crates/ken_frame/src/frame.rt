@@ -1,7 +1,8 @@
-// A frame: 256 bytes on the heap, and room for a link to the next of a shelf.
+// A frame: 256 bytes on the heap, and a link for the shelf that it lies on.
 ghost use Rattle.std.specs.Prelude.{◌≡◌, ◌+◌, ◌≤◌, length, take, drop, replicate, IfOk};
 ghost use Rattle.ken_frame.specs.Written.{written};
 
+use crate::raw::Own;
 use std::alloc::{AllocError, Global};
 use std::fmt;
 use std::marker::Model;
@@ -9,17 +10,17 @@ use std::marker::Model;
 /// The bytes of a frame.
 pub const FRAME: usize = 256;
 
-/// The bytes, and the node below on a shelf.
+/// The bytes, and the node below on the shelf.
 #[derive(Drop)]
 pub(crate) struct Node {
     pub(crate) bytes: [u8; 256],
-    pub(crate) next: Option<Box<Node>>,
+    pub(crate) next: Option<Own<Node, Global>>,
 }
 
 /// As many bytes as a page has.
 #[derive(Drop)]
 pub struct Frame {
-    pub(crate) node: Box<Node>,
+    pub(crate) node: Own<Node, Global>,
 }
 
 impl Model for Frame {
@@ -45,7 +46,9 @@ impl Frame {
                 next: None,
             },
         )?;
-        Ok(Frame { node })
+        Ok(Frame {
+            node: Own::of(node),
+        })
     }
 
     /// Reads as many bytes as `buf` takes, from the place `at` on.
@@ -53,7 +56,7 @@ impl Frame {
         requires { at + length buf.old ≤ 256 }
         ensures { buf.new ≡ take (length buf.old) (drop at self.now) }
     {
-        buf.copy_from_slice(&self.node.bytes[at..at + buf.len()]);
+        buf.copy_from_slice(&self.node.get().bytes[at..at + buf.len()]);
     }
 
     /// Writes the bytes over those from the place `at` on.
@@ -61,14 +64,14 @@ impl Frame {
         requires { at + length bytes.now ≤ 256 }
         ensures { self.new ≡ written self.old at bytes.now }
     {
-        self.node.bytes[at..at + bytes.len()].copy_from_slice(bytes);
+        self.node.get_mut().bytes[at..at + bytes.len()].copy_from_slice(bytes);
     }
 
     /// Takes the bytes of the other frame over.
     pub fn copy_from(&mut self, other: &Frame)
         ensures { self.new ≡ other.now }
     {
-        self.node.bytes.copy_from_slice(&other.node.bytes);
+        self.node.get_mut().bytes = other.node.get().bytes;
     }
 
     /// The bytes.
@@ -76,7 +79,7 @@ impl Frame {
         ensures same { result.now ≡ self.now }
         ensures whole { length result.now ≡ 256 }
     {
-        &self.node.bytes
+        &self.node.get().bytes
     }
 }
 

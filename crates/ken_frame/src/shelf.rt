@@ -3,6 +3,7 @@ ghost use Rattle.std.specs.Prelude.{◌≡◌, ◌+◌, ◌-◌, ◌^◌, ◌<�
 ghost use Rattle.ken_frame.specs.Shelved.{on_top};
 
 use crate::frame::{Frame, Node};
+use crate::raw::Own;
 use std::alloc::{AllocError, Global};
 use std::fmt;
 use std::marker::Model;
@@ -10,7 +11,7 @@ use std::marker::Model;
 /// A stack of frames. The link is in the frame's node, so a push and a pop take no memory.
 pub struct Shelf {
     alloc: Global,
-    top: Option<Box<Node>>,
+    top: Option<Own<Node, Global>>,
     len: usize,
 }
 
@@ -50,7 +51,7 @@ impl Shelf {
         ensures { self.new ≡ frame ∷ self.old }
     {
         let Frame { mut node } = frame;
-        node.next = self.top.take();
+        node.get_mut().next = self.top.take();
         self.top = Some(node);
         self.len += 1;
     }
@@ -61,7 +62,7 @@ impl Shelf {
         ensures none { result ≡ None → self.new ≡ [] }
     {
         let mut node = self.top.take()?;
-        self.top = node.next.take();
+        self.top = node.get_mut().next.take();
         self.len -= 1;
         Some(Frame { node })
     }
@@ -89,15 +90,16 @@ impl fmt::Debug for Shelf {
     }
 }
 
+// One node after another, so that a high shelf takes no stack.
 impl Drop for Shelf {
-    fn drop(mut self) {
-        while let Some(frame) = self.pop() {
-            drop(frame);
-        }
+    fn drop(self) {
         let Shelf {
             alloc: _,
-            top: _,
+            mut top,
             len: _,
         } = self;
+        while let Some(mut node) = top {
+            top = node.get_mut().next.take();
+        }
     }
 }
