@@ -6,7 +6,7 @@ use Rattle.ken_num.specs.Generator.{next_state, answer_of}
 use Rattle.ken_disk.specs.Bytes.{IsIn}
 use Rattle.ken_disk.specs.Story.{DiskState, IsImage}
 use Rattle.ken_disk.proofs.Images.{image-synced}
-use Rattle.ken_memdisk.specs.Picks.{is_written, byte_of, generator_after, Drawing, draw_place, draw_places, torn_length, torn, picked}
+use Rattle.ken_memdisk.specs.Picks.{is_written, byte_of, draw_place, draw_places, torn_length, torn, picked}
 use Rattle.ken_memdisk.proofs.Ranges.{Decides-is_written}
 
 module _ (seen synced : List ℕ) (ranges : List (ℕ × ℕ)) where
@@ -38,17 +38,6 @@ module _ (seen synced : List ℕ) (ranges : List (ℕ × ℕ)) where
       (λ more. absurd (let never : ⊥ = omega arith in never))
       apart)
       (cases_order place count)
-
-  -- one place more, by what a loop has at hand
-  pub drawn_more : (x place : ℕ) (is_in : Bool) (safe new words more_words byte : ℕ) (image more_image : List ℕ)
-      → (draw_places seen synced ranges x place).generator ≡ words → (draw_places seen synced ranges x place).bytes ≡ image
-      → is_in ≡ is_written ranges place → safe ≡ get_or synced place 0 → new ≡ get_or seen place 0
-      → byte ≡ byte_of is_in safe new words → more_words ≡ generator_after is_in words → more_image ≡ image ++ byte ∷ []
-      → ((draw_places seen synced ranges x (place + 1)).generator ≡ more_words) × ((draw_places seen synced ranges x (place + 1)).bytes ≡ more_image)
-  drawn_more x place is_in safe new words more_words byte image more_image words_is image_is in_is safe_is new_is byte_is more_words_is more_image_is = (
-    ap (λ (d : Drawing). d.generator) (draw_places-more x place) ∙ rw (words_is, more_words_is, in_is) refl,
-    ap (λ (d : Drawing). d.bytes) (draw_places-more x place) ∙ rw (words_is, image_is, more_image_is, byte_is, in_is, safe_is, new_is) refl,
-  )
 
 -- the first answer gives a length between the two
 pub torn_length-between : (seen synced : List ℕ) (ranges : List (ℕ × ℕ)) (pick : ℕ) → length synced ≤ length seen → (length synced ≤ torn_length seen synced ranges pick) × (torn_length seen synced ranges pick ≤ length seen)

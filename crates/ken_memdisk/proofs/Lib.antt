@@ -1,5 +1,6 @@
 pub mod Ranges
 pub mod Images
+pub mod Drawn
 pub mod Kept
 pub mod Caught
 pub mod Inserted

@@ -21,7 +21,7 @@ pub(crate) fn copied(alloc: Global, bytes: &[u8]) -> Result<Vec<u8>, AllocError>
     ensures same { IfOk result (λ copy. copy.items ≡ bytes.now) }
     ensures bytes { IsBytes bytes.now }
 {
-    bytes.to_vec(alloc)
+    Vec::from_slice(alloc, bytes)
 }
 
 // Copies a range of `from` into the same place of `to`.

@@ -1,6 +1,7 @@
 // What a crash leaves of a disk, by a pick.
-ghost use Rattle.std.specs.Prelude.{◌≡◌, ℕ, ◌<◌, ◌≤◌, ◌||◌, reverse, length, get_or, false, IfOk, vec_len};
-ghost use Rattle.ken_memdisk.specs.Picks.{is_within, is_written, drawn, after_draw, byte_of, generator_after, image_of, torn};
+ghost use Rattle.std.specs.Prelude.{◌≡◌, ◌≤◌, ◌-◌, ◌++◌, reverse, replicate, length, IfOk};
+ghost use Rattle.std.specs.List.Sorted.{IsPermutation, IsNonDecreasingBy};
+ghost use Rattle.ken_memdisk.specs.Picks.{drawn, after_draw, draw_places, image_of, torn};
 
 use ken_disk::MAX_LEN;
 use ken_num::Lcg;
@@ -19,8 +20,8 @@ pub(crate) fn image(
     ensures { IfOk result (λ image. image.items ≡ image_of seen.now synced.now (reverse ranges.now) pick) }
 {
     match pick {
-        0 => seen.to_vec(alloc),
-        1 => synced.to_vec(alloc),
+        0 => Vec::from_slice(alloc, seen),
+        1 => Vec::from_slice(alloc, synced),
         _ => torn(alloc, pick, seen, synced, ranges),
     }
 }
@@ -40,32 +41,50 @@ fn torn(
     let mut words = Lcg::new(pick);
     let open = (seen.len() - synced.len() + 1) as u64;
     let len = synced.len() + (words.next() % open) as usize;
-    let marks = marks(alloc, len, ranges)?;
-    let mut image = Vec::with_capacity(alloc, len)?;
-    for place in 0..len {
-        let safe = byte_at(synced, place);
-        image.push(next_byte(&mut words, marks[place], safe, seen[place]))?;
-    }
+    let ranges = by_start(alloc, ranges)?;
+    let mut image = filled_up(alloc, synced, len)?;
+    draw_ranges(&mut words, &mut image, seen, &ranges);
     Ok(image)
 }
 
-// The byte of a place: a written one is drawn.
-fn next_byte(words: &mut Lcg, is_written: bool, safe: u8, new: u8) -> u8
-    ensures byte { result ≡ byte_of is_written safe new words.old }
-    ensures generator { words.new ≡ generator_after is_written words.old }
+// The ranges, with their starts rising.
+fn by_start(alloc: Global, ranges: &[(u64, u64)]) -> Result<Vec<(u64, u64)>, AllocError>
+    ensures same { IfOk result (λ sorted. IsPermutation ranges.now sorted.items) }
+    ensures rising { IfOk result (λ sorted. IsNonDecreasingBy (λ range. range.0) sorted.items) }
 {
-    if is_written {
-        draw(words, safe, new)
-    } else {
-        safe
-    }
+    let mut sorted = Vec::from_slice(alloc, ranges)?;
+    sorted.sort_unstable_by_key(|range| range.0);
+    Ok(sorted)
 }
 
-// The byte of a place, or 0 past the end.
-fn byte_at(bytes: &[u8], place: usize) -> u8
-    ensures { result ≡ get_or bytes.now place 0 }
+// The bytes, and zeros behind them up to that length.
+fn filled_up(alloc: Global, bytes: &[u8], len: usize) -> Result<Vec<u8>, AllocError>
+    requires { length bytes.now ≤ len }
+    ensures { IfOk result (λ all. all.items ≡ bytes.now ++ replicate (len - length bytes.now) 0) }
 {
-    bytes.get(place).copied().unwrap_or(0)
+    let mut all = Vec::with_capacity(alloc, len)?;
+    all.extend_from_slice(bytes)?;
+    all.resize(len, 0)?;
+    Ok(all)
+}
+
+// Draws each place of the image that is in one of the ranges, in rising order. The image has the safe bytes.
+fn draw_ranges(words: &mut Lcg, image: &mut [u8], seen: &[u8], ranges: &[(u64, u64)])
+    requires len { length image.old ≤ length seen.now }
+    requires rising { IsNonDecreasingBy (λ range. range.0) ranges.now }
+    ensures { image.new ≡ (draw_places seen.now image.old ranges.now words.old (length image.old)).bytes }
+{
+    let len = image.len();
+    let mut next: usize = 0;
+    for range in ranges {
+        let from = next.max(range.0 as usize).min(len);
+        let end = range.0.saturating_add(range.1).min(len as u64) as usize;
+        let to = from.max(end);
+        for place in from..to {
+            image[place] = draw(words, image[place], seen[place]);
+        }
+        next = to;
+    }
 }
 
 // The byte that the next answer gives a written place.
@@ -77,27 +96,5 @@ fn draw(words: &mut Lcg, safe: u8, new: u8) -> u8
         0 => safe,
         1 => new,
         _ => (words.next() % 256) as u8,
-    }
-}
-
-// Which of the first `len` places are in one of the ranges.
-fn marks(alloc: Global, len: usize, ranges: &[(u64, u64)]) -> Result<Vec<bool>, AllocError>
-    ensures len { IfOk result (λ marks. vec_len marks ≡ len) }
-    ensures marks { IfOk result (λ marks. (place : ℕ) → place < len → get_or marks.items place false ≡ is_written ranges.now place) }
-{
-    let mut marks = vec![in alloc; false; len]?;
-    for range in ranges {
-        mark(&mut marks, range.0, range.1);
-    }
-    Ok(marks)
-}
-
-// Marks the places of a range, as far as there are any.
-fn mark(marks: &mut [bool], at: u64, count: u64)
-    ensures { (place : ℕ) → place < length marks.old → get_or marks.new place false ≡ (get_or marks.old place false || is_within place (at, count)) }
-{
-    let end = at.saturating_add(count).min(marks.len() as u64);
-    for place in at..end {
-        marks[place as usize] = true;
     }
 }
