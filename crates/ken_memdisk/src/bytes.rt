@@ -1,9 +1,7 @@
 // Bytes written over others.
-ghost use Rattle.std.specs.Prelude.{◌≡◌, ◌+◌, ◌≤◌, length, take, drop, vec_len, vec_capacity, IfOk};
+ghost use Rattle.std.specs.Prelude.{◌≡◌, ◌+◌, ◌≤◌, length, take, drop, vec_len, vec_capacity};
 ghost use Rattle.ken_disk.specs.Bytes.{IsBytes, overwrite};
 ghost use Rattle.ken_memdisk.specs.Platters.{Differ};
-
-use std::alloc::{AllocError, Global};
 
 // Writes `bytes` from the place `at` on, past the end too. There is room for them.
 pub(crate) fn lay_over(old: &mut Vec<u8>, at: usize, bytes: &[u8])
@@ -16,12 +14,14 @@ pub(crate) fn lay_over(old: &mut Vec<u8>, at: usize, bytes: &[u8])
     old.extend_from_slice(&bytes[over..]).unwrap();
 }
 
-// A copy of bytes.
-pub(crate) fn copied(alloc: Global, bytes: &[u8]) -> Result<Vec<u8>, AllocError>
-    ensures same { IfOk result (λ copy. copy.items ≡ bytes.now) }
+// Makes a buffer with room enough hold these bytes.
+pub(crate) fn refill(buffer: &mut Vec<u8>, bytes: &[u8])
+    requires room { length bytes.now ≤ vec_capacity buffer.old }
+    ensures same { buffer.new.items ≡ bytes.now }
     ensures bytes { IsBytes bytes.now }
 {
-    Vec::from_slice(alloc, bytes)
+    buffer.clear();
+    buffer.extend_from_slice(bytes).unwrap();
 }
 
 // Copies a range of `from` into the same place of `to`.

@@ -115,10 +115,10 @@ impl Platter {
         ensures err { OnErr result (self.new.story ≡ self.old.story) }
     {
         let image = picks::image(self.alloc, pick, &self.seen, &self.synced, &self.ranges)?;
-        let copy = bytes::copied(self.alloc, &image)?;
+        reserve_to(&mut self.synced, image.len())?;
+        bytes::refill(&mut self.synced, &image);
         self.seen = image;
-        self.synced = copy;
-        self.ranges = Vec::new(self.alloc);
+        self.ranges.clear();
         self.story = self.story.then(&Step::Restarted(pick));
         Ok(())
     }
