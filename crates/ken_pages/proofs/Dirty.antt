@@ -1,140 +1,137 @@
--- The pages that a turn changed, from the frames that it saved.
-use Rattle.std.proofs.Common.{◌≡◌, ◌≢◌, ℕ, ◌+◌, ◌/◌, ◌<◌, ◌≤◌, suc, zero, List, [], ◌∷◌, length, get_or, set, refl, sym, ap, ◌∙◌, subst, arith, length-set, get_or-set_other, get_or-set_same, Bool, true, false, not, Some, None, cond, unwrap_or, All}
-use Rattle.std.specs.List.{concat, filter, range_with_len, AllByRecursion}
-use Rattle.std.specs.List.Sorted.{IsStrictlySortedBy}
+-- The pages that a turn changed, in rising order.
+use Rattle.std.proofs.Common.{◌≡◌, ◌≢◌, ℕ, ◌+◌, ◌-◌, ◌*◌, ◌/◌, ◌<◌, ◌≤◌, suc, zero, List, [], ◌∷◌, ◌++◌, length, map, take, get_or, refl, sym, ap, ap₂, ◌∙◌, subst, arith, Bool, true, false, not, cond, ⊎_elim}
+use Rattle.std.specs.List.{concat, filter, range_with_len}
+use Rattle.std.specs.List.Sorted.{IsPermutation, IsSorted}
 use Rattle.std.specs.Str.{bytes_eq}
-use Rattle.std.specs.Ordering.{MatchOrdering, nat_cmp, is_eq}
+use Rattle.std.specs.Ordering.{nat_cmp, is_lt, MatchOrdering}
 use Rattle.std.specs.declared.cmp.Ordering.{Ordering}
 use Rattle.std.specs.declared.cmp.Ordering.TheVariants.{Less, Equal, Greater}
-use Rattle.std.specs.Map.{keys_of}
-use Rattle.std.proofs.lemmas.Cmp.{ranked, by_ranked}
-use Rattle.std.proofs.lemmas.List.Elements.{All-head, All-tail}
-use Rattle.std.proofs.lemmas.Slice.Eq.{bytes_eq-Decides}
+use Rattle.std.proofs.lemmas.Cmp.{ranked}
+use Rattle.std.proofs.lemmas.Bool.Decides.{eqb_tells}
+use Rattle.std.proofs.lemmas.List.Sorted.{IsPermutation-keeps, sum_by-IsPermutation}
+use Rattle.std.specs.List.{fold}
+use Rattle.ken_pages.specs.declared.page.Page.{Page}
 use Rattle.ken_pages.specs.Paged.{page_of, page_differs, dirty_pages}
-use Rattle.ken_pages.specs.Layout.{AreWhole, AreWithin, restored, changed_of}
-use Rattle.ken_pages.proofs.Flat.{length-concat_whole, page_of-concat}
-use Rattle.ken_pages.proofs.Restored.{saved_at, length-restored, AreWhole-restored}
+use Rattle.ken_pages.specs.Layout.{ArePages, Lists, times, once, now_of, was_of, is_kept, differs, differs_at, now_bytes, was_bytes, kept_pages}
+use Rattle.ken_pages.proofs.Flat.{page_of-concat}
+use Rattle.ken_pages.proofs.Listed.{times-same, times-other}
+use Rattle.ken_pages.proofs.Pages.{at_map, length_map, length_pages}
 
--- an entry
-abbrev Entry : Type 0
-Entry = ℕ × List ℕ
-
--- the pages rise, from low on
-abbrev Rises : ℕ → List Entry → Type 0
+-- each is at least low, and none falls below the one before it
+abbrev Rises : ℕ → List ℕ → Type 0
 Rises low [] = Unit {0}
-Rises low (e ∷ es) = (low ≤ e.0) × Rises (e.0 + 1) es
+Rises low (x ∷ xs) = (low ≤ x) × Rises x xs
 
--- so they do in a map
-Rises-from_sorted : (low : ℕ) (es : List Entry) → AllByRecursion (λ k. low ≤ k) (keys_of es) → IsStrictlySortedBy nat_cmp (keys_of es) → Rises low es
-unfolding IsStrictlySortedBy
-Rises-from_sorted low [] all sorted = tt
-Rises-from_sorted low (e ∷ es) all sorted = (all.0, Rises-from_sorted (e.0 + 1) es (above (keys_of es) sorted.0) sorted.1)
+Rises-lower : (a low : ℕ) (xs : List ℕ) → a ≤ low → Rises low xs → Rises a xs
+Rises-lower a low [] le rises = tt
+Rises-lower a low (x ∷ xs) le rises = (omega (arith, le, rises.0), rises.1)
+
+-- what is below all is never there
+times-below : (low p : ℕ) (xs : List ℕ) → Rises low xs → p < low → times p xs ≡ 0
+times-below low p [] rises lt = refl
+times-below low p (x ∷ xs) rises lt =
+    let head : times p (x ∷ []) ≡ 0 = times-other p x (λ e. absurd (omega (arith, e, lt, rises.0))) in
+    let rest : times p xs ≡ 0 = times-below x p xs rises.1 (omega (arith, lt, rises.0)) in
+    omega (arith, head, rest)
+
+-- rising lists that have each number as often are the same
+rising_same : (a b : ℕ) (xs ys : List ℕ) → Rises a xs → Rises b ys → ((p : ℕ) → times p xs ≡ times p ys) → xs ≡ ys
+rising_same a b [] [] ra rb same = refl
+rising_same a b [] (y ∷ ys) ra rb same = absurd (omega (arith, same y, times-same y))
+rising_same a b (x ∷ xs) [] ra rb same = absurd (omega (arith, same x, times-same x))
+rising_same a b (x ∷ xs) (y ∷ ys) ra rb same = go (nat_cmp x y) (ranked x y (nat_cmp x y) refl)
   where
-    above : (ks : List ℕ) → AllByRecursion (λ k. nat_cmp e.0 k ≡ Less) ks → AllByRecursion (λ k. e.0 + 1 ≤ k) ks
-    above [] all = tt
-    above (k ∷ ks) all = (let lt : e.0 < k = ranked e.0 k Less (sym all.0) in omega arith, above ks all.1)
+    go : (o : Ordering) → MatchOrdering o (x < y) (x ≡ y) (y < x) → x ∷ xs ≡ y ∷ ys
+    go Less lt =
+        let here : times x (y ∷ ys) ≡ 0 = times-below y x (y ∷ ys) (omega arith, rb.1) lt in
+        absurd (omega (arith, here, same x, times-same x))
+    go Equal is = ap₂ (λ z zs. z ∷ zs) is (rising_same x y xs ys ra.1 rb.1 rest)
+      where
+        rest : (p : ℕ) → times p xs ≡ times p ys
+        rest p =
+            let both : times p (x ∷ xs) ≡ times p (y ∷ ys) = same p in
+            let head : times p (x ∷ []) ≡ times p (y ∷ []) = ap (λ z. times p (z ∷ [])) is in
+            omega (arith, both, head)
+    go Greater gt =
+        let here : times y (x ∷ xs) ≡ 0 = times-below x y (x ∷ xs) (omega arith, ra.1) gt in
+        absurd (omega (arith, here, same y, times-same y))
 
-all_from_zero : (ks : List ℕ) → AllByRecursion (λ k. 0 ≤ k) ks
-all_from_zero [] = tt
-all_from_zero (k ∷ ks) = (omega arith, all_from_zero ks)
+-- a sorted list rises
+pub rises_sorted : (xs : List ℕ) → IsSorted nat_cmp xs → Rises 0 xs
+rises_sorted xs sorted = ?
 
--- the entry of another page does not count
-saved_at-other : (e : Entry) (es : List Entry) (p : ℕ) → p ≢ e.0 → saved_at (e ∷ es) p ≡ saved_at es p
-saved_at-other e es p ne = go (nat_cmp p e.0) (ranked p e.0 (nat_cmp p e.0) refl)
+-- a range rises, and so does what is taken from it
+rises_filter : (P : ℕ → Bool) (a n : ℕ) → Rises a (filter P (range_with_len a n))
+rises_filter P a zero = tt
+rises_filter P a (suc n) = go (P a)
   where
-    go : (o : Ordering) → MatchOrdering o (p < e.0) (p ≡ e.0) (e.0 < p) → cond (is_eq o) (Some e.1) (saved_at es p) ≡ saved_at es p
-    go Less lt = refl
-    go Equal is = absurd (ne is)
-    go Greater gt = refl
+    rest : Rises (a + 1) (filter P (range_with_len (a + 1) n))
+    rest = rises_filter P (a + 1) n
 
-saved_at-same : (e : Entry) (es : List Entry) (p : ℕ) → p ≡ e.0 → saved_at (e ∷ es) p ≡ Some e.1
-saved_at-same e es p is = go (nat_cmp p e.0) (ranked p e.0 (nat_cmp p e.0) refl)
+    go : (b : Bool) → Rises a (cond b (a ∷ filter P (range_with_len (a + 1) n)) (filter P (range_with_len (a + 1) n)))
+    go true = (omega arith, Rises-lower a (a + 1) (filter P (range_with_len (a + 1) n)) (omega arith) rest)
+    go false = Rises-lower a (a + 1) (filter P (range_with_len (a + 1) n)) (omega arith) rest
+
+-- how often a number is among those that pass
+times-filter : (P : ℕ → Bool) (p : ℕ) (xs : List ℕ) → times p (filter P xs) ≡ cond (P p) (times p xs) 0
+times-filter P p [] = none (P p)
   where
-    go : (o : Ordering) → MatchOrdering o (p < e.0) (p ≡ e.0) (e.0 < p) → cond (is_eq o) (Some e.1) (saved_at es p) ≡ Some e.1
-    go Less lt = absurd (omega arith)
-    go Equal is = refl
-    go Greater gt = absurd (omega arith)
-
--- no page below all is saved
-saved_at-below : (low : ℕ) (es : List Entry) (p : ℕ) → Rises low es → p < low → saved_at es p ≡ None
-saved_at-below low [] p rises below = refl
-saved_at-below low (e ∷ es) p rises below =
-    let ne : p ≢ e.0 = omega (arith, rises.0) in
-    saved_at-other e es p ne ∙ saved_at-below (e.0 + 1) es p rises.1 (omega (arith, rises.0))
-
--- page p with the saved ones put back
-get_or-restored : (low n : ℕ) (es : List Entry) (fs : List (List ℕ)) (p : ℕ) → n ≡ length fs → Rises low es → AreWithin n es → get_or (restored es fs) p [] ≡ unwrap_or (saved_at es p) (get_or fs p [])
-get_or-restored low n [] fs p long rises within = refl
-get_or-restored low n (e ∷ es) fs p long rises within =
-    let rest : get_or (restored es (set fs e.0 e.1)) p [] ≡ unwrap_or (saved_at es p) (get_or (set fs e.0 e.1) p []) = get_or-restored (e.0 + 1) n es (set fs e.0 e.1) p (long ∙ sym (length-set fs e.0 e.1)) rises.1 within.2 in
-    by_ranked _ _ _ (nat_cmp p e.0) (ranked p e.0 (nat_cmp p e.0) refl) (λ o lt. apart (omega arith) rest) (λ o is. here is rest) (λ o gt. apart (omega arith) rest)
+    none : (b : Bool) → 0 ≡ cond b 0 0
+    none true = refl
+    none false = refl
+times-filter P p (x ∷ xs) = ⊎_elim (λ h. here h.1) (λ h. there h.1) (eqb_tells p x)
   where
-    apart : p ≢ e.0 → get_or (restored es (set fs e.0 e.1)) p [] ≡ unwrap_or (saved_at es p) (get_or (set fs e.0 e.1) p []) → get_or (restored (e ∷ es) fs) p [] ≡ unwrap_or (saved_at (e ∷ es) p) (get_or fs p [])
-    apart ne rest =
-        rest ∙ ap (λ g. unwrap_or (saved_at es p) g) (get_or-set_other fs e.0 p e.1 [] ne) ∙ ap (λ o. unwrap_or o (get_or fs p [])) (sym (saved_at-other e es p ne))
+    rest : times p (filter P xs) ≡ cond (P p) (times p xs) 0
+    rest = times-filter P p xs
 
-    here : p ≡ e.0 → get_or (restored es (set fs e.0 e.1)) p [] ≡ unwrap_or (saved_at es p) (get_or (set fs e.0 e.1) p []) → get_or (restored (e ∷ es) fs) p [] ≡ unwrap_or (saved_at (e ∷ es) p) (get_or fs p [])
-    here is rest =
-        let none : saved_at es p ≡ None = saved_at-below (e.0 + 1) es p rises.1 (omega arith) in
-        rest ∙ ap (λ o. unwrap_or o (get_or (set fs e.0 e.1) p [])) none ∙ ap (λ i. get_or (set fs e.0 e.1) i []) is ∙ get_or-set_same fs e.0 e.1 [] (omega (arith, within.0)) ∙ ap (λ o. unwrap_or o (get_or fs p [])) (sym (saved_at-same e es p is))
+    here : p ≡ x → times p (cond (P x) (x ∷ filter P xs) (filter P xs)) ≡ cond (P p) (times p (x ∷ xs)) 0
+    here is = ap (λ y. times p (cond (P y) (x ∷ filter P xs) (filter P xs))) (sym is) ∙ go (P p) rest
+      where
+        go : (b : Bool) → times p (filter P xs) ≡ cond b (times p xs) 0 → times p (cond b (x ∷ filter P xs) (filter P xs)) ≡ cond b (times p (x ∷ xs)) 0
+        go true r = omega (arith, r)
+        go false r = r
 
--- P tests each entry against its frame
-abbrev AreTested : (ℕ → Bool) → List (List ℕ) → List Entry → Type 0
-AreTested P fs [] = Unit {0}
-AreTested P fs (e ∷ es) = (P e.0 ≡ not (bytes_eq e.1 (get_or fs e.0 []))) × AreTested P fs es
+    there : p ≢ x → times p (cond (P x) (x ∷ filter P xs) (filter P xs)) ≡ cond (P p) (times p (x ∷ xs)) 0
+    there ne = go (P x) (P p) rest
+      where
+        none : times p (x ∷ []) ≡ 0
+        none = times-other p x ne
 
--- a range by a test that fails where nothing is saved
-filter_from_entries : (P : ℕ → Bool) (fs : List (List ℕ)) (n a : ℕ) (es : List Entry) → Rises a es → AreWithin (a + n) es → ((p : ℕ) → a ≤ p → p < a + n → saved_at es p ≡ None → P p ≡ false) → AreTested P fs es → filter P (range_with_len a n) ≡ changed_of fs es
-filter_from_entries P fs zero a [] rises within none tested = refl
-filter_from_entries P fs zero a (e ∷ es) rises within none tested = absurd (omega (arith, rises.0, within.0))
-filter_from_entries P fs (suc n) a [] rises within none tested =
-    let here : P a ≡ false = none a (omega arith) (omega arith) refl in
-    rw here (filter_from_entries P fs n (a + 1) [] tt tt (λ p low high s. none p (omega arith) (omega arith) s) tt)
-filter_from_entries P fs (suc n) a (e ∷ es) rises within none tested =
-    let long : a + suc n ≡ a + 1 + n = omega arith in
-    by_ranked _ _ _ (nat_cmp a e.0) (ranked a e.0 (nat_cmp a e.0) refl)
-    (λ o lt.
-    let later : Rises (a + 1) (e ∷ es) = (omega arith, rises.1) in
-    let here : P a ≡ false = none a (omega arith) (omega arith) (saved_at-below (a + 1) (e ∷ es) a later (omega arith)) in
-    rw here (filter_from_entries P fs n (a + 1) (e ∷ es) later (subst (λ m. AreWithin m (e ∷ es)) long within) (λ p low high s. none p (omega arith) (omega arith) s) tested))
-    (λ o is.
-    let later : Rises (a + 1) es = subst (λ m. Rises (m + 1) es) (sym is) rises.1 in
-    let rest : filter P (range_with_len (a + 1) n) ≡ changed_of fs es = filter_from_entries P fs n (a + 1) es later (subst (λ m. AreWithin m es) long within.2) (λ p low high s. none p (omega arith) (omega arith) (saved_at-other e es p (omega arith) ∙ s)) tested.1 in
-    joined (bytes_eq e.1 (get_or fs e.0 [])) (P a) (ap P is ∙ tested.0) (filter P (range_with_len (a + 1) n)) (changed_of fs es) rest a e.0 is)
-    (λ o gt. absurd (omega (arith, rises.0)))
+        go : (b c : Bool) → times p (filter P xs) ≡ cond c (times p xs) 0 → times p (cond b (x ∷ filter P xs) (filter P xs)) ≡ cond c (times p (x ∷ xs)) 0
+        go true true r = omega (arith, r, none)
+        go true false r = omega (arith, r, none)
+        go false true r = omega (arith, r, none)
+        go false false r = r
+
+-- a number is once in a range, or not at all
+times-range : (p a n : ℕ) → a ≤ p → p < a + n → times p (range_with_len a n) ≡ 1
+times-range p a zero low high = absurd (omega arith)
+times-range p a (suc n) low high = ⊎_elim (λ h. here h.1) (λ h. there h.1) (eqb_tells p a)
   where
-    joined : (b b' : Bool) → b' ≡ not b → (xs ys : List ℕ) → xs ≡ ys → (x y : ℕ) → x ≡ y → cond b' (x ∷ xs) xs ≡ cond b ys (y ∷ ys)
-    joined true true t xs ys all x y one = absurd cc
-    joined true false t xs ys all x y one = all
-    joined false true t xs ys all x y one = cc
-    joined false false t xs ys all x y one = absurd cc
+    here : p ≡ a → times p (a ∷ range_with_len (a + 1) n) ≡ 1
+    here is =
+        let one : times p (a ∷ []) ≡ 1 = ap (λ q. times q (a ∷ [])) is ∙ times-same a in
+        let none : times p (range_with_len (a + 1) n) ≡ 0 = times-past p (a + 1) n (omega (arith, is)) in
+        omega (arith, one, none)
+      where
+        times-past : (p a n : ℕ) → p < a → times p (range_with_len a n) ≡ 0
+        times-past p a zero lt = refl
+        times-past p a (suc n) lt =
+            let head : times p (a ∷ []) ≡ 0 = times-other p a (λ e. absurd (omega (arith, e, lt))) in
+            let rest : times p (range_with_len (a + 1) n) ≡ 0 = times-past p (a + 1) n (omega (arith, lt)) in
+            omega (arith, head, rest)
 
--- bytes against themselves
-bytes_eq-same : (xs ys : List ℕ) → xs ≡ ys → bytes_eq xs ys ≡ true
-bytes_eq-same xs ys same = (bytes_eq-Decides xs ys).1 same
+    there : p ≢ a → times p (a ∷ range_with_len (a + 1) n) ≡ 1
+    there ne =
+        let head : times p (a ∷ []) ≡ 0 = times-other p a ne in
+        let rest : times p (range_with_len (a + 1) n) ≡ 1 = times-range p (a + 1) n (omega arith) (omega arith) in
+        omega (arith, head, rest)
 
-module _ (es : List Entry) (fs : List (List ℕ)) (whole : AreWhole fs) (within : AreWithin (length fs) es) (rises : Rises 0 es) where
-  -- page p at `begin`
-  page_of-restored : (p : ℕ) → p < length fs → page_of (concat (restored es fs)) p ≡ unwrap_or (saved_at es p) (get_or fs p [])
-  page_of-restored p below =
-      page_of-concat (restored es fs) p (AreWhole-restored (length fs) es fs within whole) (omega (arith, length-restored es fs)) ∙ get_or-restored 0 (length fs) es fs p refl rises within
-
-  -- one that is not saved is as it was
-  kept : (p : ℕ) → p < length fs → saved_at es p ≡ None → page_differs (concat (restored es fs)) (concat fs) p ≡ false
-  kept p below none =
-      ap not (bytes_eq-same _ _ (page_of-restored p below ∙ ap (λ o. unwrap_or o (get_or fs p [])) none ∙ sym (page_of-concat fs p whole below)))
-
-  tested_all : (ds : List Entry) → AreWithin (length fs) ds → All (λ (e : Entry). saved_at es e.0 ≡ Some e.1) ds → AreTested (page_differs (concat (restored es fs)) (concat fs)) fs ds
-  tested_all [] inside found = tt
-  tested_all (e ∷ ds) inside found =
-      let here : saved_at es e.0 ≡ Some e.1 = All-head (λ (d : Entry). saved_at es d.0 ≡ Some d.1) e ds found in
-      let was : page_of (concat (restored es fs)) e.0 ≡ e.1 = page_of-restored e.0 inside.0 ∙ ap (λ o. unwrap_or o (get_or fs e.0 [])) here in
-      let is : page_of (concat fs) e.0 ≡ get_or fs e.0 [] = page_of-concat fs e.0 whole inside.0 in
-      (ap (λ xs. not (bytes_eq xs (page_of (concat fs) e.0))) was ∙ ap (λ ys. not (bytes_eq e.1 ys)) is, tested_all ds inside.2 (All-tail (λ (d : Entry). saved_at es d.0 ≡ Some d.1) e ds found))
-
--- the changed pages are the dirty ones
-pub dirty_pages-restored : (es : List Entry) (fs : List (List ℕ)) → AreWhole fs → AreWithin (length fs) es → IsStrictlySortedBy nat_cmp (keys_of es) → All (λ (e : Entry). saved_at es e.0 ≡ Some e.1) es → dirty_pages (concat (restored es fs)) (concat fs) ≡ changed_of fs es
-dirty_pages-restored es fs whole within sorted found =
-    let rises : Rises 0 es = Rises-from_sorted 0 es (all_from_zero (keys_of es)) sorted in
-    let long : length (concat fs) / 256 ≡ length fs = omega (arith, length-concat_whole fs whole) in
-    ap (λ n. filter (page_differs (concat (restored es fs)) (concat fs)) (range_with_len 0 n)) long ∙ filter_from_entries (page_differs (concat (restored es fs)) (concat fs)) fs (length fs) 0 es rises (subst (λ m. AreWithin m es) (omega arith) within) (λ p low high none. kept es fs whole within rises p (omega arith) none) (tested_all es fs whole within rises es within found)
+times-permutation : (p : ℕ) (xs ys : List ℕ) → IsPermutation xs ys → times p ys ≡ times p xs
+times-permutation p xs ys perm = sym (summed p 0 ys) ∙ sum_by-IsPermutation (λ q. times p (q ∷ [])) xs ys perm ∙ summed p 0 xs
+  where
+    summed : (p a : ℕ) (xs : List ℕ) → fold (λ b x. b + times p (x ∷ [])) a xs ≡ a + times p xs
+    summed p a [] = omega arith
+    summed p a (x ∷ xs) =
+        let rest : fold (λ b x. b + times p (x ∷ [])) (a + times p (x ∷ [])) xs ≡ a + times p (x ∷ []) + times p xs = summed p (a + times p (x ∷ [])) xs in
+        rest ∙ omega arith
