@@ -1,8 +1,10 @@
 -- How many frames a turn has of its own, and how many it lacks.
-use Rattle.std.proofs.Common.{◌≡◌, ℕ, ◌+◌, ◌-◌, ◌<◌, ◌≤◌, suc, zero, List, [], ◌∷◌, length, map, get_or, set, replicate, Bool, true, false, refl, sym, ap, ap₂, ◌∙◌, arith, Option, Some, None, is_some, drop, ◌&&◌}
+use Rattle.std.proofs.Common.{◌≡◌, ◌≢◌, ⊎_elim, true≢false, cond, ℕ, ◌+◌, ◌-◌, ◌/◌, ◌<◌, ◌≤◌, suc, zero, List, [], ◌∷◌, length, map, get_or, set, replicate, Bool, true, false, refl, sym, ap, ap₂, ◌∙◌, arith, Option, Some, None, is_some, drop, ◌&&◌}
+use Rattle.std.specs.Prelude.{◌==◌}
+use Rattle.std.proofs.lemmas.Bool.Decides.{eqb_tells}
 use Rattle.ken_pages.specs.declared.page.Held.{Held}
 use Rattle.ken_pages.specs.declared.page.Page.{Page}
-use Rattle.ken_pages.specs.Paged.{missing, lacking, with_own, own_count}
+use Rattle.ken_pages.specs.Paged.{missing, lacking, with_own, own_count, touched}
 use Rattle.ken_pages.proofs.Pages.{at_map, map_set, length_map}
 use Rattle.ken_pages.specs.Layout.{now_of, was_of, is_own, is_kept, is_frame_own, bytes_in, first_of}
 
@@ -32,6 +34,16 @@ lacking-more zero (suc n) (suc p) (b ∷ bs) is below =
     omega (arith, rest)
 lacking-more (suc from) n zero (b ∷ bs) is below = absurd (omega (arith, is))
 lacking-more (suc from) n (suc p) (b ∷ bs) is below = lacking-more from n p bs (omega (arith, is)) (omega (arith, below))
+
+-- for more pages no fewer are lacking
+pub lacking-grows : (from k n : ℕ) (own : List Bool) → k ≤ n → lacking from k own ≤ lacking from n own
+lacking-grows from k n [] le = omega arith
+lacking-grows zero zero n (b ∷ bs) le = omega arith
+lacking-grows zero (suc k) zero (b ∷ bs) le = absurd (omega (arith, le))
+lacking-grows zero (suc k) (suc n) (b ∷ bs) le =
+    let rest : lacking zero k bs ≤ lacking zero n bs = lacking-grows zero k n bs (omega (arith, le)) in
+    omega (arith, rest)
+lacking-grows (suc from) k n (b ∷ bs) le = lacking-grows from k n bs le
 
 pub with_own-none : (from : ℕ) (own : List Bool) → with_own from 0 own ≡ own
 with_own-none from [] = refl
@@ -90,17 +102,18 @@ none_own [] (suc n) none = absurd cc
 none_own (p ∷ ps) zero none = absurd cc
 none_own (p ∷ ps) (suc n) none = ap₂ (λ x xs. x ∷ xs) (not_own p (ap (λ xs. get_or xs 0 false) none)) (none_own ps n (ap (drop 1) none))
 
+-- and is as it was
+pub was_unless : (p : Page) → is_kept p ≡ false → was_of p ≡ now_of p
+was_unless p none = go p.before none
+  where
+    go : (o : Option Held) → is_some o ≡ false → bytes_in (first_of o p.held) ≡ bytes_in p.held
+    go None e = refl
+    go (Some x) e = absurd cc
+
 pub none_was : (ps : List Page) (n : ℕ) → map is_kept ps ≡ replicate n false → map was_of ps ≡ map now_of ps
 none_was [] n none = refl
 none_was (p ∷ ps) zero none = absurd cc
-none_was (p ∷ ps) (suc n) none = ap₂ (λ x xs. x ∷ xs) (first p (ap (λ xs. get_or xs 0 false) none)) (none_was ps n (ap (drop 1) none))
-  where
-    go : (o : Option Held) (h : Held) → is_some o ≡ false → bytes_in (first_of o h) ≡ bytes_in h
-    go None h e = refl
-    go (Some x) h e = absurd cc
-
-    first : (p : Page) → is_kept p ≡ false → was_of p ≡ now_of p
-    first p e = go p.before p.held e
+none_was (p ∷ ps) (suc n) none = ap₂ (λ x xs. x ∷ xs) (was_unless p (ap (λ xs. get_or xs 0 false) none)) (none_was ps n (ap (drop 1) none))
 
 pub own_count-none : (n : ℕ) → own_count (replicate n false) ≡ 0
 own_count-none zero = refl
@@ -111,3 +124,15 @@ pub own_count-gone : (ps : List Page) (q : ℕ) (x d : Page) → q < length ps �
 own_count-gone ps q x d below none =
     let now : map is_own (set ps q x) ≡ set (map is_own ps) q false = map_set is_own ps q x ∙ ap (λ b. set (map is_own ps) q b) (not_own x none) in
     own_count-set (map is_own ps) q (omega (arith, below, length_map is_own ps)) ∙ ap₂ (λ n b. n + (1 - missing b)) (ap own_count (sym now)) (at_map is_own ps q d false below)
+
+-- one byte at least touches pages up to its last one's
+pub touched-some : (at n : ℕ) → 1 ≤ n → touched at n ≡ (at + n - 1) / 256 + 1 - at / 256
+touched-some at n some = ⊎_elim (λ h. absurd (omega (arith, h.1, some))) (λ h. ap (λ b. cond b 0 ((at + n - 1) / 256 + 1 - at / 256)) h.0) (eqb_tells n 0)
+
+-- a test that says that it isn't 0
+pub some_unless : (n : ℕ) → (n == 0) ≡ false → 1 ≤ n
+some_unless n none = ⊎_elim (λ h. absurd (true≢false (sym h.0 ∙ none))) (λ h. above n h.1) (eqb_tells n 0)
+  where
+    above : (n : ℕ) → n ≢ 0 → 1 ≤ n
+    above zero ne = absurd (ne refl)
+    above (suc n) ne = omega arith

@@ -5,3 +5,4 @@ pub mod Listed
 pub mod Counted
 pub mod Frozen
 pub mod Dirty
+pub mod Idle

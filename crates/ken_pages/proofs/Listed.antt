@@ -113,3 +113,37 @@ listed_all ps first i listed end =
 
 pub kept_below : (ps : List Page) (p : ℕ) → get_or (kept_pages ps) p false ≡ true → p < length ps
 kept_below ps p is = omega (arith, below_kept (kept_pages ps) p is, length_map is_kept ps)
+
+-- a page in the list is kept, and a page
+times-at : (qs : List ℕ) (i d : ℕ) → i < length qs → 1 ≤ times (get_or qs i d) qs
+times-at [] i d within = absurd (omega arith)
+times-at (q ∷ qs) zero d within =
+    let one : times q (q ∷ []) ≡ 1 = times-same q in
+    omega (arith, one)
+times-at (q ∷ qs) (suc i) d within =
+    let rest : 1 ≤ times (get_or qs i d) qs = times-at qs i d (omega arith) in
+    omega (arith, rest)
+
+pub kept_at : (kept : List Bool) (first : List ℕ) (i d : ℕ) → Lists first kept → i < length first → get_or kept (get_or first i d) false ≡ true
+kept_at kept first i d listed within = go (get_or kept (get_or first i d) false) (listed (get_or first i d))
+  where
+    go : (b : Bool) → times (get_or first i d) first ≡ once b → b ≡ true
+    go true e = refl
+    go false e = absurd (omega (arith, e, times-at first i d within))
+
+pub listed_at : (ps : List Page) (first : List ℕ) (i : ℕ) → Lists first (kept_pages ps) → i < length first → get_or first i 0 < length ps
+listed_at ps first i listed within = kept_below ps (get_or first i 0) (kept_at (kept_pages ps) first i 0 listed within)
+
+-- the empty list is the list of no kept page
+pub Lists-none : (n : ℕ) → Lists [] (replicate n false)
+Lists-none zero p = refl
+Lists-none (suc n) zero = refl
+Lists-none (suc n) (suc p) = Lists-none n p
+
+-- where the list is empty
+pub not_listed : (kept : List Bool) (p : ℕ) → Lists [] kept → get_or kept p false ≡ false
+not_listed kept p listed = go (get_or kept p false) (listed p)
+  where
+    go : (b : Bool) → 0 ≡ once b → b ≡ false
+    go true e = absurd (omega (arith, e))
+    go false e = refl

@@ -1,8 +1,9 @@
 -- Lists of pages, and one of them changed.
 use Rattle.std.proofs.Common.{◌≡◌, ℕ, ◌+◌, ◌*◌, ◌<◌, ◌≤◌, suc, zero, List, [], ◌∷◌, length, map, get_or, set, Bool, true, false, refl, sym, ap, subst, ◌∙◌, arith, Result, Ok, Err}
-use Rattle.std.specs.Prelude.{OnOk, IfOk}
+use Rattle.std.specs.Prelude.{OnOk, OnErr, IfOk, IfSome}
 use Rattle.ken_pages.specs.declared.page.Page.{Page}
-use Rattle.ken_pages.specs.Layout.{AreWhole, ArePages, now_of, was_of, is_own, is_kept, now_bytes, was_bytes, SameTurn}
+use Rattle.ken_pages.specs.Layout.{AreWhole, ArePages, now_of, was_of, is_own, is_kept, now_bytes, was_bytes, SameTurn, paged_of}
+use Rattle.ken_pages.specs.Paged.{Paged}
 use Rattle.ken_pages.proofs.Flat.{AreWhole-set, length-frame, length-concat_whole, written_in_frame}
 use Rattle.ken_frame.specs.Written.{written}
 use Rattle.std.specs.List.{concat}
@@ -62,6 +63,17 @@ SameTurn-set ps p x d below own kept was = record {
   was = map_same was_of ps p x d below was;
 }
 
+-- how long the bytes are that the pages stand for
+pub length_view : (begun : Bool) (ps : List Page) (shelf : List (List ℕ)) (v : Paged) → ArePages ps → paged_of begun ps shelf ≡ v → length v.bytes ≡ 256 * length ps
+length_view begun ps shelf v pages is = ap (λ (w : Paged). length w.bytes) (sym is) ∙ length_pages ps pages
+
+pub own_view : (begun : Bool) (ps : List Page) (shelf : List (List ℕ)) (v : Paged) → paged_of begun ps shelf ≡ v → length v.own ≡ length ps
+own_view begun ps shelf v is = ap (λ (w : Paged). length w.own) (sym is) ∙ length_map is_own ps
+
+pub begun_view : (begun : Bool) (ps : List Page) (shelf : List (List ℕ)) (v : Paged) → ArePages ps → paged_of begun ps shelf ≡ v → IfSome v.begun (λ before. length before ≡ 256 * length ps)
+begun_view true ps shelf v pages is = subst (λ (w : Paged). IfSome w.begun (λ before. length before ≡ 256 * length ps)) is (length_begun ps pages)
+begun_view false ps shelf v pages is = subst (λ (w : Paged). IfSome w.begun (λ before. length before ≡ 256 * length ps)) is tt
+
 pub SameTurn-trans : (a b c : List Page) → SameTurn a b → SameTurn b c → SameTurn a c
 SameTurn-trans a b c s t = record {
   own = t.own ∙ s.own;
@@ -83,3 +95,12 @@ on_ok (Err e) f p = tt
 pub if_ok : {X E : Type 0} {P Q : X → Type 0} (r : Result X E) → ((x : X) → P x → Q x) → IfOk r P → IfOk r Q
 if_ok (Ok x) f p = f x p
 if_ok (Err e) f p = tt
+
+pub on_err : {X E : Type 0} {P Q : Type 0} (r : Result X E) → (P → Q) → OnErr r P → OnErr r Q
+on_err (Ok x) f p = tt
+on_err (Err e) f p = f p
+
+-- what holds after both
+pub either : {X E : Type 0} {P Q R : Type 0} (r : Result X E) → (P → R) → (Q → R) → OnOk r P → OnErr r Q → R
+either (Ok x) f g p q = f p
+either (Err e) f g p q = g q

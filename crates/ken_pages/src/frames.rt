@@ -1,10 +1,11 @@
 // Pages one after the other, as one list of bytes.
-ghost use Rattle.std.specs.Prelude.{◌≡◌, ◌+◌, ◌*◌, ◌/◌, ◌%◌, ◌<◌, ◌≤◌, length, take, drop, true, slice_index_or, false, ℕ};
+ghost use Rattle.std.specs.Prelude.{◌≡◌, ◌+◌, ◌*◌, ◌/◌, ◌%◌, ◌<◌, ◌≤◌, length, take, drop, true, slice_index_or, false, ℕ, [], OnOk, OnErr};
 ghost use Rattle.ken_frame.specs.Written.{written};
-ghost use Rattle.ken_pages.specs.Layout.{ArePages, now_bytes, SameTurn, own_pages};
+ghost use Rattle.ken_pages.specs.Layout.{ArePages, now_bytes, SameTurn, own_pages, kept_pages, Lists};
 
 use crate::page::Page;
-use ken_frame::FRAME;
+use ken_frame::{FRAME, Frame};
+use std::alloc::{AllocError, Global};
 
 // Reads bytes of one page.
 fn read_part(pages: &[Page], at: usize, buf: &mut [u8])
@@ -62,4 +63,24 @@ pub(crate) fn write(pages: &mut [Page], at: usize, bytes: &[u8])
         write_part(pages, place, &bytes[done..done + part]);
         done += part;
     }
+}
+
+// Takes a frame's bytes over into a page, where the turn wrote none.
+pub(crate) fn load(
+    alloc: Global,
+    pages: &mut [Page],
+    page: u32,
+    frame: &Frame,
+) -> Result<(), AllocError>
+    requires whole { ArePages pages.old }
+    requires inside { page < length pages.old }
+    requires none { Lists [] (kept_pages pages.old) }
+    ensures whole { ArePages pages.new }
+    ensures bytes { OnOk result (now_bytes pages.new ≡ written (now_bytes pages.old) (256 * page) frame.now) }
+    ensures same { OnErr result (now_bytes pages.new ≡ now_bytes pages.old) }
+    ensures own { own_pages pages.new ≡ own_pages pages.old }
+    ensures kept { kept_pages pages.new ≡ kept_pages pages.old }
+    ensures count { length pages.new ≡ length pages.old }
+{
+    pages[page as usize].load(alloc, frame)
 }

@@ -119,30 +119,30 @@ impl PageHeap {
         if bytes.is_empty() {
             return Ok(());
         }
-        let at = at as usize;
-        self.own(at / FRAME, (at + bytes.len() - 1) / FRAME + 1)?;
-        frames::write(&mut self.pages, at, bytes);
+        self.own(at as usize, bytes.len())?;
+        frames::write(&mut self.pages, at as usize, bytes);
         Ok(())
     }
 
-    // Gives the turn frames of its own for the pages from `from` up to `end`.
-    fn own(&mut self, from: usize, end: usize) -> Result<(), AllocError>
+    // Gives the turn frames of its own for the pages that these bytes touch.
+    fn own(&mut self, at: usize, len: usize) -> Result<(), AllocError>
         requires begun { IsSome self.old.begun }
-        requires order { from < end }
-        requires within { 256 * end ≤ length self.old.bytes }
+        requires some { 1 ≤ len }
+        requires within { at + len ≤ length self.old.bytes }
         ensures bytes { self.new.bytes ≡ self.old.bytes }
         ensures begun { self.new.begun ≡ self.old.begun }
-        ensures own { OnOk result (self.new.own ≡ with_own from (end - from) self.old.own) }
-        ensures spare { OnOk result (self.new.spare ≡ self.old.spare - lacking from (end - from) self.old.own) }
-        ensures covered { lacking from (end - from) self.old.own ≤ self.old.spare → IsOk result }
+        ensures own { OnOk result (self.new.own ≡ with_own (at / 256) (touched at len) self.old.own) }
+        ensures spare { OnOk result (self.new.spare ≡ self.old.spare - lacking (at / 256) (touched at len) self.old.own) }
+        ensures covered { lacking (at / 256) (touched at len) self.old.own ≤ self.old.spare → IsOk result }
         ensures owned { OnErr result (self.new.own ≡ self.old.own) }
         ensures more { OnErr result (self.old.spare ≤ self.new.spare) }
     {
-        let lacking = turn::lacking(&self.pages, from, end);
+        let pages = &self.pages;
+        let from = at / FRAME;
+        let end = (at + len - 1) / FRAME + 1;
+        let lacking = turn::lacking(pages, from, end);
         self.reserve(lacking)?;
-        for page in from..end {
-            turn::take(&mut self.pages, &mut self.first, &mut self.shelf, page as u32);
-        }
+        turn::take_all(&mut self.pages, &mut self.first, &mut self.shelf, from, end);
         Ok(())
     }
 
@@ -172,7 +172,7 @@ impl PageHeap {
         ensures spare { self.new.spare ≡ self.old.spare }
         ensures own { OnOk result (IfSome self.old.begun (λ before. self.new.own ≡ without_own (dirty_pages before self.old.bytes) self.old.own)) }
     {
-        let changed = self.dirty()?;
+        let changed = turn::changed(self.alloc, &self.pages, &self.first)?;
         turn::share(self.alloc, &mut self.pages, &changed)
     }
 
@@ -213,6 +213,6 @@ impl PageHeap {
         ensures own { self.new.own ≡ self.old.own }
         ensures unchanged { OnErr result (self.new ≡ self.old) }
     {
-        self.pages[page as usize].load(self.alloc, frame)
+        frames::load(self.alloc, &mut self.pages, page, frame)
     }
 }

@@ -5,7 +5,7 @@ ghost use Rattle.std.specs.Arc.{arc_value};
 ghost use Rattle.ken_pages.specs.Layout.{bytes_in, now_of, was_of, is_frame_own, is_kept, is_own};
 ghost use Rattle.ken_frame.specs.Written.{written};
 
-use ken_frame::Frame;
+use ken_frame::{FRAME, Frame};
 use ken_lanes::equal_page;
 use std::alloc::{AllocError, Global};
 use std::mem;
@@ -186,10 +186,12 @@ impl Page {
     pub(crate) fn load(&mut self, alloc: Global, frame: &Frame) -> Result<(), AllocError>
         requires { is_kept self.old ≡ false }
         ensures now { OnOk result (now_of self.new ≡ frame.now) }
+        ensures whole { length frame.now ≡ 256 }
         ensures same { OnErr result (now_of self.new ≡ now_of self.old) }
         ensures was { was_of self.new ≡ now_of self.new }
         ensures kept { is_kept self.new ≡ false }
     {
+        prove!(frame.as_slice().len() == FRAME);
         if let Held::Shared(_) = &self.held {
             self.held = Held::Own(Frame::zeroed(alloc)?);
         }

@@ -1,7 +1,7 @@
 // The pages that a turn wrote.
 ghost use Rattle.std.specs.Prelude.{◌≡◌, ℕ, ◌+◌, ◌-◌, ◌*◌, ◌<◌, ◌≤◌, ◌^◌, length, take, drop, map, replicate, true, false, All, IfOk, OnOk, slice_index_or, slice_set, vec_len, vec_capacity};
 ghost use Rattle.std.specs.Arc.{arc_value};
-ghost use Rattle.ken_pages.specs.Paged.{dirty_pages, page_of, with_bytes, shared_pages, lacking, missing, without_own, own_count};
+ghost use Rattle.ken_pages.specs.Paged.{dirty_pages, page_of, with_bytes, shared_pages, lacking, with_own, missing, without_own, own_count};
 ghost use Rattle.ken_pages.specs.Layout.{ArePages, Lists, now_of, was_of, now_bytes, was_bytes, own_pages, kept_pages};
 
 use crate::page::Page;
@@ -53,6 +53,35 @@ pub(crate) fn take(pages: &mut [Page], first: &mut Vec<u32>, shelf: &mut Shelf, 
     pages[at].own(frame);
 }
 
+// Gives the turn frames of its own for the pages from `from` up to `end`.
+pub(crate) fn take_all(
+    pages: &mut [Page],
+    first: &mut Vec<u32>,
+    shelf: &mut Shelf,
+    from: usize,
+    end: usize,
+)
+    requires whole { ArePages pages.old }
+    requires order { from ≤ end }
+    requires within { end ≤ length pages.old }
+    requires few { length pages.old ≤ 4096 }
+    requires listed { Lists first.old.items (kept_pages pages.old) }
+    requires spare { lacking from (end - from) (own_pages pages.old) ≤ length shelf.old }
+    requires room { vec_len first.old + length shelf.old ≤ vec_capacity first.old }
+    ensures whole { ArePages pages.new }
+    ensures now { map now_of pages.new ≡ map now_of pages.old }
+    ensures was { map was_of pages.new ≡ map was_of pages.old }
+    ensures count { length pages.new ≡ length pages.old }
+    ensures own { own_pages pages.new ≡ with_own from (end - from) (own_pages pages.old) }
+    ensures spare { length shelf.new ≡ length shelf.old - lacking from (end - from) (own_pages pages.old) }
+    ensures listed { Lists first.new.items (kept_pages pages.new) }
+    ensures room { vec_len first.new + length shelf.new ≤ vec_capacity first.new }
+{
+    for page in from..end {
+        take(pages, first, shelf, page as u32);
+    }
+}
+
 // Makes each page that the turn wrote what it was at `begin`, and lays the turn's own frames on the shelf.
 pub(crate) fn put_back(pages: &mut [Page], first: &[u32], shelf: &mut Shelf)
     requires whole { ArePages pages.old }
@@ -62,6 +91,7 @@ pub(crate) fn put_back(pages: &mut [Page], first: &[u32], shelf: &mut Shelf)
     ensures now { map now_of pages.new ≡ map was_of pages.old }
     ensures kept { kept_pages pages.new ≡ replicate (length pages.old) false }
     ensures spare { length shelf.new ≡ length shelf.old + own_count (own_pages pages.old) }
+    ensures most { length shelf.new ≤ length shelf.old + length first.now }
     ensures count { length pages.new ≡ length pages.old }
 {
     for page in first {
@@ -94,7 +124,8 @@ pub(crate) fn keep(pages: &mut [Page], first: &[u32], shelf: &mut Shelf)
 pub(crate) fn changed(alloc: Global, pages: &[Page], first: &[u32]) -> Result<Vec<u32>, AllocError>
     requires whole { ArePages pages.now }
     requires listed { Lists first.now (kept_pages pages.now) }
-    ensures { IfOk result (λ changed. changed.items ≡ dirty_pages (was_bytes pages.now) (now_bytes pages.now)) }
+    ensures changed { IfOk result (λ changed. changed.items ≡ dirty_pages (was_bytes pages.now) (now_bytes pages.now)) }
+    ensures kept { IfOk result (λ changed. All (λ p. slice_index_or (kept_pages pages.now) p false ≡ true) changed.items) }
 {
     let mut changed = Vec::with_capacity(alloc, first.len())?;
     for page in first {
