@@ -1,9 +1,9 @@
 -- Pages of which the turn wrote none.
-use Rattle.std.proofs.Common.{◌≡◌, ℕ, ◌+◌, List, [], length, map, replicate, Bool, true, false, Option, Some, None, refl, sym, ap, true≢false, ◌∙◌, arith}
+use Rattle.std.proofs.Common.{◌≡◌, ℕ, ◌+◌, List, [], length, map, replicate, Bool, true, false, None, refl, sym, ap, true≢false, ◌∙◌, arith}
 use Rattle.std.specs.List.{concat}
 use Rattle.ken_pages.specs.declared.page.Page.{Page}
 use Rattle.ken_pages.specs.Paged.{Paged, own_count}
-use Rattle.ken_pages.specs.Layout.{ArePages, Lists, now_of, was_of, is_own, is_kept, now_bytes, was_bytes, own_pages, kept_pages, begun_at, paged_of}
+use Rattle.ken_pages.specs.Layout.{Lists, now_of, was_of, is_kept, now_bytes, own_pages, kept_pages, begun_at, paged_of}
 use Rattle.ken_pages.proofs.Pages.{length_map}
 use Rattle.ken_pages.proofs.Listed.{none_listed}
 use Rattle.ken_pages.proofs.Counted.{none_own, none_was, own_count-none}

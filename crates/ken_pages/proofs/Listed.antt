@@ -1,5 +1,5 @@
 -- The list of the pages that a turn wrote.
-use Rattle.std.proofs.Common.{◌≡◌, drop-cons, drop_of_length-le, ◌≢◌, ap₂, replicate, ◌⊎◌, ⊎_elim, ℕ, ◌+◌, ◌-◌, ◌<◌, ◌≤◌, suc, zero, List, [], ◌∷◌, ◌++◌, length, drop, get_or, set, Bool, true, false, refl, sym, ap, ◌∙◌, subst, arith, get_or-set_other, get_or-set_same, eqb, cond}
+use Rattle.std.proofs.Common.{◌≡◌, drop-cons, drop_of_length-le, ◌≢◌, ap₂, replicate, ⊎_elim, ℕ, ◌+◌, ◌<◌, ◌≤◌, suc, zero, List, [], ◌∷◌, ◌++◌, length, drop, get_or, set, Bool, true, false, refl, sym, ap, ◌∙◌, subst, arith, get_or-set_other, get_or-set_same, cond}
 use Rattle.std.proofs.lemmas.Bool.Decides.{eqb_tells}
 use Rattle.ken_pages.specs.declared.page.Page.{Page}
 use Rattle.ken_pages.specs.Layout.{times, once, Lists, is_kept, kept_pages}

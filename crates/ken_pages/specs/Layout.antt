@@ -1,9 +1,9 @@
 -- How a heap of pages is laid out.
-use Rattle.std.specs.Prelude.{◌≡◌, ℕ, ◌+◌, ◌<◌, ◌≤◌, List, [], ◌∷◌, length, map, Option, Some, None, is_some, Bool, true, false, ◌&&◌, ◌==◌, if◌then◌else◌, slice_index_or, not}
+use Rattle.std.specs.Prelude.{◌≡◌, ℕ, ◌+◌, ◌≤◌, List, [], ◌∷◌, length, map, Option, Some, None, is_some, Bool, true, false, ◌&&◌, ◌==◌, if◌then◌else◌, slice_index_or, not}
 use Rattle.std.specs.Str.{bytes_eq}
 use Rattle.std.specs.List.{concat}
 use Rattle.std.specs.Arc.{arc_value}
-use Rattle.ken_pages.specs.Paged.{Paged, missing}
+use Rattle.ken_pages.specs.Paged.{Paged}
 use Rattle.ken_pages.specs.declared.page.Held.{Held}
 use Rattle.ken_pages.specs.declared.page.Held.TheVariants.{Own, Shared}
 use Rattle.ken_pages.specs.declared.page.Page.{Page}

@@ -1,9 +1,8 @@
-use Rattle.std.proofs.Common.{◌≡◌, ℕ, ◌+◌, ◌*◌, ◌<◌, ◌≤◌, ◌++◌, List, [], false, length, map, get_or, set, drop, refl, sym, ap, ◌∙◌, arith, drop_of_length-le, Result, Ok, Err}
-use Rattle.std.specs.Prelude.{OnOk, OnErr}
+use Rattle.std.proofs.Common.{◌≡◌, ℕ, ◌*◌, ◌++◌, List, false, length, map, get_or, sym, ap, ◌∙◌, arith, drop_of_length-le}
 use Rattle.std.specs.List.{concat}
 use Rattle.std.proofs.lemmas.List.{append-nil}
 use Rattle.ken_frame.specs.Written.{written}
-use Rattle.ken_pages.specs.Layout.{now_of, was_of, is_own, is_kept, now_bytes}
+use Rattle.ken_pages.specs.Layout.{now_of, is_own, is_kept}
 use Rattle.ken_pages.proofs.Pages.{at_map, map_same, length_now, now_bytes-written, ArePages-set, on_ok, on_err, either}
 use Rattle.ken_pages.proofs.Listed.{not_listed}
 use Rattle.ken_pages.proofs.Counted.{not_own}

@@ -1,4 +1,4 @@
-use Rattle.std.proofs.Common.{◌≡◌, ◌+◌, ◌-◌, ◌*◌, ◌/◌, ◌≤◌, length, ◌∙◌, arith}
+use Rattle.std.proofs.Common.{◌≡◌, ◌+◌, ◌-◌, ◌*◌, ◌≤◌, length, arith}
 use Rattle.ken_pages.specs.Layout.{now_bytes}
 use Rattle.ken_pages.proofs.Parts.{written_more}
 use Rattle.ken_pages.proofs.Pages.{length_pages, SameTurn-trans}

@@ -1,4 +1,4 @@
-use Rattle.std.proofs.Common.{◌≡◌, ℕ, ◌-◌, ◌≤◌, length, take}
+use Rattle.std.proofs.Common.{◌≡◌, ◌-◌, ◌≤◌, length, take}
 use Rattle.ken_frame.specs.Written.{written}
 use Rattle.ken_pages.specs.Layout.{ArePages, SameTurn, now_bytes}
 use Rattle.ken_pages.proofs.frames.write.Given as goal

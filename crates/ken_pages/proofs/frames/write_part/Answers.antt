@@ -1,7 +1,6 @@
-use Rattle.std.proofs.Common.{◌≡◌, ◌/◌, ◌%◌, ◌<◌, true, false, [], length, get_or, sym, ap, ◌∙◌, arith}
-use Rattle.ken_frame.specs.Written.{written}
+use Rattle.std.proofs.Common.{◌≡◌, ◌/◌, ◌%◌, ◌<◌, true, false, length, get_or, sym, ap, ◌∙◌, arith}
 use Rattle.ken_frame.proofs.Written.{length-written}
-use Rattle.ken_pages.specs.Layout.{now_of, was_of, is_own, is_kept}
+use Rattle.ken_pages.specs.Layout.{now_of, was_of, is_own}
 use Rattle.ken_pages.proofs.Pages.{at_map, length_now, length_was, now_bytes-written, ArePages-set, SameTurn-set}
 use Rattle.ken_pages.proofs.frames.write_part.Goals as goal
 

@@ -1,4 +1,4 @@
-use Rattle.std.proofs.Common.{◌≡◌, ℕ, Bool, true, false, List, [], ◌∷◌, ◌++◌, ◌+◌, ◌<◌, ◌≤◌, length, take, get_or, cond, Vec, Global, refl, sym, ap, ◌∙◌, subst, arith, take_all, All}
+use Rattle.std.proofs.Common.{◌≡◌, ℕ, Bool, true, false, [], ◌∷◌, ◌++◌, ◌+◌, ◌<◌, length, take, get_or, cond, Vec, Global, sym, ap, ◌∙◌, subst, take_all, All}
 use Rattle.std.specs.List.{filter}
 use Rattle.std.specs.List.Sorted.{IsPermutation}
 use Rattle.std.proofs.lemmas.List.{append-nil}
@@ -25,12 +25,12 @@ loop-page-preserved c =
     let test : D q ≡ c.differs.result = at_map differs ps q c.index-pages-page.result false below ∙ ap differs (sym c.index-pages-page.is) ∙ sym c.differs.ensures in
     let more : filter D (take (i + 1) first) ≡ filter D (take i first) ++ cond (D q) (q ∷ []) [] = filter_more D first i c.loop-page-test.true in
     elim c.if-differs.branch [
-      then-differs+in_ok-push w ↦
-        ap (λ (v : Vec ℕ Global). v.items) w.changed-is ∙ w.in_ok-push.ensures.items ∙ ap (λ xs. xs ++ q ∷ []) c.loop-page.invariant
-        ∙ sym (more ∙ ap (λ b. filter D (take i first) ++ cond b (q ∷ []) []) (test ∙ w.if-differs.true))
-    | else-differs w ↦
-        ap (λ (v : Vec ℕ Global). v.items) w.changed-is ∙ c.loop-page.invariant
-        ∙ sym (more ∙ ap (λ b. filter D (take i first) ++ cond b (q ∷ []) []) (test ∙ w.if-differs.false) ∙ append-nil (filter D (take i first)))
+      | then-differs+in_ok-push w ↦
+          ap (λ (v : Vec ℕ Global). v.items) w.changed-is ∙ w.in_ok-push.ensures.items ∙ ap (λ xs. xs ++ q ∷ []) c.loop-page.invariant
+          ∙ sym (more ∙ ap (λ b. filter D (take i first) ++ cond b (q ∷ []) []) (test ∙ w.if-differs.true))
+      | else-differs w ↦
+          ap (λ (v : Vec ℕ Global). v.items) w.changed-is ∙ c.loop-page.invariant
+          ∙ sym (more ∙ ap (λ b. filter D (take i first) ++ cond b (q ∷ []) []) (test ∙ w.if-differs.false) ∙ append-nil (filter D (take i first)))
     ]
 
 pub returns-clause-changed : goal.returns-clause-changed

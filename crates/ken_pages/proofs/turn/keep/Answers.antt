@@ -1,5 +1,5 @@
-use Rattle.std.proofs.Common.{◌≡◌, ◌+◌, ◌<◌, ◌≤◌, suc, false, length, get_or, replicate, ap, ◌∙◌, arith}
-use Rattle.ken_pages.specs.Layout.{now_of, is_kept, kept_pages}
+use Rattle.std.proofs.Common.{◌≡◌, ◌<◌, suc, false, length, get_or, replicate, ap, ◌∙◌, arith}
+use Rattle.ken_pages.specs.Layout.{now_of}
 use Rattle.ken_pages.proofs.Pages.{map_same, ArePages-set, length_now}
 use Rattle.ken_pages.proofs.Listed.{listed_below, listed_next, listed_all}
 use Rattle.ken_pages.proofs.turn.keep.Goals as goal
@@ -23,20 +23,20 @@ loop-page-preserved c =
       listed = listed_next ps first i x c.loop-page.invariant.listed c.loop-page-test.true c.keep.ensures.kept;
       now = map_same now_of ps q x d below c.keep.ensures.now ∙ c.loop-page.invariant.now;
       least = elim c.match-keep.branch [
-        in-Some w ↦
-          (let more : length c.match-keep.shelf ≡ suc (length c.loop-page.shelf) = ap length (w.shelf-is ∙ w.push.ensures) in
-          omega (arith, more, c.loop-page.invariant.least))
-      | in_default w ↦
-          (let same : length c.match-keep.shelf ≡ length c.loop-page.shelf = ap length w.shelf-is in
-          omega (arith, same, c.loop-page.invariant.least))
+        | in-Some w ↦
+            (let more : length c.match-keep.shelf ≡ suc (length c.loop-page.shelf) = ap length (w.shelf-is ∙ w.push.ensures) in
+            omega (arith, more, c.loop-page.invariant.least))
+        | in_default w ↦
+            (let same : length c.match-keep.shelf ≡ length c.loop-page.shelf = ap length w.shelf-is in
+            omega (arith, same, c.loop-page.invariant.least))
       ];
       few = elim c.match-keep.branch [
-        in-Some w ↦
-          (let more : length c.match-keep.shelf ≡ suc (length c.loop-page.shelf) = ap length (w.shelf-is ∙ w.push.ensures) in
-          omega (arith, more, c.loop-page.invariant.few))
-      | in_default w ↦
-          (let same : length c.match-keep.shelf ≡ length c.loop-page.shelf = ap length w.shelf-is in
-          omega (arith, same, c.loop-page.invariant.few))
+        | in-Some w ↦
+            (let more : length c.match-keep.shelf ≡ suc (length c.loop-page.shelf) = ap length (w.shelf-is ∙ w.push.ensures) in
+            omega (arith, more, c.loop-page.invariant.few))
+        | in_default w ↦
+            (let same : length c.match-keep.shelf ≡ length c.loop-page.shelf = ap length w.shelf-is in
+            omega (arith, same, c.loop-page.invariant.few))
       ];
     }
 

@@ -1,4 +1,4 @@
-use Rattle.std.proofs.Common.{◌≡◌, ◌+◌, ◌-◌, ◌<◌, ◌≤◌, suc, true, false, length, get_or, refl, sym, ap, ◌∙◌, arith, Fits-le}
+use Rattle.std.proofs.Common.{◌≡◌, ◌+◌, ◌-◌, ◌<◌, suc, false, length, get_or, sym, ap, ◌∙◌, arith}
 use Rattle.ken_pages.specs.Paged.{lacking, missing}
 use Rattle.ken_pages.specs.Layout.{is_own, own_pages}
 use Rattle.ken_pages.proofs.Pages.{at_map, length_map}
@@ -28,13 +28,13 @@ loop-page-preserved c =
     record {
       past = omega (arith, c.loop-page.invariant.past);
       so_far = elim c.if-not-is_own.branch [
-        then-not-is_own w ↦
-          (let one : missing (get_or own c.loop-page.page false) ≡ 1 = ap missing (here ∙ w.if-not-is_own.true) in
-          let now : c.if-not-is_own.count ≡ lacking c.args.from (suc n) own = omega (arith, more, one, w.count-is, c.loop-page.invariant.so_far) in
-          now ∙ ap (λ m. lacking c.args.from m own) (sym step))
-      | else-not-is_own w ↦
-          (let none : missing (get_or own c.loop-page.page false) ≡ 0 = ap missing (here ∙ w.if-not-is_own.false) in
-          let now : c.if-not-is_own.count ≡ lacking c.args.from (suc n) own = omega (arith, more, none, w.count-is, c.loop-page.invariant.so_far) in
-          now ∙ ap (λ m. lacking c.args.from m own) (sym step))
+        | then-not-is_own w ↦
+            (let one : missing (get_or own c.loop-page.page false) ≡ 1 = ap missing (here ∙ w.if-not-is_own.true) in
+            let now : c.if-not-is_own.count ≡ lacking c.args.from (suc n) own = omega (arith, more, one, w.count-is, c.loop-page.invariant.so_far) in
+            now ∙ ap (λ m. lacking c.args.from m own) (sym step))
+        | else-not-is_own w ↦
+            (let none : missing (get_or own c.loop-page.page false) ≡ 0 = ap missing (here ∙ w.if-not-is_own.false) in
+            let now : c.if-not-is_own.count ≡ lacking c.args.from (suc n) own = omega (arith, more, none, w.count-is, c.loop-page.invariant.so_far) in
+            now ∙ ap (λ m. lacking c.args.from m own) (sym step))
       ];
     }

@@ -1,8 +1,8 @@
-use Rattle.std.proofs.Common.{◌≡◌, is_some, ℕ, ◌+◌, ◌-◌, ◌<◌, ◌≤◌, suc, true, false, [], ◌∷◌, length, map, drop, get_or, set, replicate, refl, sym, ap, subst, ◌∙◌, arith}
+use Rattle.std.proofs.Common.{◌≡◌, is_some, ◌+◌, ◌-◌, ◌<◌, suc, false, length, get_or, set, replicate, sym, ap, ◌∙◌, arith}
 use Rattle.ken_pages.specs.Paged.{own_count, missing}
-use Rattle.ken_pages.specs.Layout.{ArePages, Lists, now_of, was_of, is_own, is_kept, own_pages, kept_pages}
-use Rattle.ken_pages.proofs.Pages.{at_map, map_same, map_set, length_map, ArePages-set, length_was}
-use Rattle.ken_pages.proofs.Listed.{listed_below, Lists-head, Lists-tail, none_listed, below_kept, listed_next, listed_all}
+use Rattle.ken_pages.specs.Layout.{was_of, is_own, own_pages, kept_pages}
+use Rattle.ken_pages.proofs.Pages.{map_same, ArePages-set, length_was}
+use Rattle.ken_pages.proofs.Listed.{listed_below, listed_next, listed_all}
 use Rattle.ken_pages.proofs.Counted.{own_count-gone, own_count-none, none_own, none_was}
 use Rattle.ken_pages.proofs.turn.put_back.Goals as goal
 use Rattle.ken_pages.proofs.turn.put_back.Goals.{in-Some, in_default}
@@ -26,22 +26,22 @@ loop-page-preserved c =
       listed = listed_next ps first i x c.loop-page.invariant.listed c.loop-page-test.true c.put_back.ensures.kept;
       was = map_same was_of ps q x d below c.put_back.ensures.was ∙ c.loop-page.invariant.was;
       spare = elim c.match-put_back.branch [
-        in-Some w ↦
-          (let own : missing (is_own (get_or ps q d)) ≡ 0 = ap missing (sym c.put_back.ensures.frame ∙ ap is_some w.in-Some.is) in
-          let more : length c.match-put_back.shelf ≡ suc (length c.loop-page.shelf) = ap length (w.shelf-is ∙ w.push.ensures) in
-          omega (arith, own, more, gone, c.loop-page.invariant.spare))
-      | in_default w ↦
-          (let none : missing (is_own (get_or ps q d)) ≡ 1 = ap missing (sym c.put_back.ensures.frame ∙ ap is_some w.in_default.is) in
-          let same : length c.match-put_back.shelf ≡ length c.loop-page.shelf = ap length w.shelf-is in
-          omega (arith, none, same, gone, c.loop-page.invariant.spare))
+        | in-Some w ↦
+            (let own : missing (is_own (get_or ps q d)) ≡ 0 = ap missing (sym c.put_back.ensures.frame ∙ ap is_some w.in-Some.is) in
+            let more : length c.match-put_back.shelf ≡ suc (length c.loop-page.shelf) = ap length (w.shelf-is ∙ w.push.ensures) in
+            omega (arith, own, more, gone, c.loop-page.invariant.spare))
+        | in_default w ↦
+            (let none : missing (is_own (get_or ps q d)) ≡ 1 = ap missing (sym c.put_back.ensures.frame ∙ ap is_some w.in_default.is) in
+            let same : length c.match-put_back.shelf ≡ length c.loop-page.shelf = ap length w.shelf-is in
+            omega (arith, none, same, gone, c.loop-page.invariant.spare))
       ];
       few = elim c.match-put_back.branch [
-        in-Some w ↦
-          (let more : length c.match-put_back.shelf ≡ suc (length c.loop-page.shelf) = ap length (w.shelf-is ∙ w.push.ensures) in
-          omega (arith, more, c.loop-page.invariant.few))
-      | in_default w ↦
-          (let same : length c.match-put_back.shelf ≡ length c.loop-page.shelf = ap length w.shelf-is in
-          omega (arith, same, c.loop-page.invariant.few))
+        | in-Some w ↦
+            (let more : length c.match-put_back.shelf ≡ suc (length c.loop-page.shelf) = ap length (w.shelf-is ∙ w.push.ensures) in
+            omega (arith, more, c.loop-page.invariant.few))
+        | in_default w ↦
+            (let same : length c.match-put_back.shelf ≡ length c.loop-page.shelf = ap length w.shelf-is in
+            omega (arith, same, c.loop-page.invariant.few))
       ];
     }
 

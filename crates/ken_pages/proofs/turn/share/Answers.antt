@@ -1,5 +1,5 @@
-use Rattle.std.proofs.Common.{◌≡◌, false, set, ◌+◌, ◌<◌, length, map, take, get_or, refl, sym, ap, ◌∙◌, arith}
-use Rattle.ken_pages.specs.Paged.{page_of, with_bytes}
+use Rattle.std.proofs.Common.{◌≡◌, false, set, ◌+◌, get_or, refl, sym, ap, ◌∙◌, arith}
+use Rattle.ken_pages.specs.Paged.{page_of}
 use Rattle.ken_pages.specs.Layout.{now_bytes, own_pages}
 use Rattle.std.specs.List.{concat}
 use Rattle.std.specs.Arc.{arc_value}

@@ -1,4 +1,4 @@
-use Rattle.std.proofs.Common.{◌≡◌, ◌<◌, true, false, [], length, map, get_or, set, sym, ap, ◌∙◌, arith}
+use Rattle.std.proofs.Common.{◌≡◌, ◌<◌, false, [], length, map, get_or, set, sym, ap, ◌∙◌, arith}
 use Rattle.ken_pages.specs.Layout.{now_of, was_of, is_own, is_kept, now_bytes}
 use Rattle.ken_pages.specs.Paged.{page_of}
 use Rattle.ken_pages.proofs.Flat.{page_of-concat}

@@ -1,4 +1,4 @@
-use Rattle.std.proofs.Common.{◌≡◌, ℕ, Vec, Global, ◌<◌, true, false, [], ◌∷◌, ◌++◌, length, map, get_or, set, refl, sym, ap, subst, ◌∙◌, arith}
+use Rattle.std.proofs.Common.{◌≡◌, ℕ, Vec, Global, ◌<◌, true, false, length, map, get_or, set, sym, ap, subst, ◌∙◌, arith}
 use Rattle.ken_pages.specs.Layout.{Lists, now_of, was_of, is_own, is_kept, kept_pages}
 use Rattle.ken_pages.proofs.Listed.{Lists-more, Lists-again}
 use Rattle.ken_pages.proofs.Pages.{at_map, map_same, map_set, length_map, ArePages-same}
@@ -26,6 +26,6 @@ returns-clause-listed c =
     let now : kept_pages (set c.args.pages.now c.args.page c.own.new.self) ≡ set kept c.args.page true = map_set is_kept c.args.pages.now c.args.page c.own.new.self ∙ ap (λ b. set kept c.args.page b) c.own.ensures.kept in
     subst (λ ks. Lists c.if-not-is_kept.first.items ks) (sym now)
     (elim c.if-not-is_kept.branch [
-      then-not-is_kept w ↦ subst (λ qs. Lists qs (set kept c.args.page true)) (sym (ap (λ (v : Vec ℕ Global). v.items) w.first-is ∙ w.push_reserved.ensures.items)) (Lists-more c.args.first.now.items kept c.args.page below (here ∙ sym c.is_kept.ensures ∙ w.if-not-is_kept.true) c.requires.listed)
-    | else-not-is_kept w ↦ subst (λ qs. Lists qs (set kept c.args.page true)) (sym (ap (λ (v : Vec ℕ Global). v.items) w.first-is)) (Lists-again c.args.first.now.items kept c.args.page below (here ∙ sym c.is_kept.ensures ∙ w.if-not-is_kept.false) c.requires.listed)
+      | then-not-is_kept w ↦ subst (λ qs. Lists qs (set kept c.args.page true)) (sym (ap (λ (v : Vec ℕ Global). v.items) w.first-is ∙ w.push_reserved.ensures.items)) (Lists-more c.args.first.now.items kept c.args.page below (here ∙ sym c.is_kept.ensures ∙ w.if-not-is_kept.true) c.requires.listed)
+      | else-not-is_kept w ↦ subst (λ qs. Lists qs (set kept c.args.page true)) (sym (ap (λ (v : Vec ℕ Global). v.items) w.first-is)) (Lists-again c.args.first.now.items kept c.args.page below (here ∙ sym c.is_kept.ensures ∙ w.if-not-is_kept.false) c.requires.listed)
     ])

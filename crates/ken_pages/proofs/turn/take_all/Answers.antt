@@ -1,4 +1,4 @@
-use Rattle.std.proofs.Common.{◌≡◌, ℕ, List, Bool, ◌+◌, ◌-◌, ◌<◌, ◌≤◌, suc, true, false, length, map, get_or, set, refl, sym, ap, ◌∙◌, arith}
+use Rattle.std.proofs.Common.{◌≡◌, ℕ, List, Bool, ◌+◌, ◌-◌, ◌≤◌, suc, true, false, get_or, set, refl, sym, ap, ◌∙◌, arith}
 use Rattle.ken_pages.specs.Paged.{with_own, lacking, missing}
 use Rattle.ken_pages.specs.Layout.{is_own, own_pages}
 use Rattle.ken_pages.proofs.Pages.{length_map}

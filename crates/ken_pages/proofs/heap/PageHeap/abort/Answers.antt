@@ -1,5 +1,5 @@
-use Rattle.std.proofs.Common.{◌≡◌, ◌+◌, ◌≤◌, [], false, length, map, replicate, refl, sym, ap, subst, ◌∙◌, arith}
-use Rattle.ken_pages.specs.Layout.{ArePages, Lists, IsHeap, now_of, was_of, paged_of, was_bytes, own_pages, kept_pages}
+use Rattle.std.proofs.Common.{◌≡◌, ◌+◌, [], false, length, map, replicate, sym, ap, subst, ◌∙◌, arith}
+use Rattle.ken_pages.specs.Layout.{Lists, now_of, was_of, paged_of, was_bytes, own_pages, kept_pages}
 use Rattle.ken_pages.specs.Paged.{Paged, own_count}
 use Rattle.ken_pages.proofs.Parts.{lent_whole}
 use Rattle.ken_pages.proofs.Pages.{own_view}

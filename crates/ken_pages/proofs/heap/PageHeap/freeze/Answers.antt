@@ -1,4 +1,4 @@
-use Rattle.std.proofs.Common.{◌≡◌, ℕ, List, Bool, true, false, All, get_or, sym, subst, ◌∙◌}
+use Rattle.std.proofs.Common.{◌≡◌, ℕ, List, true, false, All, get_or, sym, subst, ◌∙◌}
 use Rattle.ken_pages.specs.declared.page.Page.{Page}
 use Rattle.ken_pages.specs.Layout.{kept_pages}
 use Rattle.ken_pages.proofs.heap.PageHeap.freeze.Goals as goal

@@ -1,7 +1,7 @@
-use Rattle.std.proofs.Common.{◌≡◌, ◌*◌, ◌<◌, [], false, length, refl, sym, ap, subst, ◌∙◌, arith}
+use Rattle.std.proofs.Common.{◌≡◌, ◌*◌, [], false, length, sym, ap, subst, ◌∙◌, arith}
 use Rattle.ken_pages.specs.Paged.{Paged}
 use Rattle.ken_pages.specs.Layout.{Lists, was_bytes, kept_pages}
-use Rattle.ken_pages.proofs.Pages.{length_view, length_pages, on_err}
+use Rattle.ken_pages.proofs.Pages.{length_view, length_pages}
 use Rattle.ken_pages.proofs.Parts.{lent_whole}
 use Rattle.ken_pages.proofs.Idle.{not_begun}
 use Rattle.ken_pages.proofs.heap.PageHeap.load.Goals as goal

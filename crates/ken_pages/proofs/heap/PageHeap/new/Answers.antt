@@ -1,7 +1,7 @@
 use Rattle.std.proofs.Common.{◌≡◌, ℕ, ◌+◌, ◌*◌, ◌++◌, false, [], ◌∷◌, length, map, replicate, refl, sym, ap, subst, ◌∙◌, arith}
 use Rattle.std.specs.List.{concat}
 use Rattle.std.proofs.lemmas.List.{length_push, length-replicate, map_push, replicate-append-replicate}
-use Rattle.ken_pages.specs.Layout.{AreWhole, ArePages, now_of, was_of, is_own, is_kept, now_bytes, kept_pages}
+use Rattle.ken_pages.specs.Layout.{AreWhole, now_of, was_of, is_kept, kept_pages}
 use Rattle.ken_pages.proofs.Flat.{AreWhole-push, concat_zeros_more}
 use Rattle.ken_pages.proofs.Counted.{none_own}
 use Rattle.ken_pages.proofs.Idle.{paged_is}

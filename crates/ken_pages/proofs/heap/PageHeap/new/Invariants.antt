@@ -1,5 +1,5 @@
-use Rattle.std.proofs.Common.{◌≡◌, ◌*◌, length, map, replicate, false}
-use Rattle.ken_pages.specs.Layout.{ArePages, now_of, now_bytes, kept_pages, own_pages}
+use Rattle.std.proofs.Common.{◌≡◌, ◌*◌, length, replicate, false}
+use Rattle.ken_pages.specs.Layout.{ArePages, now_bytes, kept_pages}
 use Rattle.ken_pages.proofs.heap.PageHeap.new.Given as goal
 
 abbrev pub invariant-loop-page : goal.invariant-loop-page

@@ -1,8 +1,7 @@
-use Rattle.std.proofs.Common.{◌≡◌, ℕ, ◌+◌, ◌-◌, ◌*◌, ◌/◌, ◌<◌, ◌≤◌, length, sym, ap, ◌∙◌, arith}
-use Rattle.ken_pages.specs.Paged.{lacking, touched}
+use Rattle.std.proofs.Common.{◌≡◌, ◌+◌, ◌-◌, ◌*◌, ◌/◌, length, ap, arith}
 use Rattle.ken_pages.specs.Layout.{own_pages}
 use Rattle.ken_pages.proofs.Pages.{length_view}
-use Rattle.ken_pages.proofs.Counted.{touched-some, lacking-few}
+use Rattle.ken_pages.proofs.Counted.{lacking-few}
 use Rattle.ken_pages.proofs.heap.PageHeap.own.Goals as goal
 
 pub overflow_add-end : goal.overflow_add-end

@@ -1,4 +1,4 @@
-use Rattle.std.proofs.Common.{◌≡◌, ◌*◌, length, IfSome, subst, sym, arith}
+use Rattle.std.proofs.Common.{◌≡◌, ◌*◌, length, IfSome, subst, arith}
 use Rattle.ken_pages.proofs.Pages.{length_view, begun_view}
 use Rattle.ken_pages.proofs.heap.PageHeap.pages.Goals as goal
 
