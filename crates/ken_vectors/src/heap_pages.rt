@@ -185,7 +185,7 @@ fn a_page_is_loaded_from_a_frame(rt: HostRuntime) -> Result<(), AllocError> {
     frame.write(0, &[1]);
     frame.write(255, &[2]);
     let mut heap = PageHeap::new(alloc, 2)?;
-    heap.load(1, &frame);
+    heap.load(1, &frame)?;
     check_bytes(&rt, &heap, &[(256, 1), (511, 2)])
 }
 
