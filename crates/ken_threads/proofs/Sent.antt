@@ -5,9 +5,15 @@ use Rattle.ken_frame.proofs.raw.Own.TheSendSync as own
 use Rattle.std.proofs.Crossing as std
 use Rattle.std.proofs.alloc.Global.TheSendSync as global
 use Rattle.std.proofs.option.Option.TheSendSync as option
-use Rattle.std.proofs.rt.Memory.TheSendSync as memory
 use Rattle.std.proofs.sync.Arc.TheSendSync as arc
 use Rattle.std.proofs.vec.Vec.TheSendSync as vec
+use denote.RattleType.{RattleType}
+use Rattle.rtrb.proofs.end.End.TheSendSync as ring
+use Rattle.std_alloc.proofs.vec.deque.VecDeque.TheSendSync as deque
+use Rattle.ken_store.specs.contracts.turning.TurnSide as turning
+use Rattle.ken_store.specs.contracts.patching.PatchSide as patching
+use Rattle.ken_work.specs.contracts.worker.TurnWorker as worker
+use Rattle.ken_work.specs.contracts.patcher.PatchWorker as patcher
 use Rattle.ken_frame.specs.contracts.frame.Frame as frame
 use Rattle.ken_pages.specs.contracts.heap.PageHeap as heap
 
@@ -19,3 +25,15 @@ frame_syncs = search (option.the_field_send, option.the_send, option.the_field_s
 
 pub heap_sends : IsSend heap.the_row
 heap_sends = search (option.the_field_send, option.the_send, option.the_field_sync, option.the_sync, own.the_send, own.the_sync, arc.the_send, arc.the_sync, vec.the_send, vec.the_sync, global.the_field_send, global.the_send, global.the_field_sync, global.the_sync, std.crosses, knot.crosses, sendable) depth 60 fits 20000
+
+pub turn_side_sends : (D : RattleType) → IsSend D → IsSend (turning.the_row D)
+turn_side_sends D d = search (heap_sends, frame_sends, frame_syncs, ring.the_send, option.the_field_send, option.the_send, option.the_field_sync, option.the_sync, arc.the_send, arc.the_sync, vec.the_send, vec.the_sync, deque.the_send, deque.the_sync, global.the_field_send, global.the_send, global.the_field_sync, global.the_sync, std.crosses, sendable) depth 60 fits 20000
+
+pub patch_side_sends : (D : RattleType) → IsSend D → IsSend (patching.the_row D)
+patch_side_sends D d = search (heap_sends, frame_sends, frame_syncs, ring.the_send, option.the_field_send, option.the_send, option.the_field_sync, option.the_sync, arc.the_send, arc.the_sync, vec.the_send, vec.the_sync, deque.the_send, deque.the_sync, global.the_field_send, global.the_send, global.the_field_sync, global.the_sync, std.crosses, sendable) depth 60 fits 20000
+
+pub turn_worker_sends : (D : RattleType) → IsSend D → IsSend (worker.the_row D)
+turn_worker_sends D d = search (turn_side_sends, heap_sends, frame_sends, frame_syncs, ring.the_send, option.the_field_send, option.the_send, option.the_field_sync, option.the_sync, arc.the_send, arc.the_sync, vec.the_send, vec.the_sync, deque.the_send, deque.the_sync, global.the_field_send, global.the_send, global.the_field_sync, global.the_sync, std.crosses, sendable) depth 60 fits 20000
+
+pub patch_worker_sends : (D : RattleType) → IsSend D → IsSend (patcher.the_row D)
+patch_worker_sends D d = search (patch_side_sends, heap_sends, frame_sends, frame_syncs, ring.the_send, option.the_field_send, option.the_send, option.the_field_sync, option.the_sync, arc.the_send, arc.the_sync, vec.the_send, vec.the_sync, deque.the_send, deque.the_sync, global.the_field_send, global.the_send, global.the_field_sync, global.the_sync, std.crosses, sendable) depth 60 fits 20000

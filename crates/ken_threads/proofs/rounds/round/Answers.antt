@@ -4,6 +4,7 @@ use Rattle.std.proofs.lemmas.List.{with_items_is}
 use Rattle.ken_threads.specs.Wires.{AreNew, ends_of}
 use Rattle.ken_threads.proofs.Rounding.{acks_served, has_room, HasBegun, HasEnded, mail_served, net_of, rounded, teams_ready}
 use denote.Param.Send.{sendable}
+use Rattle.crossbeam_queue.proofs.array_queue.ArrayQueue.TheSendSync as queue
 use Rattle.rtrb.proofs.end.End.TheSendSync as ring
 use Rattle.std.proofs.Crossing as std
 use Rattle.std.proofs.alloc.Global.TheSendSync as global
@@ -11,7 +12,7 @@ use Rattle.std.proofs.option.Option.TheSendSync as option
 use Rattle.std.proofs.sync.Arc.TheSendSync as arc
 use Rattle.std.proofs.vec.Vec.TheSendSync as vec
 use Rattle.std_alloc.proofs.vec.deque.VecDeque.TheSendSync as deque
-use Rattle.ken_threads.proofs.Sent.{frame_sends, frame_syncs, heap_sends}
+use Rattle.ken_threads.proofs.Sent.{frame_sends, frame_syncs, patch_worker_sends, turn_worker_sends}
 use Rattle.ken_threads.proofs.rounds.round.Given.{Over}
 use Rattle.ken_threads.proofs.rounds.round.Goals as goal
 use Rattle.ken_threads.proofs.rounds.round.Goals.{After-seat_all, After-run_teams, After-unseat_all}
@@ -92,7 +93,7 @@ returns-clause-ok g c =
 
 -- the workers may go to other threads
 pub run_teams-requires-send-T : goal.run_teams-requires-send-T
-run_teams-requires-send-T g c κs within = search (heap_sends, frame_sends, frame_syncs, ring.the_send, arc.the_send, vec.the_send, deque.the_send, option.the_field_send, option.the_send, global.the_field_send, global.the_send, global.the_sync, std.crosses, sendable) depth 60 fits 20000
+run_teams-requires-send-T g c κs within = search (turn_worker_sends, c.type_bounds.send-D, c.type_bounds.send-O, c.type_bounds.sync-R, c.type_bounds.sync-A, queue.the_send, queue.the_sync, patch_worker_sends, frame_sends, frame_syncs, ring.the_send, arc.the_send, vec.the_send, deque.the_send, option.the_field_send, option.the_send, global.the_field_send, global.the_send, global.the_sync, std.crosses, sendable) depth 60 fits 20000
 
 pub run_teams-requires-send-P : goal.run_teams-requires-send-P
-run_teams-requires-send-P g c κs within = search (heap_sends, frame_sends, frame_syncs, ring.the_send, arc.the_send, vec.the_send, deque.the_send, option.the_field_send, option.the_send, global.the_field_send, global.the_send, global.the_sync, std.crosses, sendable) depth 60 fits 20000
+run_teams-requires-send-P g c κs within = search (turn_worker_sends, patch_worker_sends, frame_sends, frame_syncs, ring.the_send, arc.the_send, vec.the_send, deque.the_send, option.the_field_send, option.the_send, global.the_field_send, global.the_send, global.the_sync, std.crosses, sendable) depth 60 fits 20000
