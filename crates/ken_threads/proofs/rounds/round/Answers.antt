@@ -4,7 +4,13 @@ use Rattle.std.proofs.lemmas.List.{with_items_is}
 use Rattle.ken_threads.specs.Wires.{AreNew, ends_of}
 use Rattle.ken_threads.proofs.Rounding.{acks_served, has_room, HasBegun, HasEnded, mail_served, net_of, rounded, teams_ready}
 use denote.Param.Send.{sendable}
-use Rattle.crossbeam_queue.proofs.array_queue.ArrayQueue.TheSendSync as queue
+use Rattle.atomic_table.proofs.badge.Badge.TheSendSync as badge
+use Rattle.atomic_table.proofs.shared.Seat.TheSendSync as seat
+use Rattle.atomic_table.proofs.shared.Shared.TheSendSync as shared
+use Rattle.atomic_table.proofs.ruled.Mark.TheSendSync as mark
+use Rattle.atomic_table.proofs.ruled.RuledPerch.TheSendSync as ruled
+use Rattle.atomic_table.proofs.perch.Perch.TheSendSync as perch
+use Rattle.atomic_table.proofs.send_lease.SendLease.TheSendSync as lease
 use Rattle.rtrb.proofs.end.End.TheSendSync as ring
 use Rattle.std.proofs.Crossing as std
 use Rattle.std.proofs.alloc.Global.TheSendSync as global
@@ -93,7 +99,7 @@ returns-clause-ok g c =
 
 -- the workers may go to other threads
 pub run_teams-requires-send-T : goal.run_teams-requires-send-T
-run_teams-requires-send-T g c κs within = search (turn_worker_sends, c.type_bounds.send-D, c.type_bounds.send-O, c.type_bounds.sync-R, c.type_bounds.sync-A, queue.the_send, queue.the_sync, patch_worker_sends, frame_sends, frame_syncs, ring.the_send, arc.the_send, vec.the_send, deque.the_send, option.the_field_send, option.the_send, global.the_field_send, global.the_send, global.the_sync, std.crosses, sendable) depth 60 fits 20000
+run_teams-requires-send-T g c κs within = search (turn_worker_sends, c.type_bounds.send-D, c.type_bounds.send-O, c.type_bounds.sync-R, c.type_bounds.sync-A, badge.the_send, seat.the_send, shared.the_send, shared.the_sync, mark.the_send, ruled.the_send, ruled.the_sync, perch.the_send, perch.the_sync, lease.the_send, lease.the_sync, patch_worker_sends, frame_sends, frame_syncs, ring.the_send, arc.the_send, vec.the_send, deque.the_send, option.the_field_send, option.the_send, global.the_field_send, global.the_send, global.the_sync, std.crosses, sendable) depth 60 fits 20000
 
 pub run_teams-requires-send-P : goal.run_teams-requires-send-P
 run_teams-requires-send-P g c κs within = search (turn_worker_sends, patch_worker_sends, frame_sends, frame_syncs, ring.the_send, arc.the_send, vec.the_send, deque.the_send, option.the_field_send, option.the_send, global.the_field_send, global.the_send, global.the_sync, std.crosses, sendable) depth 60 fits 20000
