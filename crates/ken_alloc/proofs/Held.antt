@@ -193,23 +193,19 @@ module _ (xs : List ℕ) (v : Value) (stands : StandsFor xs v) where
       }
 
 -- a head is written, or nothing
-pub KeepsOutside-gap : {X : Type 0} (r : Result X AllocError) (old new : Paged) (ys : List ℕ) (from to : ℕ) → length ys ≡ 16 → from + 16 ≤ to → to ≤ length old.bytes → OnOk r (new.bytes ≡ written old.bytes from ys) → OnErr r (new ≡ old) → KeepsOutside from to old.bytes new.bytes
+pub KeepsOutside-gap : {X : Type 0} (r : Result X AllocError) (old new : Paged) (ys : List ℕ) (from to : ℕ) → length ys ≡ 16 → from + 16 ≤ to → to ≤ length old.bytes → OnOk r (new.bytes ≡ written old.bytes from ys) → OnErr r (new.bytes ≡ old.bytes) → KeepsOutside from to old.bytes new.bytes
 KeepsOutside-gap (Ok x) old new ys from to long fits within ok err = KeepsOutside-wider from (from + 16) from to old.bytes new.bytes (omega arith) fits (KeepsOutside-after old.bytes new.bytes ys from 16 long (omega arith) ok)
-KeepsOutside-gap (Err e) old new ys from to long fits within ok err = subst (λ (p : Paged). KeepsOutside from to old.bytes p.bytes) (sym err) (KeepsOutside-same from to old.bytes)
+KeepsOutside-gap (Err e) old new ys from to long fits within ok err = subst (λ (ws : List ℕ). KeepsOutside from to old.bytes ws) (sym err) (KeepsOutside-same from to old.bytes)
 
 -- the pages are those of a heap after a change
 pub held_after : {X : Type 0} → (r : Result X AllocError) (old new : Paged) (v : Value) → IsHeld old → IfOk r (λ _. StandsFor new.bytes v) → OnErr r (StandsFor new.bytes (value_of new.bytes)) → new.begun ≡ old.begun → IsHeld new
 held_after (Ok x) old new v held ok err begun = record { now = StandsFor-value new.bytes v ok; before = subst (λ (o : Option (List ℕ)). IfSome o (λ b. StandsFor b (value_of b))) (sym begun) held.before }
 held_after (Err e) old new v held ok err begun = record { now = err; before = subst (λ (o : Option (List ℕ)). IfSome o (λ b. StandsFor b (value_of b))) (sym begun) held.before }
 
--- an error that changed nothing
-pub err_same : {X : Type 0} → (r : Result X AllocError) (old new : Paged) → IsHeld old → OnErr r (new ≡ old) → OnErr r (StandsFor new.bytes (value_of new.bytes))
+-- an error that changed no byte
+pub err_same : {X : Type 0} → (r : Result X AllocError) (old new : Paged) → IsHeld old → OnErr r (new.bytes ≡ old.bytes) → OnErr r (StandsFor new.bytes (value_of new.bytes))
 err_same (Ok x) old new held same = same
-err_same (Err e) old new held same = subst (λ (p : Paged). StandsFor p.bytes (value_of p.bytes)) (sym same) held.now
-
-pub begun_same : {X : Type 0} → (r : Result X AllocError) (old new : Paged) → OnOk r (new.begun ≡ old.begun) → OnErr r (new ≡ old) → new.begun ≡ old.begun
-begun_same (Ok x) old new ok err = ok
-begun_same (Err e) old new ok err = ap (λ (p : Paged). p.begun) err
+err_same (Err e) old new held same = subst (λ (ws : List ℕ). StandsFor ws (value_of ws)) (sym same) held.now
 
 pub if_found : (o : Option (List ℕ)) (P : List ℕ → Type 0) (x : List ℕ) → o ≡ Some x → IfSome o P → P x
 if_found o P x is h = subst (λ (q : Option (List ℕ)). IfSome q P) is h

@@ -30,13 +30,13 @@ pub(crate) fn read(pages: &PageHeap, at: u64) -> Head
     }
 }
 
-// Writes a head. After an error nothing has changed.
+// Writes a head. After an error no byte has changed.
 pub(crate) fn write(pages: &mut PageHeap, at: u64, head: Head) -> Result<(), AllocError>
     requires begun { IsSome pages.old.begun }
     requires within { at + 16 ≤ length pages.old.bytes }
     ensures bytes { OnOk result (pages.new.bytes ≡ written pages.old.bytes at (head_bytes head.span head.len)) }
     ensures begun { pages.new.begun ≡ pages.old.begun }
-    ensures unchanged { OnErr result (pages.new ≡ pages.old) }
+    ensures unchanged { OnErr result (pages.new.bytes ≡ pages.old.bytes) }
 {
     pages.write(at, &head.bytes())
 }

@@ -81,7 +81,7 @@ impl Objects {
 
     /// The pages again.
     pub fn into_pages(self) -> PageHeap
-        ensures same { result ≡ record { bytes = self.bytes; begun = self.begun } }
+        ensures same { (result.bytes ≡ self.bytes) × (result.begun ≡ self.begun) }
         ensures stands { StandsFor self.bytes self.value }
     {
         self.pages
@@ -243,10 +243,11 @@ impl Objects {
         self.pages.dirty()
     }
 
-    /// Those pages with their bytes as they are now.
-    pub fn freeze(&self) -> Result<Vec<(u32, Arc<Frame>)>, AllocError>
-        requires { IsSome self.now.begun }
-        ensures { IfOk result (λ frozen. IfSome self.now.begun (λ before. shared_pages frozen.items ≡ frozen_pages before self.now.bytes)) }
+    /// Those pages, each with a share of its bytes as they are now: none is copied.
+    pub fn freeze(&mut self) -> Result<Vec<(u32, Arc<Frame>)>, AllocError>
+        requires { IsSome self.old.begun }
+        ensures pages { IfOk result (λ frozen. IfSome self.old.begun (λ before. shared_pages frozen.items ≡ frozen_pages before self.old.bytes)) }
+        ensures same { self.new ≡ self.old }
     {
         self.pages.freeze()
     }

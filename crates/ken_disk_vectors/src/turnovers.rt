@@ -149,7 +149,7 @@ fn turn_over(
         return Err(Fail::from("the log is too long"));
     }
     let base = base(alloc)?;
-    Ok(log.turnover(alloc, other, &base))
+    Ok(log.turnover(alloc, other, base))
 }
 
 // What is mounted.

@@ -1,1 +1,4 @@
+pub mod Crosses
+pub mod Lends
+pub mod Owns
 pub mod Written

@@ -1,4 +1,4 @@
-ghost use Rattle.std.specs.Prelude.{◌≡◌, ℕ, ◌+◌, ◌≤◌, ◌<◌, ◌^◌, ◌∷◌, ◌++◌, [], List, length, true, Some, OnOk, OnErr, IfOk, IsErrOf};
+ghost use Rattle.std.specs.Prelude.{◌≡◌, ℕ, ◌+◌, ◌≤◌, ◌<◌, ◌^◌, ◌∷◌, ◌++◌, [], List, length, true, Some, OnOk, IfOk, IsErrOf};
 ghost use Rattle.ken_disk.specs.Fates.{Suffers};
 ghost use Rattle.ken_disk.specs.Story.{Follows, IsAtRest};
 ghost use Rattle.ken_record.specs.Grammar.{IsHeader, IsBase};
@@ -14,7 +14,7 @@ use crate::SealFault;
 use crate::beginning::begin;
 use crate::log::{CLOSED, HEADER_LEN, Log};
 use ken_disk::{Disk, DiskFault};
-use ken_record::{Base, Header, decode_base};
+use ken_record::{Base, Header};
 use std::alloc::{AllocError, Global};
 use std::mem;
 
@@ -24,42 +24,41 @@ const HEADER_FIELDS: usize = 31;
 impl<D: Disk> Log<D> {
     /// Goes over to a log of the next generation on another disk, with this base and no records, by the six calls of a format
     /// on that disk. After `Ok` the two disks have changed places: this log is the new one, and `other` is the disk of the old
-    /// one, as it was. After an error they haven't, and this log's own disk is as it was. Of another disk that has nothing
-    /// pending, a crash at any moment leaves the bytes that were there, whatever they are, no log, or the whole new one; after
-    /// `Memory` not the new one, and this log goes on; after `Disk` this is in doubt, and this log is spent: it takes no more
-    /// seals.
-    pub fn turnover(&mut self, alloc: Global, other: &mut D, base: &Base) -> Result<(), SealFault>
+    /// one, as it was. After an error they haven't, this log's own disk is as it was, and the base is dropped. Of another disk
+    /// that has nothing pending, a crash at any moment leaves the bytes that were there, whatever they are, no log, or the whole
+    /// new one; after `Memory` not the new one, and this log goes on; after `Disk` this is in doubt, and this log is spent: it
+    /// takes no more seals.
+    pub fn turnover(&mut self, alloc: Global, other: &mut D, base: Base) -> Result<(), SealFault>
         requires settled { IsSettled D.told D.size self.old }
-        requires base { IsBase (version_of self.old.header) base.now }
-        requires length { length (base_bytes (version_of self.old.header) base.now) < 2 ^ 32 }
+        requires base { IsBase (version_of self.old.header) base }
+        requires length { length (base_bytes (version_of self.old.header) base) < 2 ^ 32 }
         requires generation { self.old.header.generation + 1 < 2 ^ 32 }
         requires turns { self.old.header.turns + self.old.records < 2 ^ 64 }
         ensures story { Follows
-            (λ h s. IsAtRest h.now → Replaces (Whole (next_header self.old base.now) (Some base.now) []) result h s)
+            (λ h s. IsAtRest h.now → Replaces (Whole (next_header self.old base) (Some base) []) result h s)
             (D.told other.old) (D.told (written_disk result self.new other.new)) }
         ensures calls { Follows
             (λ h s. MadeAfterRead (as_disk result)
-            (log_writes (next_header self.old base.now) (Some base.now) h.now.seen) h s)
+            (log_writes (next_header self.old base) (Some base) h.now.seen) h s)
             (D.told other.old) (D.told (written_disk result self.new other.new)) }
         ensures own { old_disk result self.new other.new ≡ self.old.disk }
         ensures settled { OnOk result (IsSettled D.told D.size self.new) }
-        ensures made { OnOk result ((self.new.header ≡ next_header self.old base.now)
-            × (self.new.base ≡ Some base.now) × (self.new.records ≡ 0)
-            × (self.new.end ≡ 32 + length (base_bytes (version_of self.old.header) base.now))) }
+        ensures made { OnOk result ((self.new.header ≡ next_header self.old base)
+            × (self.new.base ≡ Some base) × (self.new.records ≡ 0)
+            × (self.new.end ≡ 32 + length (base_bytes (version_of self.old.header) base))) }
         ensures goes_on { IsErrOf result SealFault.Memory → self.new ≡ self.old }
         ensures rests { IsErrOf result SealFault.Memory → Follows (λ h s. IsAtRest h.now → IsAtRest s.now) (D.told other.old) (D.told other.new) }
         ensures spent { IsErrOf result SealFault.Disk → self.new ≡ record self.old { spent = true } }
         ensures cause { HasLogCause (D.faults other.old) (D.faults (written_disk result self.new other.new)) result }
         ensures fate { Follows (Suffers (as_disk result)) (D.fate other.old) (D.fate (written_disk result self.new other.new)) }
     {
-        let header = self.next_header(base);
-        let body = staged(alloc, &header, base)?;
-        let kept = base_in(alloc, &header, base, &body)?;
+        let header = self.next_header(&base);
+        let body = staged(alloc, &header, &base)?;
         match begin(other, &body) {
             Ok(()) => {
                 mem::swap(&mut self.disk, other);
                 self.header = header;
-                self.base = Some(kept);
+                self.base = Some(base);
                 self.records = 0;
                 self.end = HEADER_LEN + u64::from(header.base_len);
                 Ok(())
@@ -100,18 +99,4 @@ fn staged(alloc: Global, header: &Header, base: &Base) -> Result<Vec<u8>, AllocE
     base.put(&mut body)?;
     body.push(CLOSED)?;
     Ok(body)
-}
-
-// A copy of the base, read from what is written. These bytes are its own, so that only memory can be wanting.
-fn base_in(alloc: Global, header: &Header, base: &Base, body: &[u8]) -> Result<Base, SealFault>
-    requires base { IsBase (version_of header.now) base.now }
-    requires length { length (base_bytes (version_of header.now) base.now) ≡ header.now.base_len }
-    requires body { body.now ≡ (header_bytes header.now ++ base_bytes (version_of header.now) base.now) ++ 0 ∷ [] }
-    ensures ok { IfOk result (λ copy. copy ≡ base.now) }
-    ensures err { OnErr result (IsErrOf result SealFault.Memory) }
-{
-    match decode_base(alloc, header.base_len, &body[HEADER_FIELDS..]) {
-        Ok(copy) => Ok(copy),
-        Err(_) => Err(SealFault::Memory),
-    }
 }

@@ -1,140 +1,228 @@
--- The pages that a turn changed, from the frames that it saved.
-use Rattle.std.proofs.Common.{◌≡◌, ◌≢◌, ℕ, ◌+◌, ◌/◌, ◌<◌, ◌≤◌, suc, zero, List, [], ◌∷◌, length, get_or, set, refl, sym, ap, ◌∙◌, subst, arith, length-set, get_or-set_other, get_or-set_same, Bool, true, false, not, Some, None, cond, unwrap_or, All}
-use Rattle.std.specs.List.{concat, filter, range_with_len, AllByRecursion}
-use Rattle.std.specs.List.Sorted.{IsStrictlySortedBy}
+-- The pages that a turn changed, in rising order.
+use Rattle.std.proofs.Common.{◌≡◌, ◌≢◌, ℕ, ◌+◌, ◌/◌, ◌<◌, ◌≤◌, suc, zero, List, [], ◌∷◌, ◌++◌, length, map, take, get_or, refl, sym, ap, ap₂, ◌∙◌, arith, Bool, true, false, not, cond, ⊎_elim, true≢false, take-suc}
+use Rattle.std.specs.List.{filter, range_with_len}
+use Rattle.std.specs.List.Sorted.{IsPermutation, IsSorted, IsNonDecreasingBy}
 use Rattle.std.specs.Str.{bytes_eq}
-use Rattle.std.specs.Ordering.{MatchOrdering, nat_cmp, is_eq}
+use Rattle.std.specs.Ordering.{nat_cmp, MatchOrdering}
 use Rattle.std.specs.declared.cmp.Ordering.{Ordering}
 use Rattle.std.specs.declared.cmp.Ordering.TheVariants.{Less, Equal, Greater}
-use Rattle.std.specs.Map.{keys_of}
-use Rattle.std.proofs.lemmas.Cmp.{ranked, by_ranked}
-use Rattle.std.proofs.lemmas.List.Elements.{All-head, All-tail}
-use Rattle.std.proofs.lemmas.Slice.Eq.{bytes_eq-Decides}
+use Rattle.std.proofs.lemmas.Cmp.{ranked}
+use Rattle.std.proofs.lemmas.Bool.Decides.{eqb_tells}
+use Rattle.std.proofs.lemmas.List.Sorted.{sum_by-IsPermutation, IsNonDecreasingBy-from_sort}
+use Rattle.std.specs.List.{fold, sum_by}
+use Rattle.ken_pages.specs.declared.page.Page.{Page}
 use Rattle.ken_pages.specs.Paged.{page_of, page_differs, dirty_pages}
-use Rattle.ken_pages.specs.Layout.{AreWhole, AreWithin, restored, changed_of}
-use Rattle.ken_pages.proofs.Flat.{length-concat_whole, page_of-concat}
-use Rattle.ken_pages.proofs.Restored.{saved_at, length-restored, AreWhole-restored}
+use Rattle.ken_pages.specs.Layout.{ArePages, Lists, times, once, now_of, was_of, is_kept, differs, differs_at, now_bytes, was_bytes, kept_pages}
+use Rattle.std.proofs.lemmas.Slice.Eq.{bytes_eq-Decides}
+use Rattle.ken_pages.proofs.Counted.{was_unless}
+use Rattle.ken_pages.proofs.Flat.{page_of-concat}
+use Rattle.ken_pages.proofs.Listed.{times-same, times-other}
+use Rattle.ken_pages.proofs.Pages.{at_map, length_map, length_pages}
 
--- an entry
-abbrev Entry : Type 0
-Entry = ℕ × List ℕ
-
--- the pages rise, from low on
-abbrev Rises : ℕ → List Entry → Type 0
+-- each is at least low, and none falls below the one before it
+abbrev Rises : ℕ → List ℕ → Type 0
 Rises low [] = Unit {0}
-Rises low (e ∷ es) = (low ≤ e.0) × Rises (e.0 + 1) es
+Rises low (x ∷ xs) = (low ≤ x) × Rises x xs
 
--- so they do in a map
-Rises-from_sorted : (low : ℕ) (es : List Entry) → AllByRecursion (λ k. low ≤ k) (keys_of es) → IsStrictlySortedBy nat_cmp (keys_of es) → Rises low es
-unfolding IsStrictlySortedBy
-Rises-from_sorted low [] all sorted = tt
-Rises-from_sorted low (e ∷ es) all sorted = (all.0, Rises-from_sorted (e.0 + 1) es (above (keys_of es) sorted.0) sorted.1)
+Rises-lower : (a low : ℕ) (xs : List ℕ) → a ≤ low → Rises low xs → Rises a xs
+Rises-lower a low [] le rises = tt
+Rises-lower a low (x ∷ xs) le rises = (omega (arith, le, rises.0), rises.1)
+
+-- what is below all is never there
+times-below : (low p : ℕ) (xs : List ℕ) → Rises low xs → p < low → times p xs ≡ 0
+times-below low p [] rises lt = refl
+times-below low p (x ∷ xs) rises lt =
+    let head : times p (x ∷ []) ≡ 0 = times-other p x (λ e. absurd (omega (arith, e, lt, rises.0))) in
+    let rest : times p xs ≡ 0 = times-below x p xs rises.1 (omega (arith, lt, rises.0)) in
+    omega (arith, head, rest)
+
+-- rising lists that have each number as often are the same
+rising_same : (a b : ℕ) (xs ys : List ℕ) → Rises a xs → Rises b ys → ((p : ℕ) → times p xs ≡ times p ys) → xs ≡ ys
+rising_same a b [] [] ra rb same = refl
+rising_same a b [] (y ∷ ys) ra rb same = absurd (omega (arith, same y, times-same y))
+rising_same a b (x ∷ xs) [] ra rb same = absurd (omega (arith, same x, times-same x))
+rising_same a b (x ∷ xs) (y ∷ ys) ra rb same = go (nat_cmp x y) (ranked x y (nat_cmp x y) refl) (λ rest. rising_same x y xs ys ra.1 rb.1 rest)
   where
-    above : (ks : List ℕ) → AllByRecursion (λ k. nat_cmp e.0 k ≡ Less) ks → AllByRecursion (λ k. e.0 + 1 ≤ k) ks
-    above [] all = tt
-    above (k ∷ ks) all = (let lt : e.0 < k = ranked e.0 k Less (sym all.0) in omega arith, above ks all.1)
+    go : (o : Ordering) → MatchOrdering o (x < y) (x ≡ y) (y < x) → (((p : ℕ) → times p xs ≡ times p ys) → xs ≡ ys) → x ∷ xs ≡ y ∷ ys
+    go Less lt tails =
+        let here : times x (y ∷ ys) ≡ 0 = times-below y x (y ∷ ys) (omega arith, rb.1) lt in
+        absurd (omega (arith, here, same x, times-same x))
+    go Equal is tails = ap₂ (λ z zs. z ∷ zs) is (tails rest)
+      where
+        rest : (p : ℕ) → times p xs ≡ times p ys
+        rest p =
+            let both : times p (x ∷ xs) ≡ times p (y ∷ ys) = same p in
+            let head : times p (x ∷ []) ≡ times p (y ∷ []) = ap (λ z. times p (z ∷ [])) is in
+            omega (arith, both, head)
+    go Greater gt tails =
+        let here : times y (x ∷ xs) ≡ 0 = times-below x y (x ∷ xs) (omega arith, ra.1) gt in
+        absurd (omega (arith, here, same y, times-same y))
 
-all_from_zero : (ks : List ℕ) → AllByRecursion (λ k. 0 ≤ k) ks
-all_from_zero [] = tt
-all_from_zero (k ∷ ks) = (omega arith, all_from_zero ks)
+-- a sorted list rises
+rises_on : (x : ℕ) (xs : List ℕ) → IsNonDecreasingBy (λ y. y) (x ∷ xs) → Rises x xs
+rises_on x [] ok = tt
+rises_on x (y ∷ ys) ok = (ok 0 1 0 (omega arith) (omega arith), rises_on y ys (λ i j d le lt. ok (suc i) (suc j) d (omega (arith, le)) (omega (arith, lt))))
 
--- the entry of another page does not count
-saved_at-other : (e : Entry) (es : List Entry) (p : ℕ) → p ≢ e.0 → saved_at (e ∷ es) p ≡ saved_at es p
-saved_at-other e es p ne = go (nat_cmp p e.0) (ranked p e.0 (nat_cmp p e.0) refl)
+pub rises_sorted : (xs : List ℕ) → IsSorted nat_cmp xs → Rises 0 xs
+rises_sorted [] sorted = tt
+rises_sorted (x ∷ xs) sorted = (omega arith, rises_on x xs (IsNonDecreasingBy-from_sort (λ y. y) (x ∷ xs) sorted))
+
+-- a range rises, and so does what is taken from it
+rises_filter : (P : ℕ → Bool) (a n : ℕ) → Rises a (filter P (range_with_len a n))
+rises_filter P a zero = tt
+rises_filter P a (suc n) = go (P a) (rises_filter P (a + 1) n)
   where
-    go : (o : Ordering) → MatchOrdering o (p < e.0) (p ≡ e.0) (e.0 < p) → cond (is_eq o) (Some e.1) (saved_at es p) ≡ saved_at es p
-    go Less lt = refl
-    go Equal is = absurd (ne is)
-    go Greater gt = refl
+    go : (b : Bool) → Rises (a + 1) (filter P (range_with_len (a + 1) n)) → Rises a (cond b (a ∷ filter P (range_with_len (a + 1) n)) (filter P (range_with_len (a + 1) n)))
+    go true rest = (omega arith, Rises-lower a (a + 1) (filter P (range_with_len (a + 1) n)) (omega arith) rest)
+    go false rest = Rises-lower a (a + 1) (filter P (range_with_len (a + 1) n)) (omega arith) rest
 
-saved_at-same : (e : Entry) (es : List Entry) (p : ℕ) → p ≡ e.0 → saved_at (e ∷ es) p ≡ Some e.1
-saved_at-same e es p is = go (nat_cmp p e.0) (ranked p e.0 (nat_cmp p e.0) refl)
+-- how often a number is among those that pass
+times-filter : (P : ℕ → Bool) (p : ℕ) (xs : List ℕ) → times p (filter P xs) ≡ cond (P p) (times p xs) 0
+times-filter P p [] = none (P p)
   where
-    go : (o : Ordering) → MatchOrdering o (p < e.0) (p ≡ e.0) (e.0 < p) → cond (is_eq o) (Some e.1) (saved_at es p) ≡ Some e.1
-    go Less lt = absurd (omega arith)
-    go Equal is = refl
-    go Greater gt = absurd (omega arith)
-
--- no page below all is saved
-saved_at-below : (low : ℕ) (es : List Entry) (p : ℕ) → Rises low es → p < low → saved_at es p ≡ None
-saved_at-below low [] p rises below = refl
-saved_at-below low (e ∷ es) p rises below =
-    let ne : p ≢ e.0 = omega (arith, rises.0) in
-    saved_at-other e es p ne ∙ saved_at-below (e.0 + 1) es p rises.1 (omega (arith, rises.0))
-
--- page p with the saved ones put back
-get_or-restored : (low n : ℕ) (es : List Entry) (fs : List (List ℕ)) (p : ℕ) → n ≡ length fs → Rises low es → AreWithin n es → get_or (restored es fs) p [] ≡ unwrap_or (saved_at es p) (get_or fs p [])
-get_or-restored low n [] fs p long rises within = refl
-get_or-restored low n (e ∷ es) fs p long rises within =
-    let rest : get_or (restored es (set fs e.0 e.1)) p [] ≡ unwrap_or (saved_at es p) (get_or (set fs e.0 e.1) p []) = get_or-restored (e.0 + 1) n es (set fs e.0 e.1) p (long ∙ sym (length-set fs e.0 e.1)) rises.1 within.2 in
-    by_ranked _ _ _ (nat_cmp p e.0) (ranked p e.0 (nat_cmp p e.0) refl) (λ o lt. apart (omega arith) rest) (λ o is. here is rest) (λ o gt. apart (omega arith) rest)
+    none : (b : Bool) → ◌≡◌ {A = ℕ} 0 (cond b 0 0)
+    none true = refl
+    none false = refl
+times-filter P p (x ∷ xs) = ⊎_elim (λ h. here h.1 (times-filter P p xs)) (λ h. there h.1 (times-filter P p xs)) (eqb_tells p x)
   where
-    apart : p ≢ e.0 → get_or (restored es (set fs e.0 e.1)) p [] ≡ unwrap_or (saved_at es p) (get_or (set fs e.0 e.1) p []) → get_or (restored (e ∷ es) fs) p [] ≡ unwrap_or (saved_at (e ∷ es) p) (get_or fs p [])
-    apart ne rest =
-        rest ∙ ap (λ g. unwrap_or (saved_at es p) g) (get_or-set_other fs e.0 p e.1 [] ne) ∙ ap (λ o. unwrap_or o (get_or fs p [])) (sym (saved_at-other e es p ne))
+    here : p ≡ x → times p (filter P xs) ≡ cond (P p) (times p xs) 0 → times p (cond (P x) (x ∷ filter P xs) (filter P xs)) ≡ cond (P p) (times p (x ∷ xs)) 0
+    here is rest = ap (λ y. times p (cond (P y) (x ∷ filter P xs) (filter P xs))) (sym is) ∙ go (P p) rest
+      where
+        go : (b : Bool) → times p (filter P xs) ≡ cond b (times p xs) 0 → times p (cond b (x ∷ filter P xs) (filter P xs)) ≡ cond b (times p (x ∷ xs)) 0
+        go true r = omega (arith, r)
+        go false r = r
 
-    here : p ≡ e.0 → get_or (restored es (set fs e.0 e.1)) p [] ≡ unwrap_or (saved_at es p) (get_or (set fs e.0 e.1) p []) → get_or (restored (e ∷ es) fs) p [] ≡ unwrap_or (saved_at (e ∷ es) p) (get_or fs p [])
-    here is rest =
-        let none : saved_at es p ≡ None = saved_at-below (e.0 + 1) es p rises.1 (omega arith) in
-        rest ∙ ap (λ o. unwrap_or o (get_or (set fs e.0 e.1) p [])) none ∙ ap (λ i. get_or (set fs e.0 e.1) i []) is ∙ get_or-set_same fs e.0 e.1 [] (omega (arith, within.0)) ∙ ap (λ o. unwrap_or o (get_or fs p [])) (sym (saved_at-same e es p is))
+    there : p ≢ x → times p (filter P xs) ≡ cond (P p) (times p xs) 0 → times p (cond (P x) (x ∷ filter P xs) (filter P xs)) ≡ cond (P p) (times p (x ∷ xs)) 0
+    there ne rest = go (times-other p x ne) (P x) (P p) rest
+      where
+        go : times p (x ∷ []) ≡ 0 → (b c : Bool) → times p (filter P xs) ≡ cond c (times p xs) 0 → times p (cond b (x ∷ filter P xs) (filter P xs)) ≡ cond c (times p (x ∷ xs)) 0
+        go none true true r = omega (arith, r, none)
+        go none true false r = omega (arith, r, none)
+        go none false true r = omega (arith, r, none)
+        go none false false r = r
 
--- P tests each entry against its frame
-abbrev AreTested : (ℕ → Bool) → List (List ℕ) → List Entry → Type 0
-AreTested P fs [] = Unit {0}
-AreTested P fs (e ∷ es) = (P e.0 ≡ not (bytes_eq e.1 (get_or fs e.0 []))) × AreTested P fs es
+times-past : (p a n : ℕ) → a + n ≤ p → times p (range_with_len a n) ≡ 0
+times-past p a zero past = refl
+times-past p a (suc n) past =
+    let head : times p (a ∷ []) ≡ 0 = times-other p a (λ e. absurd (omega (arith, e, past))) in
+    let rest : times p (range_with_len (a + 1) n) ≡ 0 = times-past p (a + 1) n (omega (arith, past)) in
+    omega (arith, head, rest)
 
--- a range by a test that fails where nothing is saved
-filter_from_entries : (P : ℕ → Bool) (fs : List (List ℕ)) (n a : ℕ) (es : List Entry) → Rises a es → AreWithin (a + n) es → ((p : ℕ) → a ≤ p → p < a + n → saved_at es p ≡ None → P p ≡ false) → AreTested P fs es → filter P (range_with_len a n) ≡ changed_of fs es
-filter_from_entries P fs zero a [] rises within none tested = refl
-filter_from_entries P fs zero a (e ∷ es) rises within none tested = absurd (omega (arith, rises.0, within.0))
-filter_from_entries P fs (suc n) a [] rises within none tested =
-    let here : P a ≡ false = none a (omega arith) (omega arith) refl in
-    rw here (filter_from_entries P fs n (a + 1) [] tt tt (λ p low high s. none p (omega arith) (omega arith) s) tt)
-filter_from_entries P fs (suc n) a (e ∷ es) rises within none tested =
-    let long : a + suc n ≡ a + 1 + n = omega arith in
-    by_ranked _ _ _ (nat_cmp a e.0) (ranked a e.0 (nat_cmp a e.0) refl)
-    (λ o lt.
-    let later : Rises (a + 1) (e ∷ es) = (omega arith, rises.1) in
-    let here : P a ≡ false = none a (omega arith) (omega arith) (saved_at-below (a + 1) (e ∷ es) a later (omega arith)) in
-    rw here (filter_from_entries P fs n (a + 1) (e ∷ es) later (subst (λ m. AreWithin m (e ∷ es)) long within) (λ p low high s. none p (omega arith) (omega arith) s) tested))
-    (λ o is.
-    let later : Rises (a + 1) es = subst (λ m. Rises (m + 1) es) (sym is) rises.1 in
-    let rest : filter P (range_with_len (a + 1) n) ≡ changed_of fs es = filter_from_entries P fs n (a + 1) es later (subst (λ m. AreWithin m es) long within.2) (λ p low high s. none p (omega arith) (omega arith) (saved_at-other e es p (omega arith) ∙ s)) tested.1 in
-    joined (bytes_eq e.1 (get_or fs e.0 [])) (P a) (ap P is ∙ tested.0) (filter P (range_with_len (a + 1) n)) (changed_of fs es) rest a e.0 is)
-    (λ o gt. absurd (omega (arith, rises.0)))
+times-before : (p a n : ℕ) → p < a → times p (range_with_len a n) ≡ 0
+times-before p a zero lt = refl
+times-before p a (suc n) lt =
+    let head : times p (a ∷ []) ≡ 0 = times-other p a (λ e. absurd (omega (arith, e, lt))) in
+    let rest : times p (range_with_len (a + 1) n) ≡ 0 = times-before p (a + 1) n (omega (arith, lt)) in
+    omega (arith, head, rest)
+
+-- a number is once in a range, or not at all
+times-range : (p a n : ℕ) → a ≤ p → p < a + n → times p (range_with_len a n) ≡ 1
+times-range p a zero low high = absurd (omega arith)
+times-range p a (suc n) low high = ⊎_elim (λ h. here h.1) (λ h. there h.1 (λ l k. times-range p (a + 1) n l k)) (eqb_tells p a)
   where
-    joined : (b b' : Bool) → b' ≡ not b → (xs ys : List ℕ) → xs ≡ ys → (x y : ℕ) → x ≡ y → cond b' (x ∷ xs) xs ≡ cond b ys (y ∷ ys)
-    joined true true t xs ys all x y one = absurd cc
-    joined true false t xs ys all x y one = all
-    joined false true t xs ys all x y one = cc
-    joined false false t xs ys all x y one = absurd cc
+    here : p ≡ a → times p (a ∷ range_with_len (a + 1) n) ≡ 1
+    here is =
+        let one : times p (a ∷ []) ≡ 1 = ap (λ q. times q (a ∷ [])) is ∙ times-same a in
+        let none : times p (range_with_len (a + 1) n) ≡ 0 = times-before p (a + 1) n (omega (arith, is)) in
+        omega (arith, one, none)
+
+    there : p ≢ a → (a + 1 ≤ p → p < a + 1 + n → times p (range_with_len (a + 1) n) ≡ 1) → times p (a ∷ range_with_len (a + 1) n) ≡ 1
+    there ne later =
+        let head : times p (a ∷ []) ≡ 0 = times-other p a ne in
+        let rest : times p (range_with_len (a + 1) n) ≡ 1 = later (omega (arith, low, ne)) (omega (arith, high)) in
+        omega (arith, head, rest)
+
+times-permutation : (p : ℕ) (xs ys : List ℕ) → IsPermutation xs ys → times p ys ≡ times p xs
+times-permutation p xs ys perm =
+    let sums : sum_by (λ q. times p (q ∷ [])) ys ≡ sum_by (λ q. times p (q ∷ [])) xs = sum_by-IsPermutation (λ q. times p (q ∷ [])) xs ys perm in
+    omega (arith, sums, summed p 0 ys, summed p 0 xs)
+  where
+    summed : (p a : ℕ) (xs : List ℕ) → fold (λ b x. b + times p (x ∷ [])) a xs ≡ a + times p xs
+    summed p a [] = omega arith
+    summed p a (x ∷ xs) =
+        let rest : fold (λ b x. b + times p (x ∷ [])) (a + times p (x ∷ [])) xs ≡ a + times p (x ∷ []) + times p xs = summed p (a + times p (x ∷ [])) xs in
+        rest ∙ omega arith
+
+nothing : (b : Bool) → ◌≡◌ {A = ℕ} 0 (cond b 0 0)
+nothing true = refl
+nothing false = refl
+
+-- a page that is in the list is one
+page_there : (ps : List Page) (p : ℕ) → p < length ps → Page
+page_there [] p below = absurd (omega arith)
+page_there (x ∷ ps) p below = x
 
 -- bytes against themselves
 bytes_eq-same : (xs ys : List ℕ) → xs ≡ ys → bytes_eq xs ys ≡ true
 bytes_eq-same xs ys same = (bytes_eq-Decides xs ys).1 same
 
-module _ (es : List Entry) (fs : List (List ℕ)) (whole : AreWhole fs) (within : AreWithin (length fs) es) (rises : Rises 0 es) where
-  -- page p at `begin`
-  page_of-restored : (p : ℕ) → p < length fs → page_of (concat (restored es fs)) p ≡ unwrap_or (saved_at es p) (get_or fs p [])
-  page_of-restored p below =
-      page_of-concat (restored es fs) p (AreWhole-restored (length fs) es fs within whole) (omega (arith, length-restored es fs)) ∙ get_or-restored 0 (length fs) es fs p refl rises within
+module _ (ps : List Page) (pages : ArePages ps) where
+  -- the test by the pages is the test by the bytes
+  same_test : (p : ℕ) → p < length ps → page_differs (was_bytes ps) (now_bytes ps) p ≡ differs_at ps p
+  same_test p below =
+      let d = page_there ps p below in
+      let was : page_of (was_bytes ps) p ≡ was_of (get_or ps p d) = page_of-concat (map was_of ps) p pages.was (omega (arith, below, length_map was_of ps)) ∙ at_map was_of ps p d [] below in
+      let now : page_of (now_bytes ps) p ≡ now_of (get_or ps p d) = page_of-concat (map now_of ps) p pages.now (omega (arith, below, length_map now_of ps)) ∙ at_map now_of ps p d [] below in
+      ap₂ (λ a b. not (bytes_eq a b)) was now ∙ sym (at_map differs ps p d false below)
 
-  -- one that is not saved is as it was
-  kept : (p : ℕ) → p < length fs → saved_at es p ≡ None → page_differs (concat (restored es fs)) (concat fs) p ≡ false
-  kept p below none =
-      ap not (bytes_eq-same _ _ (page_of-restored p below ∙ ap (λ o. unwrap_or o (get_or fs p [])) none ∙ sym (page_of-concat fs p whole below)))
+  -- a page that the turn didn't write is as it was
+  kept_if : (p : ℕ) → p < length ps → differs_at ps p ≡ true → get_or (kept_pages ps) p false ≡ true
+  kept_if p below is =
+      let d = page_there ps p below in
+      at_map is_kept ps p d false below ∙ go (is_kept (get_or ps p d)) refl (sym (at_map differs ps p d false below) ∙ is)
+    where
+      go : (b : Bool) → is_kept (get_or ps p (page_there ps p below)) ≡ b → differs (get_or ps p (page_there ps p below)) ≡ true → b ≡ true
+      go true e h = refl
+      go false e h =
+          let x = get_or ps p (page_there ps p below) in
+          let same : was_of x ≡ now_of x = was_unless x e in
+          absurd (true≢false (sym h ∙ ap not (bytes_eq-same (was_of x) (now_of x) same)))
 
-  tested_all : (ds : List Entry) → AreWithin (length fs) ds → All (λ (e : Entry). saved_at es e.0 ≡ Some e.1) ds → AreTested (page_differs (concat (restored es fs)) (concat fs)) fs ds
-  tested_all [] inside found = tt
-  tested_all (e ∷ ds) inside found =
-      let here : saved_at es e.0 ≡ Some e.1 = All-head (λ (d : Entry). saved_at es d.0 ≡ Some d.1) e ds found in
-      let was : page_of (concat (restored es fs)) e.0 ≡ e.1 = page_of-restored e.0 inside.0 ∙ ap (λ o. unwrap_or o (get_or fs e.0 [])) here in
-      let is : page_of (concat fs) e.0 ≡ get_or fs e.0 [] = page_of-concat fs e.0 whole inside.0 in
-      (ap (λ xs. not (bytes_eq xs (page_of (concat fs) e.0))) was ∙ ap (λ ys. not (bytes_eq e.1 ys)) is, tested_all ds inside.2 (All-tail (λ (d : Entry). saved_at es d.0 ≡ Some d.1) e ds found))
+  -- the pages that differ, each once
+  times_same : (first : List ℕ) → Lists first (kept_pages ps) → (p : ℕ) → times p (filter (differs_at ps) first) ≡ times p (filter (page_differs (was_bytes ps) (now_bytes ps)) (range_with_len 0 (length ps)))
+  times_same first listed p = times-filter (differs_at ps) p first ∙ go (nat_cmp p (length ps)) (ranked p (length ps) (nat_cmp p (length ps)) refl) ∙ sym (times-filter (page_differs (was_bytes ps) (now_bytes ps)) p (range_with_len 0 (length ps)))
+    where
+      inside : p < length ps → (b : Bool) → differs_at ps p ≡ b → cond b (times p first) 0 ≡ cond b (times p (range_with_len 0 (length ps))) 0
+      inside below true is = listed p ∙ ap once (kept_if p below is) ∙ sym (times-range p 0 (length ps) (omega arith) (omega (arith, below)))
+      inside below false is = refl
 
--- the changed pages are the dirty ones
-pub dirty_pages-restored : (es : List Entry) (fs : List (List ℕ)) → AreWhole fs → AreWithin (length fs) es → IsStrictlySortedBy nat_cmp (keys_of es) → All (λ (e : Entry). saved_at es e.0 ≡ Some e.1) es → dirty_pages (concat (restored es fs)) (concat fs) ≡ changed_of fs es
-dirty_pages-restored es fs whole within sorted found =
-    let rises : Rises 0 es = Rises-from_sorted 0 es (all_from_zero (keys_of es)) sorted in
-    let long : length (concat fs) / 256 ≡ length fs = omega (arith, length-concat_whole fs whole) in
-    ap (λ n. filter (page_differs (concat (restored es fs)) (concat fs)) (range_with_len 0 n)) long ∙ filter_from_entries (page_differs (concat (restored es fs)) (concat fs)) fs (length fs) 0 es rises (subst (λ m. AreWithin m es) (omega arith) within) (λ p low high none. kept es fs whole within rises p (omega arith) none) (tested_all es fs whole within rises es within found)
+      past : (n : ℕ) (xs : List Bool) → length xs ≤ n → get_or xs n false ≡ false
+      past n [] le = refl
+      past zero (x ∷ xs) le = absurd (omega (arith, le))
+      past (suc n) (x ∷ xs) le = past n xs (omega (arith, le))
+
+      outside : length ps ≤ p → cond (differs_at ps p) (times p first) 0 ≡ cond (page_differs (was_bytes ps) (now_bytes ps) p) (times p (range_with_len 0 (length ps))) 0
+      outside le =
+          ap (λ b. cond b (times p first) 0) (past p (map differs ps) (omega (arith, le, length_map differs ps)))
+          ∙ nothing (page_differs (was_bytes ps) (now_bytes ps) p) ∙ ap (λ n. cond (page_differs (was_bytes ps) (now_bytes ps) p) n 0) (sym (times-past p 0 (length ps) (omega (arith, le))))
+
+      within : p < length ps → cond (differs_at ps p) (times p first) 0 ≡ cond (page_differs (was_bytes ps) (now_bytes ps) p) (times p (range_with_len 0 (length ps))) 0
+      within below =
+          inside below (differs_at ps p) refl ∙ ap (λ b. cond b (times p (range_with_len 0 (length ps))) 0) (sym (same_test p below))
+
+      go : (o : Ordering) → MatchOrdering o (p < length ps) (p ≡ length ps) (length ps < p) → cond (differs_at ps p) (times p first) 0 ≡ cond (page_differs (was_bytes ps) (now_bytes ps) p) (times p (range_with_len 0 (length ps))) 0
+      go Less lt = within lt
+      go Equal is = outside (omega (arith, is))
+      go Greater gt = outside (omega (arith, gt))
+
+-- the pages that differ, sorted, are the dirty ones
+pub dirty_listed : (ps : List Page) (first out : List ℕ) → ArePages ps → Lists first (kept_pages ps) → IsPermutation (filter (differs_at ps) first) out → IsSorted nat_cmp out → out ≡ dirty_pages (was_bytes ps) (now_bytes ps)
+dirty_listed ps first out pages listed perm sorted =
+    let P = page_differs (was_bytes ps) (now_bytes ps) in
+    let long : length (now_bytes ps) / 256 ≡ length ps = omega (arith, length_pages ps pages) in
+    rising_same 0 0 out (filter P (range_with_len 0 (length ps))) (rises_sorted out sorted) (rises_filter P 0 (length ps)) (λ p. times-permutation p (filter (differs_at ps) first) out perm ∙ times_same ps pages first listed p)
+    ∙ ap (λ n. filter P (range_with_len 0 n)) (sym long)
+
+-- one page more is looked at
+filter_snoc : (P : ℕ → Bool) (xs : List ℕ) (x : ℕ) → filter P (xs ++ x ∷ []) ≡ filter P xs ++ cond (P x) (x ∷ []) []
+filter_snoc P [] x = refl
+filter_snoc P (y ∷ xs) x = go (P y) (filter_snoc P xs x)
+  where
+    go : (b : Bool) → filter P (xs ++ x ∷ []) ≡ filter P xs ++ cond (P x) (x ∷ []) [] → cond b (y ∷ filter P (xs ++ x ∷ [])) (filter P (xs ++ x ∷ [])) ≡ cond b (y ∷ filter P xs) (filter P xs) ++ cond (P x) (x ∷ []) []
+    go true rest = ap (λ zs. y ∷ zs) rest
+    go false rest = rest
+
+pub filter_more : (P : ℕ → Bool) (xs : List ℕ) (i : ℕ) → i < length xs → filter P (take (i + 1) xs) ≡ filter P (take i xs) ++ cond (P (get_or xs i 0)) (get_or xs i 0 ∷ []) []
+filter_more P xs i within =
+    let step : i + 1 ≡ suc i = omega arith in
+    ap (λ n. filter P (take n xs)) step ∙ ap (filter P) (take-suc xs i 0 within) ∙ filter_snoc P (take i xs) (get_or xs i 0)

@@ -1,12 +1,12 @@
 -- Whole frames one after the other.
-use Rattle.std.proofs.Common.{◌≡◌, Bool, ℕ, ◌+◌, ◌*◌, ◌<◌, ◌≤◌, suc, zero, List, [], ◌∷◌, ◌++◌, length, take, drop, get_or, set, replicate, refl, sym, ap, ◌∙◌, arith, length-append, length-drop, take_all}
+use Rattle.std.proofs.Common.{◌≡◌, ℕ, ◌+◌, ◌*◌, ◌<◌, ◌≤◌, suc, zero, List, [], ◌∷◌, ◌++◌, length, take, drop, get_or, set, replicate, refl, sym, ap, ◌∙◌, arith, length-append, length-drop, take_all}
 use Rattle.std.specs.List.{concat}
 use Rattle.std.proofs.Math.Seq.{drop-append-add}
 use Rattle.std.proofs.lemmas.List.{append-nil, take-append-le, drop-append-le, replicate-append-replicate}
 use Rattle.std.proofs.lemmas.List.Folds.{concat-append}
 use Rattle.ken_frame.specs.Written.{written}
-use Rattle.ken_pages.specs.Paged.{Paged, page_of}
-use Rattle.ken_pages.specs.Layout.{AreWhole, paged_of}
+use Rattle.ken_pages.specs.Paged.{page_of}
+use Rattle.ken_pages.specs.Layout.{AreWhole}
 use Rattle.ken_frame.proofs.Written.{written-append_left, written-append_right}
 
 pub length-concat_whole : (fs : List (List ℕ)) → AreWhole fs → length (concat fs) ≡ 256 * length fs
@@ -61,7 +61,3 @@ pub concat_zeros_more : (fs : List (List ℕ)) (f : List ℕ) (i : ℕ) → conc
 concat_zeros_more fs f i before zeros =
     let long : 256 * i + 256 ≡ 256 * (i + 1) = omega arith in
     concat-append fs (f ∷ []) ∙ ap (λ xs. concat fs ++ xs) (append-nil f) ∙ ap (λ xs. concat fs ++ xs) zeros ∙ ap (λ xs. xs ++ replicate 256 0) before ∙ replicate-append-replicate (256 * i) 256 0 ∙ ap (λ n. replicate n 0) long
-
--- how long the bytes are that the frames stand for
-pub length_seen : (begun : Bool) (fs : List (List ℕ)) (es : List (ℕ × List ℕ)) (v : Paged) → AreWhole fs → paged_of begun fs es ≡ v → length v.bytes ≡ 256 * length fs
-length_seen begun fs es v whole is = ap (λ (w : Paged). length w.bytes) (sym is) ∙ length-concat_whole fs whole

@@ -1,12 +1,12 @@
 -- Copies of the pages that a turn changed.
-use Rattle.std.proofs.Common.{◌≡◌, ℕ, ◌+◌, ◌<◌, ◌/◌, List, [], ◌∷◌, ◌++◌, length, map, take, get_or, All, Option, Some, None, IsSome, IfSome, sym, ap, ◌∙◌, subst, arith}
+use Rattle.std.proofs.Common.{◌≡◌, ℕ, ◌+◌, ◌<◌, ◌/◌, List, [], ◌∷◌, ◌++◌, length, map, take, get_or, All, Option, Some, None, IsSome, IfSome, refl, sym, ap, ◌∙◌, subst, arith, set, Bool, false, take-suc, suc}
 use Rattle.std.specs.List.{filter, range_with_len}
 use Rattle.std.specs.declared.sync.Arc.{Arc}
 use Rattle.std.specs.Arc.{arc_value}
 use Rattle.std.proofs.lemmas.List.{map_push, map_more}
 use Rattle.std.proofs.lemmas.List.Elements.{All-filter}
 use Rattle.std.proofs.lemmas.List.FromFn.{length-range_with_len, get_or-range_with_len}
-use Rattle.ken_pages.specs.Paged.{page_of, page_differs, dirty_pages, with_bytes, shared_page, shared_pages}
+use Rattle.ken_pages.specs.Paged.{page_of, page_differs, dirty_pages, without_own, with_bytes, shared_page, shared_pages}
 
 -- one copy more
 pub shared_pages_more : {Z : Type 0} (es new : List (ℕ × Arc (List ℕ) Z)) (p : ℕ) (a : Arc (List ℕ) Z) (now : List ℕ) (pages : List ℕ) (i : ℕ) → new ≡ es ++ (p, a) ∷ [] → shared_pages es ≡ map (with_bytes now) (take i pages) → i < length pages → p ≡ get_or pages i 0 → arc_value a ≡ page_of now p → shared_pages new ≡ map (with_bytes now) (take (i + 1) pages)
@@ -24,3 +24,13 @@ pub dirty_below : (begun : Option (List ℕ)) (now ps : List ℕ) (n : ℕ) → 
 dirty_below None now ps n long some is = absurd cc
 dirty_below (Some before) now ps n long some is =
     subst (λ qs. All (λ p. p < n) qs) (sym (is ∙ ap (λ m. filter (page_differs before now) (range_with_len 0 m)) long)) (All-filter (page_differs before now) (λ p. p < n) (range_with_len 0 n) (range_below n))
+
+-- one page more that the turn has no frame of its own for
+pub without_own_more : (ps : List ℕ) (i : ℕ) (own : List Bool) → i < length ps → without_own (take (i + 1) ps) own ≡ set (without_own (take i ps) own) (get_or ps i 0) false
+without_own_more ps i own within =
+    let step : i + 1 ≡ suc i = omega arith in
+    ap (λ n. without_own (take n ps) own) step ∙ ap (λ qs. without_own qs own) (take-suc ps i 0 within) ∙ snoc (take i ps) (get_or ps i 0) own
+  where
+    snoc : (qs : List ℕ) (q : ℕ) (own : List Bool) → without_own (qs ++ q ∷ []) own ≡ set (without_own qs own) q false
+    snoc [] q own = refl
+    snoc (p ∷ qs) q own = snoc qs q (set own p false)

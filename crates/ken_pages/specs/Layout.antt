@@ -1,53 +1,105 @@
--- How a heap of pages is laid out: frames, and copies of those that a turn wrote.
-use Rattle.std.specs.Prelude.{◌≡◌, ℕ, ◌+◌, ◌*◌, ◌<◌, ◌≤◌, List, [], ◌∷◌, length, slice_set, slice_index_or, Option, Some, None, Bool, true, false, if◌then◌else◌, IsSome}
-use Rattle.std.specs.List.{concat}
+-- How a heap of pages is laid out.
+use Rattle.std.specs.Prelude.{◌≡◌, ℕ, ◌+◌, ◌≤◌, List, [], ◌∷◌, length, map, Option, Some, None, is_some, Bool, true, false, ◌&&◌, ◌==◌, if◌then◌else◌, slice_index_or, not}
 use Rattle.std.specs.Str.{bytes_eq}
-use Rattle.std.specs.Map.{lookup}
-use Rattle.std.specs.BTreeMap.{is_at}
-use Rattle.std.specs.Ordering.{nat_cmp}
+use Rattle.std.specs.List.{concat}
+use Rattle.std.specs.Arc.{arc_value}
 use Rattle.ken_pages.specs.Paged.{Paged}
+use Rattle.ken_pages.specs.declared.page.Held.{Held}
+use Rattle.ken_pages.specs.declared.page.Held.TheVariants.{Own, Shared}
+use Rattle.ken_pages.specs.declared.page.Page.{Page}
 
--- each frame has its 256 bytes
+-- the bytes that are held
+abbrev pub bytes_in : Held → List ℕ
+bytes_in (Own frame) = frame
+bytes_in (Shared frame) = arc_value frame
+
+-- nobody shares the frame
+abbrev pub is_frame_own : Held → Bool
+is_frame_own (Own frame) = true
+is_frame_own (Shared frame) = false
+
+-- a page's bytes now, and those when the turn began
+abbrev pub now_of : Page → List ℕ
+now_of p = bytes_in p.held
+
+abbrev pub first_of : Option Held → Held → Held
+first_of (Some before) held = before
+first_of None held = held
+
+abbrev pub was_of : Page → List ℕ
+was_of p = bytes_in (first_of p.before p.held)
+
+-- the turn wrote it
+abbrev pub is_kept : Page → Bool
+is_kept p = is_some p.before
+
+-- the turn has a frame of its own for it
+abbrev pub is_own : Page → Bool
+is_own p = is_some p.before && is_frame_own p.held
+
+-- those of all pages, one after the other
+abbrev pub now_bytes : List Page → List ℕ
+now_bytes ps = concat (map now_of ps)
+
+abbrev pub was_bytes : List Page → List ℕ
+was_bytes ps = concat (map was_of ps)
+
+abbrev pub own_pages : List Page → List Bool
+own_pages ps = map is_own ps
+
+abbrev pub kept_pages : List Page → List Bool
+kept_pages ps = map is_kept ps
+
+-- a page's bytes are not as they were
+abbrev pub differs : Page → Bool
+differs p = not (bytes_eq (was_of p) (now_of p))
+
+abbrev pub differs_at : List Page → ℕ → Bool
+differs_at ps p = slice_index_or (map differs ps) p false
+
+-- each has its 256 bytes
 abbrev pub AreWhole : List (List ℕ) → Type 0
 AreWhole [] = Unit {0}
 AreWhole (f ∷ fs) = (length f ≡ 256) × AreWhole fs
 
--- each entry is a whole page of the first n
-abbrev pub AreWithin : ℕ → List (ℕ × List ℕ) → Type 0
-AreWithin n [] = Unit {0}
-AreWithin n (e ∷ es) = (e.0 < n) × (length e.1 ≡ 256) × AreWithin n es
+pub record ArePages (ps : List Page) : Type 0 where
+  pub now : AreWhole (map now_of ps)
+  pub was : AreWhole (map was_of ps)
 
--- the frames with the saved ones in their places
-abbrev pub restored : List (ℕ × List ℕ) → List (List ℕ) → List (List ℕ)
-restored [] fs = fs
-restored (e ∷ es) fs = restored es (slice_set fs e.0 e.1)
+-- a turn's own frames and its bytes at `begin` are as before
+pub record SameTurn (old new : List Page) : Type 0 where
+  pub own : own_pages new ≡ own_pages old
+  pub kept : kept_pages new ≡ kept_pages old
+  pub was : map was_of new ≡ map was_of old
 
--- page p is saved
-abbrev pub IsSaved : List (ℕ × List ℕ) → ℕ → Type 0
-IsSaved es p = IsSome (lookup (is_at (nat_cmp p)) es)
+-- how often a page is in a list
+abbrev pub times : ℕ → List ℕ → ℕ
+times p [] = 0
+times p (q ∷ qs) = (if p == q then 1 else 0) + times p qs
 
--- so is each page that the n bytes from a place on touch
-abbrev pub AreSaved : List (ℕ × List ℕ) → ℕ → ℕ → Type 0
-AreSaved es at n = (p : ℕ) → 256 * p < at + n → at < 256 * p + 256 → IsSaved es p
+-- once where it is so, and never where not
+abbrev pub once : Bool → ℕ
+once true = 1
+once false = 0
 
--- the saved pages whose frames are not as they were
-abbrev pub changed_of : List (List ℕ) → List (ℕ × List ℕ) → List ℕ
-changed_of fs [] = []
-changed_of fs (e ∷ es) = if bytes_eq e.1 (slice_index_or fs e.0 []) then changed_of fs es else e.0 ∷ changed_of fs es
+-- the list has each page that the turn wrote, once, and no other
+abbrev pub Lists : List ℕ → List Bool → Type 0
+Lists first kept = (p : ℕ) → times p first ≡ once (slice_index_or kept p false)
 
 -- the bytes at `begin`, where a turn is begun
 abbrev pub begun_at : Bool → List ℕ → Option (List ℕ)
 begun_at true bytes = Some bytes
 begun_at false bytes = None
 
--- what the frames and the saved ones stand for
-abbrev pub paged_of : Bool → List (List ℕ) → List (ℕ × List ℕ) → Paged
-paged_of begun fs es = record { bytes = concat fs; begun = begun_at begun (concat (restored es fs)) }
+-- what the pages and the spare frames stand for
+abbrev pub paged_of : Bool → List Page → List (List ℕ) → Paged
+paged_of begun ps shelf = record { bytes = now_bytes ps; begun = begun_at begun (was_bytes ps); spare = length shelf; own = own_pages ps }
 
--- the frames and the saved ones of a heap
-pub record IsHeap (begun : Bool) (fs : List (List ℕ)) (es : List (ℕ × List ℕ)) : Type 0 where
-  pub some : 1 ≤ length fs
-  pub most : length fs ≤ 4096
-  pub whole : AreWhole fs
-  pub within : AreWithin (length fs) es
-  pub idle : begun ≡ false → es ≡ []
+-- the pages, those that the turn wrote, and the spare frames of a heap; the list of the pages has room for as many as frames
+pub record IsHeap (begun : Bool) (ps : List Page) (first : List ℕ) (places : ℕ) (shelf : List (List ℕ)) : Type 0 where
+  pub some : 1 ≤ length ps
+  pub most : length ps ≤ 4096
+  pub whole : ArePages ps
+  pub listed : Lists first (kept_pages ps)
+  pub room : length first + length shelf ≤ places
+  pub idle : begun ≡ false → first ≡ []

@@ -1,14 +1,50 @@
 -- A heap of pages, as its callers see it.
-use Rattle.std.specs.Prelude.{ℕ, ◌*◌, ◌/◌, List, length, take, drop, map, Option, Bool, not}
+use Rattle.std.specs.Prelude.{ℕ, zero, suc, ◌+◌, ◌-◌, ◌*◌, ◌/◌, List, [], ◌∷◌, length, take, drop, map, Option, Bool, true, false, not, ◌==◌, if◌then◌else◌, slice_set}
 use Rattle.std.specs.List.{filter, range_with_len}
 use Rattle.std.specs.Str.{bytes_eq}
 use Rattle.std.specs.declared.sync.Arc.{Arc}
 use Rattle.std.specs.Arc.{arc_value}
 
--- the bytes now, and those at `begin` where a turn is begun
+-- the bytes now, those at `begin` where a turn is begun, how many frames are spare, and for each page whether the turn has a
+-- frame of its own for it
 pub record Paged : Type 0 where
   pub bytes : List ℕ
   pub begun : Option (List ℕ)
+  pub spare : ℕ
+  pub own : List Bool
+
+-- how many pages the n bytes from a place on touch
+abbrev pub touched : ℕ → ℕ → ℕ
+touched at n = if n == 0 then 0 else (at + n - 1) / 256 + 1 - at / 256
+
+-- with the turn's own frames for n pages from the page `from` on
+abbrev pub with_own : ℕ → ℕ → List Bool → List Bool
+with_own from n [] = []
+with_own zero zero (b ∷ bs) = b ∷ bs
+with_own zero (suc n) (b ∷ bs) = true ∷ with_own zero n bs
+with_own (suc from) n (b ∷ bs) = b ∷ with_own from n bs
+
+-- one for a page that the turn has no frame of its own for
+abbrev pub missing : Bool → ℕ
+missing true = 0
+missing false = 1
+
+-- how many frames are missing for n pages from the page `from` on
+abbrev pub lacking : ℕ → ℕ → List Bool → ℕ
+lacking from n [] = 0
+lacking zero zero (b ∷ bs) = 0
+lacking zero (suc n) (b ∷ bs) = missing b + lacking zero n bs
+lacking (suc from) n (b ∷ bs) = lacking from n bs
+
+-- how many frames of its own the turn has
+abbrev pub own_count : List Bool → ℕ
+own_count [] = 0
+own_count (b ∷ bs) = 1 - missing b + own_count bs
+
+-- without the turn's own frames for these pages
+abbrev pub without_own : List ℕ → List Bool → List Bool
+without_own [] own = own
+without_own (p ∷ ps) own = without_own ps (slice_set own p false)
 
 -- page p of the bytes
 abbrev pub page_of : List ℕ → ℕ → List ℕ

@@ -1,65 +1,87 @@
-// Frames one after the other, as one list of bytes.
-ghost use Rattle.std.specs.Prelude.{◌≡◌, ℕ, ◌+◌, ◌*◌, ◌/◌, ◌%◌, ◌<◌, ◌≤◌, List, length, take, drop};
-ghost use Rattle.std.specs.List.{concat};
+// Pages one after the other, as one list of bytes.
+ghost use Rattle.std.specs.Prelude.{◌≡◌, ◌+◌, ◌*◌, ◌/◌, ◌%◌, ◌<◌, ◌≤◌, length, take, drop, true, slice_index_or, false, ℕ, [], OnOk, OnErr};
 ghost use Rattle.ken_frame.specs.Written.{written};
-ghost use Rattle.ken_pages.specs.Layout.{AreWhole, IsSaved, AreSaved, restored};
+ghost use Rattle.ken_pages.specs.Layout.{ArePages, now_bytes, SameTurn, own_pages, kept_pages, Lists};
 
+use crate::page::Page;
 use ken_frame::{FRAME, Frame};
+use std::alloc::{AllocError, Global};
 
-// Reads bytes of one frame.
-fn read_part(frames: &[Frame], at: usize, buf: &mut [u8])
-    requires whole { AreWhole frames.now }
-    requires inside { at < 256 * length frames.now }
+// Reads bytes of one page.
+fn read_part(pages: &[Page], at: usize, buf: &mut [u8])
+    requires whole { ArePages pages.now }
+    requires inside { at < 256 * length pages.now }
     requires one { at % 256 + length buf.old ≤ 256 }
-    ensures { buf.new ≡ take (length buf.old) (drop at (concat frames.now)) }
+    ensures { buf.new ≡ take (length buf.old) (drop at (now_bytes pages.now)) }
 {
-    frames[at / FRAME].read(at % FRAME, buf);
+    pages[at / FRAME].frame().read(at % FRAME, buf);
 }
 
 // Reads from the place `at` on.
-pub(crate) fn read(frames: &[Frame], at: usize, buf: &mut [u8])
-    requires whole { AreWhole frames.now }
-    requires few { length frames.now ≤ 4096 }
-    requires within { at + length buf.old ≤ 256 * length frames.now }
-    ensures { buf.new ≡ take (length buf.old) (drop at (concat frames.now)) }
+pub(crate) fn read(pages: &[Page], at: usize, buf: &mut [u8])
+    requires whole { ArePages pages.now }
+    requires few { length pages.now ≤ 4096 }
+    requires within { at + length buf.old ≤ 256 * length pages.now }
+    ensures { buf.new ≡ take (length buf.old) (drop at (now_bytes pages.now)) }
 {
     let mut done = 0;
     while done < buf.len() {
         let place = at + done;
         let part = (FRAME - place % FRAME).min(buf.len() - done);
-        read_part(frames, place, &mut buf[done..done + part]);
+        read_part(pages, place, &mut buf[done..done + part]);
         done += part;
     }
 }
 
-// Writes bytes of one frame.
-fn write_part(frames: &mut [Frame], at: usize, bytes: &[u8])
-    requires whole { AreWhole frames.old }
-    requires inside { at < 256 * length frames.old }
+// Writes bytes of one page, to the turn's own frame.
+fn write_part(pages: &mut [Page], at: usize, bytes: &[u8])
+    requires whole { ArePages pages.old }
+    requires inside { at < 256 * length pages.old }
     requires one { at % 256 + length bytes.now ≤ 256 }
-    ensures bytes { concat frames.new ≡ written (concat frames.old) at bytes.now }
-    ensures whole { AreWhole frames.new }
-    ensures as_many { length frames.new ≡ length frames.old }
-    ensures saved { (es : List (ℕ × List ℕ)) → IsSaved es (at / 256) → restored es frames.new ≡ restored es frames.old }
+    requires own { slice_index_or (own_pages pages.old) (at / 256) false ≡ true }
+    ensures bytes { now_bytes pages.new ≡ written (now_bytes pages.old) at bytes.now }
+    ensures whole { ArePages pages.new }
+    ensures turn { SameTurn pages.old pages.new }
 {
-    frames[at / FRAME].write(at % FRAME, bytes);
+    pages[at / FRAME].write(at % FRAME, bytes);
 }
 
-// Writes from the place `at` on.
-pub(crate) fn write(frames: &mut [Frame], at: usize, bytes: &[u8])
-    requires whole { AreWhole frames.old }
-    requires few { length frames.old ≤ 4096 }
-    requires within { at + length bytes.now ≤ 256 * length frames.old }
-    ensures bytes { concat frames.new ≡ written (concat frames.old) at bytes.now }
-    ensures whole { AreWhole frames.new }
-    ensures as_many { length frames.new ≡ length frames.old }
-    ensures saved { (es : List (ℕ × List ℕ)) → AreSaved es at (length bytes.now) → restored es frames.new ≡ restored es frames.old }
+// Writes from the place `at` on, to the turn's own frames.
+pub(crate) fn write(pages: &mut [Page], at: usize, bytes: &[u8])
+    requires whole { ArePages pages.old }
+    requires few { length pages.old ≤ 4096 }
+    requires within { at + length bytes.now ≤ 256 * length pages.old }
+    requires own { (p : ℕ) → 256 * p < at + length bytes.now → at < 256 * p + 256
+        → slice_index_or (own_pages pages.old) p false ≡ true }
+    ensures bytes { now_bytes pages.new ≡ written (now_bytes pages.old) at bytes.now }
+    ensures whole { ArePages pages.new }
+    ensures turn { SameTurn pages.old pages.new }
 {
     let mut done = 0;
     while done < bytes.len() {
         let place = at + done;
         let part = (FRAME - place % FRAME).min(bytes.len() - done);
-        write_part(frames, place, &bytes[done..done + part]);
+        write_part(pages, place, &bytes[done..done + part]);
         done += part;
     }
+}
+
+// Takes a frame's bytes over into a page, where the turn wrote none.
+pub(crate) fn load(
+    alloc: Global,
+    pages: &mut [Page],
+    page: u32,
+    frame: &Frame,
+) -> Result<(), AllocError>
+    requires whole { ArePages pages.old }
+    requires inside { page < length pages.old }
+    requires none { Lists [] (kept_pages pages.old) }
+    ensures whole { ArePages pages.new }
+    ensures bytes { OnOk result (now_bytes pages.new ≡ written (now_bytes pages.old) (256 * page) frame.now) }
+    ensures same { OnErr result (now_bytes pages.new ≡ now_bytes pages.old) }
+    ensures own { own_pages pages.new ≡ own_pages pages.old }
+    ensures kept { kept_pages pages.new ≡ kept_pages pages.old }
+    ensures count { length pages.new ≡ length pages.old }
+{
+    pages[page as usize].load(alloc, frame)
 }

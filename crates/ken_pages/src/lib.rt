@@ -3,6 +3,7 @@
 
 mod frames;
 mod heap;
-mod saved;
+mod page;
+mod turn;
 
 pub use heap::{MAX_PAGES, PageHeap};

@@ -37,14 +37,13 @@ pub record Laid (count : ℕ) (pages : List Page) (old : Paged) (index : ℕ) (n
 
 -- one page more lies over a heap
 pub laid_more : (count : ℕ) (pages : List Page) (old now new : Paged) (index : ℕ) (e : Page) → Laid count pages old index now → AreWithin count pages → index < length pages → e ≡ get_or pages index e
-    → new ≡ record { bytes = with_page now.bytes e; begun = None } → Laid count pages old (index + 1) new
-laid_more count pages old now new index e laid within less is set =
+    → new.bytes ≡ with_page now.bytes e → new.begun ≡ None → Laid count pages old (index + 1) new
+laid_more count pages old now new index e laid within less is bytes idle =
     let here : drop index pages ≡ e ∷ drop (index + 1) pages = drop_more pages index e less ∙ ap (λ (x : Page). x ∷ drop (index + 1) pages) (sym is) in
     let inside : IsWithin count e = subst (IsWithin count) (sym is) (AllByRecursion-at (IsWithin count) index pages e less within) in
-    let bytes = ap (λ (p : Paged). p.bytes) set in
     record {
       bytes = laid.bytes ∙ ap (overlay now.bytes) here ∙ ap (λ (b : List ℕ). overlay b (drop (index + 1) pages)) (sym bytes);
-      idle = ap (λ (p : Paged). p.begun) set;
+      idle = idle;
       long = ap length bytes ∙ length-with_page count now.bytes e laid.long inside ∙ laid.long;
     }
 

@@ -16,7 +16,7 @@ use ken_frame::{FRAME, Frame};
 use ken_image::Image;
 use ken_pages::PageHeap;
 use ken_record::{Page, Record};
-use std::alloc::Global;
+use std::alloc::{AllocError, Global};
 
 // Reads all pages of an image into a heap of as many, each by one read.
 pub(crate) fn load_image<D: Disk>(
@@ -38,24 +38,30 @@ pub(crate) fn load_image<D: Disk>(
     for page in 0..image.pages() {
         image.load(page, frame)?;
         prove!(frame.as_slice().len() == FRAME);
-        heap.load(page, frame);
+        heap.load(page, frame)?;
     }
     Ok(())
 }
 
-// Lays pages over a heap, one after the other.
-pub(crate) fn lay_over(heap: &mut PageHeap, frame: &mut Frame, pages: &[Page], count: u32)
+// Lays pages over a heap, one after the other. After an error some of them lie over it.
+pub(crate) fn lay_over(
+    heap: &mut PageHeap,
+    frame: &mut Frame,
+    pages: &[Page],
+    count: u32,
+) -> Result<(), AllocError>
     requires within { AreWithin count pages.now }
     requires idle { heap.old.begun ≡ None }
     requires size { length heap.old.bytes ≡ 256 * count }
-    ensures bytes { heap.new.bytes ≡ overlay heap.old.bytes pages.now }
+    ensures bytes { OnOk result (heap.new.bytes ≡ overlay heap.old.bytes pages.now) }
     ensures idle { heap.new.begun ≡ None }
     ensures size { length heap.new.bytes ≡ 256 * count }
 {
     for page in pages {
         fill(frame, page.bytes.as_slice());
-        heap.load(page.page, frame);
+        heap.load(page.page, frame)?;
     }
+    Ok(())
 }
 
 // The heap that an image, a base's pages and records' pages come to.
@@ -82,23 +88,29 @@ pub(crate) fn rebuild<D: Disk>(
     let mut heap = PageHeap::new(alloc, count)?;
     let mut frame = Frame::zeroed(alloc)?;
     load_image(image, &mut heap, &mut frame)?;
-    lay_over(&mut heap, &mut frame, base, count);
-    lay_records(&mut heap, &mut frame, records, count);
+    lay_over(&mut heap, &mut frame, base, count)?;
+    lay_records(&mut heap, &mut frame, records, count)?;
     adopted(heap)
 }
 
-// Lays the pages of records over a heap, one record after the other.
-fn lay_records(heap: &mut PageHeap, frame: &mut Frame, records: &[Record], count: u32)
+// Lays the pages of records over a heap, one record after the other. After an error some of them lie over it.
+fn lay_records(
+    heap: &mut PageHeap,
+    frame: &mut Frame,
+    records: &[Record],
+    count: u32,
+) -> Result<(), AllocError>
     requires within { AllByRecursion (HasPagesWithin count) records.now }
     requires idle { heap.old.begun ≡ None }
     requires size { length heap.old.bytes ≡ 256 * count }
-    ensures bytes { heap.new.bytes ≡ overlay heap.old.bytes (flat_map record_pages records.now) }
+    ensures bytes { OnOk result (heap.new.bytes ≡ overlay heap.old.bytes (flat_map record_pages records.now)) }
     ensures idle { heap.new.begun ≡ None }
     ensures size { length heap.new.bytes ≡ 256 * count }
 {
     for record in records {
-        lay_over(heap, frame, record.pages.as_slice(), count);
+        lay_over(heap, frame, record.pages.as_slice(), count)?;
     }
+    Ok(())
 }
 
 // The objects of a heap, or where the image is damaged.

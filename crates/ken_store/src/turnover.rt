@@ -35,7 +35,7 @@ impl<D: Disk> TurnSide<D> {
         ensures sound { (disk place : ℕ) → IsErrOf result (StoreFault.Damaged disk place) → ⊥ }
     {
         let (base, turns) = self.base(settled, acked, emitted)?;
-        self.log.turnover(self.alloc, &mut self.other, &base)?;
+        self.log.turnover(self.alloc, &mut self.other, base)?;
         self.which = self.which.other();
         self.base_turns = turns;
         self.records.clear();

@@ -11,3 +11,4 @@ mod Seated
 mod Stops
 mod Told
 mod Went
+mod Sent

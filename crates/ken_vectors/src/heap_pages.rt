@@ -1,4 +1,4 @@
-ghost use Rattle.std.specs.Prelude.{◌≡◌, ◌+◌, ◌*◌, ◌<◌, ◌≤◌, length, IfOk, IsSome};
+ghost use Rattle.std.specs.Prelude.{◌≡◌, ◌+◌, ◌*◌, ◌<◌, ◌≤◌, length, None, IfOk, IsSome};
 
 use ken_frame::Frame;
 use ken_pages::{MAX_PAGES, PageHeap};
@@ -185,7 +185,7 @@ fn a_page_is_loaded_from_a_frame(rt: HostRuntime) -> Result<(), AllocError> {
     frame.write(0, &[1]);
     frame.write(255, &[2]);
     let mut heap = PageHeap::new(alloc, 2)?;
-    heap.load(1, &frame);
+    heap.load(1, &frame)?;
     check_bytes(&rt, &heap, &[(256, 1), (511, 2)])
 }
 
@@ -195,4 +195,74 @@ fn the_largest_heap_is_written_at_its_end(rt: HostRuntime) -> Result<(), AllocEr
     assert_eq!(rt; heap.pages(), 4096);
     put(&mut heap, 1_048_575, &[1])?;
     check_dirty(&rt, &heap, &[4095])
+}
+
+// Two bytes are written across the border, with two frames spare, and taken back.
+fn put_with_spares(rt: &(impl Abort + AllocGlobal), heap: &mut PageHeap) -> Result<(), AllocError>
+    requires idle { heap.old.begun ≡ None }
+    requires long { length heap.old.bytes ≡ 512 }
+{
+    heap.reserve(2)?;
+    assert_eq!(rt; heap.spare(), 2);
+    heap.begin();
+    put(heap, 255, &[1, 2])?;
+    check_dirty(rt, heap, &[0, 1])?;
+    assert_eq!(rt; heap.spare(), 0);
+    put(heap, 255, &[3])?;
+    heap.abort();
+    assert_eq!(rt; heap.spare(), 2);
+    check_bytes(rt, heap, &[])
+}
+
+#[test]
+fn a_first_write_takes_a_spare_frame_and_an_abort_gives_it_back(
+    rt: HostRuntime,
+) -> Result<(), AllocError> {
+    put_with_spares(&rt, &mut PageHeap::new(rt.alloc(), 2)?)
+}
+
+// A page is written again after it was frozen, and kept.
+fn put_after_a_freeze(rt: &impl Abort, heap: &mut PageHeap) -> Result<(), AllocError>
+    requires begun { IsSome heap.old.begun }
+    requires long { length heap.old.bytes ≡ 512 }
+    ensures idle { IfOk result (λ _. heap.new.begun ≡ None) }
+    ensures long { IfOk result (λ _. length heap.new.bytes ≡ 512) }
+{
+    heap.reserve(2)?;
+    put(heap, 0, &[1])?;
+    let frozen = heap.freeze()?;
+    put(heap, 0, &[2])?;
+    assert_eq!(rt; heap.spare(), 0);
+    heap.commit();
+    assert_eq!(rt; frozen.len(), 1);
+    Ok(())
+}
+
+#[test]
+fn a_shared_page_is_written_to_a_frame_of_its_own(rt: HostRuntime) -> Result<(), AllocError> {
+    let mut heap = begun(rt.alloc(), 2)?;
+    put_after_a_freeze(&rt, &mut heap)?;
+    check_bytes(&rt, &heap, &[(0, 2)])
+}
+
+// A page is frozen and kept, and then loaded over.
+fn load_over_a_shared_page(alloc: Global, heap: &mut PageHeap) -> Result<usize, AllocError>
+    requires begun { IsSome heap.old.begun }
+    requires long { length heap.old.bytes ≡ 512 }
+    ensures long { IfOk result (λ _. length heap.new.bytes ≡ 512) }
+{
+    put(heap, 0, &[1])?;
+    let frozen = heap.freeze()?;
+    heap.commit();
+    let mut frame = Frame::zeroed(alloc)?;
+    frame.write(3, &[7]);
+    heap.load(0, &frame)?;
+    Ok(frozen.len())
+}
+
+#[test]
+fn a_shared_page_is_loaded_over(rt: HostRuntime) -> Result<(), AllocError> {
+    let mut heap = begun(rt.alloc(), 2)?;
+    assert_eq!(rt; load_over_a_shared_page(rt.alloc(), &mut heap)?, 1);
+    check_bytes(&rt, &heap, &[(3, 7)])
 }

@@ -1,7 +1,6 @@
 // Logs that go over to one another, on two disks that don't fail.
-ghost use Rattle.std.specs.Prelude.{◌≡◌, ◌+◌, ◌<◌, ◌^◌, length, OnOk, IfOk};
-ghost use Rattle.ken_record.specs.Grammar.{IsBase, IsRecord};
-ghost use Rattle.ken_record.specs.Spelling.{base_bytes};
+ghost use Rattle.std.specs.Prelude.{◌≡◌, ◌+◌, OnOk, IfOk};
+ghost use Rattle.ken_record.specs.Grammar.{IsRecord};
 ghost use Rattle.ken_record.specs.Versions.{One};
 ghost use Rattle.ken_bench.specs.Logs.{TakesSeals, turns_of};
 
@@ -10,7 +9,7 @@ use crate::logs::seals::{MAX_END, format};
 use crate::logs::{MAX_RECORDS, sample};
 use ken_log::Log;
 use ken_memdisk::MemDisk;
-use ken_record::{Base, Record, lengths};
+use ken_record::{Record, lengths};
 use std::alloc::Global;
 
 // A log with so many records goes over to the other disk.
@@ -22,12 +21,11 @@ pub(crate) fn turn_all(alloc: Global, item: &mut Record, count: u64) -> Result<L
     requires { IsRecord One item.old }
     ensures { IfOk result (λ log. turns_of log ≡ count) }
 {
-    let base = sample::base(alloc)?;
     let mut log = format(alloc, &[])?;
     let mut other = MemDisk::new(alloc, &[])?;
     for _ in 0..count {
         if log.records() >= FULL {
-            turn_over(alloc, &mut log, &mut other, &base)?;
+            turn_over(alloc, &mut log, &mut other)?;
         }
         seal_one(alloc, &mut log, item)?;
     }
@@ -51,15 +49,8 @@ fn seal_one(alloc: Global, log: &mut Log<MemDisk>, item: &mut Record) -> Result<
     Ok(())
 }
 
-fn turn_over(
-    alloc: Global,
-    log: &mut Log<MemDisk>,
-    other: &mut MemDisk,
-    base: &Base,
-) -> Result<(), Fault>
+fn turn_over(alloc: Global, log: &mut Log<MemDisk>, other: &mut MemDisk) -> Result<(), Fault>
     requires settled { TakesSeals log.old }
-    requires base { IsBase One base.now }
-    requires short { length (base_bytes One base.now) < 2 ^ 32 }
     ensures settled { OnOk result (TakesSeals log.new) }
     ensures turns { OnOk result (turns_of log.new ≡ turns_of log.old) }
 {
@@ -67,6 +58,6 @@ fn turn_over(
     if header.generation == u32::MAX || header.turns > MAX_RECORDS || log.records() > MAX_RECORDS {
         return Err(Fault::Full);
     }
-    log.turnover(alloc, other, base)?;
+    log.turnover(alloc, other, sample::base(alloc)?)?;
     Ok(())
 }

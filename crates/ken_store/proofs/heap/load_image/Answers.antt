@@ -9,10 +9,10 @@ loop-page-preserved g c =
     let next = c.loop-page.invariant in
     let less : c.loop-page.page + 1 ≤ c.args.image.now.pages = omega (arith, c.loop-page-test.true, c.pages-page-end.ensures) in
     let inside : 256 * c.loop-page.page + 256 ≤ length c.loop-page.heap.bytes = omega (arith, less, next.long) in
-    let bytes = ap (λ p. p.bytes) c.load-in-loop-page.ensures in
+    let bytes = c.in_ok-load-2.ensures.bytes in
     record {
       bytes = λ h told. ap (take (256 * (c.loop-page.page + 1))) bytes ∙ loaded_more c.loop-page.page c.loop-page.heap.bytes h.now.seen c.load.new.frame inside (c.in_ok-load.ensures.read h (next.same.story ∙ told)) whole (next.bytes h told);
-      idle = ap (λ p. p.begun) c.load-in-loop-page.ensures;
+      idle = c.in_ok-load-2.ensures.begun;
       long = ap length bytes ∙ length-written c.loop-page.heap.bytes c.load.new.frame (256 * c.loop-page.page) (omega (arith, inside, whole)) ∙ next.long;
       whole = c.in_ok-load.ensures.whole;
       pages = c.in_ok-load.ensures.count ∙ next.pages;

@@ -12,8 +12,8 @@ returns-clause-stands g c = λ h told.
     let rest = flat_map record_pages c.args.records.now in
     let image = take (256 * c.args.image.now.pages) h.now.seen in
     let laid : c.lay_records.new.heap.bytes ≡ overlay image (c.args.base.now ++ rest) =
-    c.lay_records.ensures.bytes
-    ∙ ap (λ (b : List ℕ). overlay b rest) (c.lay_over.ensures.bytes ∙ ap (λ (b : List ℕ). overlay b c.args.base.now) (c.in_ok-load_image.ensures.bytes h told))
+    c.in_ok-lay_records.ensures.bytes
+    ∙ ap (λ (b : List ℕ). overlay b rest) (c.in_ok-lay_over.ensures.bytes ∙ ap (λ (b : List ℕ). overlay b c.args.base.now) (c.in_ok-load_image.ensures.bytes h told))
     ∙ sym (overlay-append image c.args.base.now rest) in
     subst (Stands c.adopted.result) laid c.adopted.ensures.stands
 
@@ -22,7 +22,7 @@ returns-clause-bytes g c = λ h told.
     let rest = flat_map record_pages c.args.records.now in
     let image = take (256 * c.args.image.now.pages) h.now.seen in
     let laid : c.lay_records.new.heap.bytes ≡ overlay image (c.args.base.now ++ rest) =
-    c.lay_records.ensures.bytes
-    ∙ ap (λ (b : List ℕ). overlay b rest) (c.lay_over.ensures.bytes ∙ ap (λ (b : List ℕ). overlay b c.args.base.now) (c.in_ok-load_image.ensures.bytes h told))
+    c.in_ok-lay_records.ensures.bytes
+    ∙ ap (λ (b : List ℕ). overlay b rest) (c.in_ok-lay_over.ensures.bytes ∙ ap (λ (b : List ℕ). overlay b c.args.base.now) (c.in_ok-load_image.ensures.bytes h told))
     ∙ sym (overlay-append image c.args.base.now rest) in
     subst (λ (b : List ℕ). IfOk c.adopted.result (λ o. o.bytes ≡ b)) laid c.adopted.ensures.same

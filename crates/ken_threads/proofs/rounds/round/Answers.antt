@@ -3,6 +3,9 @@ use Rattle.std.specs.Vec.{with_items}
 use Rattle.std.proofs.lemmas.List.{with_items_is}
 use Rattle.ken_threads.specs.Wires.{AreNew, ends_of}
 use Rattle.ken_threads.proofs.Rounding.{acks_served, has_room, HasBegun, HasEnded, mail_served, net_of, rounded, teams_ready}
+use denote.Exit.{no}
+use denote.Param.Send.{arg_send, param_send}
+use Rattle.ken_threads.proofs.Sent.{handler_seat_sends, lossy_sends, patch_worker_sends, wire_net_sends}
 use Rattle.ken_threads.proofs.rounds.round.Given.{Over}
 use Rattle.ken_threads.proofs.rounds.round.Goals as goal
 use Rattle.ken_threads.proofs.rounds.round.Goals.{After-seat_all, After-run_teams, After-unseat_all}
@@ -80,3 +83,12 @@ returns-clause-ok g c =
     let mail = mail_served c.ends_over_wires.ensures g.D.Disk g.O.Oracle g.U.Outlet g.A.App.handler from to in
     let acks = acks_served c.ends_over_wires.ensures g.D.Disk g.O.Oracle g.U.Outlet g.A.App.handler from to in
     rounded c.ends_over_wires.ensures g.D.Disk g.O.Oracle g.U.Outlet g.A.App.handler from to (c.close.ensures n mail.wired) (c.close-2.ensures n acks.wired)
+
+-- the workers may go to other threads
+pub run_teams-requires-send-T : goal.run_teams-requires-send-T
+run_teams-requires-send-T g c κs within =
+    let net = lossy_sends _ _ (wire_net_sends _ _ c.type_bounds.sync-R) in
+    param_send _ _ (arg_send _ no _ (handler_seat_sends _ _ _ _ _ c.type_bounds.send-D net c.type_bounds.send-O c.type_bounds.sync-A))
+
+pub run_teams-requires-send-P : goal.run_teams-requires-send-P
+run_teams-requires-send-P g c κs within = param_send _ _ (arg_send _ no _ (patch_worker_sends _ c.type_bounds.send-D))

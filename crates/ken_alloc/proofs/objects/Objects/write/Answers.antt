@@ -2,7 +2,7 @@ use Rattle.std.proofs.Common.{length, arith}
 use Rattle.std.proofs.lemmas.Result.{on_ok_weaker}
 use Rattle.ken_alloc.specs.Objects.{rewritten}
 use Rattle.ken_model.proofs.Unique.{value_of-unique}
-use Rattle.ken_alloc.proofs.Held.{IsWithin, stands_seen, part_seen, stands_rewritten, held_after, err_same, begun_same}
+use Rattle.ken_alloc.proofs.Held.{IsWithin, stands_seen, part_seen, stands_rewritten, held_after, err_same}
 use Rattle.ken_alloc.proofs.objects.Objects.write.Goals as goal
 
 pub overflow_add-place : goal.overflow_add-place
@@ -24,7 +24,7 @@ invariant_of-self c =
     held_after c.write.result c.self.inside.pages c.write.new.self (record v { blocks = rewritten c.args.place c.args.at c.args.bytes.now v.blocks }) c.self.invariant
     (on_ok_weaker c.write.result (λ is. stands_rewritten xs v stands c.write.new.self.bytes c.args.bytes.now c.args.place c.args.at w is) c.write.ensures.bytes)
     (err_same c.write.result c.self.inside.pages c.write.new.self c.self.invariant c.write.ensures.unchanged)
-    (begun_same c.write.result c.self.inside.pages c.write.new.self c.write.ensures.begun c.write.ensures.unchanged)
+    c.write.ensures.begun
 
 pub returns-clause-value : goal.returns-clause-value
 returns-clause-value c =

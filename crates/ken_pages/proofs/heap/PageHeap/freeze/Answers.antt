@@ -1,9 +1,10 @@
-use Rattle.std.proofs.Common.{◌≡◌, ◌*◌, length, arith}
-use Rattle.ken_pages.proofs.Flat.{length_seen}
-use Rattle.ken_pages.proofs.Frozen.{dirty_below}
+use Rattle.std.proofs.Common.{◌≡◌, ℕ, List, true, false, All, get_or, sym, subst, ◌∙◌}
+use Rattle.ken_pages.specs.declared.page.Page.{Page}
+use Rattle.ken_pages.specs.Layout.{kept_pages}
 use Rattle.ken_pages.proofs.heap.PageHeap.freeze.Goals as goal
 
-pub frozen-requires-clause-within : goal.frozen-requires-clause-within
-frozen-requires-clause-within c =
-    let long : length c.args.self.now.bytes ≡ 256 * length c.self.inside.frames.items = length_seen c.self.inside.begun c.self.inside.frames.items c.self.inside.saved.entries c.args.self.now c.self.invariant.whole c.self.view_is in
-    rw (c.deref.ensures.value, c.deref-2.ensures.value) (dirty_below c.args.self.now.begun c.args.self.now.bytes c.in_ok-pages.pages.items (length c.self.inside.frames.items) (omega arith) c.requires c.in_ok-pages.ensures)
+pub share-requires-clause-kept : goal.share-requires-clause-kept
+share-requires-clause-kept c =
+    let kept : All (λ p. get_or (kept_pages c.deref.result.now) p false ≡ true) c.in_ok-changed.changed.items = c.in_ok-changed.ensures.kept in
+    subst (λ (qs : List ℕ). All (λ p. get_or (kept_pages c.deref_mut.result.now) p false ≡ true) qs) (sym c.deref-3.ensures.value)
+    (subst (λ (ps : List Page). All (λ p. get_or (kept_pages ps) p false ≡ true) c.in_ok-changed.changed.items) (c.deref.ensures.value ∙ sym c.deref_mut.ensures.value) kept)

@@ -1,8 +1,8 @@
 use Rattle.std.proofs.Common.{◌≡◌, ◌*◌, length, arith}
-use Rattle.ken_pages.proofs.Flat.{length_seen}
+use Rattle.ken_pages.proofs.Pages.{length_view}
 use Rattle.ken_pages.proofs.heap.PageHeap.read.Goals as goal
 
 pub read-requires-clause-within : goal.read-requires-clause-within
 read-requires-clause-within c =
-    let long : length c.args.self.now.bytes ≡ 256 * length c.self.inside.frames.items = length_seen c.self.inside.begun c.self.inside.frames.items c.self.inside.saved.entries c.args.self.now c.self.invariant.whole c.self.view_is in
-    rw c.deref.ensures.value (omega arith)
+    let long : length c.args.self.now.bytes ≡ 256 * length c.self.inside.pages.items = length_view c.self.inside.begun c.self.inside.pages.items c.self.inside.shelf c.args.self.now c.self.invariant.whole c.self.view_is in
+    rw c.deref.ensures.value (omega (arith, long, c.requires))
