@@ -142,12 +142,11 @@ impl<'a, O: Oracle> Turn<'a, O> {
         if self.made.sends.len() >= MAX_SENDS {
             return Err(SendFault::TooMany);
         }
-        let bytes = Vec::from_slice(self.made.alloc, bytes).map_err(|_| SendFault::Memory)?;
-        let send = Send {
-            to,
-            bytes: Octets::new(bytes),
-        };
-        self.made.sends.push(send).map_err(|_| SendFault::Memory)
+        let bytes = Octets::copied(self.made.alloc, bytes).map_err(|_| SendFault::Memory)?;
+        self.made
+            .sends
+            .push(Send { to, bytes })
+            .map_err(|_| SendFault::Memory)
     }
 
     /// Sends a text to a node, as handlers do: one of more than `MAX_TEXT` bytes, or to no node of the run, is beyond the
@@ -195,11 +194,8 @@ impl<'a, O: Oracle> Turn<'a, O> {
         if self.made.outs.len() >= MAX_OUTPUTS {
             return Err(OutputFault::TooMany);
         }
-        let text = Vec::from_slice(self.made.alloc, text).map_err(|_| OutputFault::Memory)?;
-        self.made
-            .outs
-            .push(Octets::new(text))
-            .map_err(|_| OutputFault::Memory)
+        let text = Octets::copied(self.made.alloc, text).map_err(|_| OutputFault::Memory)?;
+        self.made.outs.push(text).map_err(|_| OutputFault::Memory)
     }
 
     /// Outputs a text, as handlers do: one of more than `MAX_TEXT` bytes is beyond the limits of a turn and is passed over,

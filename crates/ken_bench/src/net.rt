@@ -102,7 +102,7 @@ fn senders_of(word: &str) -> Result<u8, Fault>
 // The bytes of the mail and of the acknowledgement of each message.
 fn copy(alloc: Global, messages: u64) -> Result<Report, Fault> {
     let message = spelled::message(alloc, 0, 1, 1)?;
-    let mut piece = spelled::mail(alloc, &message)?.into_vec();
+    let mut piece = Vec::from_slice(alloc, spelled::mail(alloc, &message)?.as_slice())?;
     piece.extend_from_slice(spelled::ack(alloc, 1, 0, 1)?.as_slice())?;
     let bytes = copy_all(alloc, &piece, messages, usize::MAX)?;
     Ok(Report::Copied { bytes })

@@ -86,7 +86,7 @@ impl MemOutlet {
         ensures ok { OnOk result (self.new ≡ record self.old { outs = self.old.outs ++ record { number = number; text = text.now } ∷ [] }) }
         ensures err { OnErr result (self.new ≡ self.old) }
     {
-        let text = Octets::new(Vec::from_slice(self.alloc, text)?);
+        let text = Octets::copied(self.alloc, text)?;
         self.took.reserve(1)?;
         self.took.push_reserved(Out { number, text });
         Ok(())

@@ -20,6 +20,7 @@ pub mod Prepared
 pub mod Others
 pub mod Choices
 pub mod Heads
+pub mod Joined
 pub mod Walked
 pub mod Headers
 pub mod Stuck

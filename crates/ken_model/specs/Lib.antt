@@ -1,5 +1,6 @@
 pub mod Effects
 pub mod Heap
+pub mod Text
 pub mod KeyValue
 pub mod Commands
 pub mod Bank

@@ -1,7 +1,7 @@
 // Copies where memory may run out.
 ghost use Rattle.std.specs.Prelude.{◌≡◌, IfOk};
 
-use crate::{Emission, Items, Message, Octets, Out};
+use crate::{Emission, Items, Message, Out};
 use std::alloc::{AllocError, Global};
 
 /// What can be copied where memory may run out.
@@ -9,12 +9,6 @@ pub trait TryClone: Drop + Sized {
     /// An equal value. It fails only for want of memory.
     fn try_clone(&self, alloc: Global) -> Result<Self, AllocError>
         ensures { IfOk result (λ copy. copy ≡ self.now) };
-}
-
-impl TryClone for Octets {
-    fn try_clone(&self, alloc: Global) -> Result<Self, AllocError> {
-        Ok(Octets::new(Vec::from_slice(alloc, self.as_slice())?))
-    }
 }
 
 impl TryClone for Message {

@@ -1,56 +1,9 @@
 // Lists in public types: a contract sees the list, and no capacity.
-ghost use Rattle.std.specs.Prelude.{◌≡◌, ◌==◌, ◌<◌, ◌≤◌, ℕ, List, length, set, OnOk, OnErr};
+ghost use Rattle.std.specs.Prelude.{◌≡◌, ◌==◌, ◌<◌, ◌≤◌, List, length, set, OnOk, OnErr};
 ghost use Rattle.std.specs.List.{insert, remove};
 
 use std::alloc::AllocError;
 use std::marker::Model;
-
-/// A byte string.
-#[derive(Debug, Drop)]
-pub struct Octets {
-    bytes: Vec<u8>,
-}
-
-impl Model for Octets {
-    ghost Value = { List ℕ };
-
-    ghost view = { λ o. o.bytes.items };
-}
-
-impl Octets {
-    /// Takes the vector over, and no memory.
-    pub fn new(bytes: Vec<u8>) -> Self
-        ensures { result ≡ bytes.items }
-    {
-        Octets { bytes }
-    }
-
-    pub fn as_slice(&self) -> &[u8]
-        ensures { result.now ≡ self.now }
-    {
-        self.bytes.as_slice()
-    }
-
-    /// The number of bytes.
-    pub fn len(&self) -> usize
-        ensures { result ≡ length self.now }
-    {
-        self.bytes.len()
-    }
-
-    pub fn is_empty(&self) -> bool
-        ensures { result ≡ (length self.now == 0) }
-    {
-        self.bytes.is_empty()
-    }
-
-    /// Gives the vector back, and takes no memory.
-    pub fn into_vec(self) -> Vec<u8>
-        ensures { result.items ≡ self }
-    {
-        self.bytes
-    }
-}
 
 /// A list of any other items.
 #[derive(Debug, Drop)]

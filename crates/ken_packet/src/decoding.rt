@@ -28,7 +28,7 @@ impl<'a> Lent<'a> {
             to: self.to,
             number: self.number,
             stamp: self.stamp,
-            bytes: Octets::new(Vec::from_slice(alloc, self.bytes)?),
+            bytes: Octets::copied(alloc, self.bytes)?,
         })
     }
 }

@@ -1,10 +1,10 @@
-ghost use Rattle.std.specs.Prelude.{◌≡◌, ◌++◌, [], ◌↔◌, ◌≤◌, IfOk, IsTrue, OnOk};
-ghost use Rattle.ken_record.specs.Spelling.{number, text};
-ghost use Rattle.ken_record.specs.Grammar.{IsText};
+ghost use Rattle.std.specs.Prelude.{◌≡◌, ◌+◌, ◌++◌, ◌↔◌, ◌≤◌, length, IfOk, IsTrue};
+ghost use Rattle.ken_record.specs.Spelling.{number};
 ghost use Rattle.ken_packet.specs.Packets.{IsMail, IsAck, IsPacket, head, counts, mail_bytes, ack_bytes, packet_bytes};
 
+use arrayvec::ArrayVec;
+use byteorder::{BigEndian, ByteOrder};
 use ken_model::{MAX_NODES, MAX_TEXT, Message, Octets};
-use ken_num::{put_u8, put_u16, put_u64};
 use std::alloc::{AllocError, Global};
 
 pub(crate) const MAIL: u8 = 1;
@@ -13,9 +13,6 @@ pub(crate) const ACK: u8 = 2;
 
 // The kind, the two ends, the number, the stamp, and the length of the text.
 const MAIL_HEAD: usize = 3 + 8 + 8 + 2;
-
-// The kind, the two ends, and the number.
-const ACK_LEN: usize = 3 + 8;
 
 /// What goes from one node to another.
 #[derive(Debug, Drop)]
@@ -63,64 +60,74 @@ pub fn encode(alloc: Global, packet: &Packet) -> Result<Octets, AllocError>
     }
 }
 
-/// The spelling of a message as mail, without a packet made of it.
+/// The spelling of a message as mail, without a packet made of it. One with a text of at most 25 bytes takes no memory.
 pub fn encode_mail(alloc: Global, message: &Message) -> Result<Octets, AllocError>
     requires { IsMail message.now }
     ensures { IfOk result (λ bytes. bytes ≡ mail_bytes message.now) }
 {
-    let mut out = mail_room(alloc, message.bytes.as_slice())?;
-    put_head(&mut out, MAIL, message.from, message.to)?;
-    put_counts(&mut out, message.number, message.stamp)?;
-    put_text(&mut out, message.bytes.as_slice())?;
-    Ok(Octets::new(out))
+    let text = message.bytes.as_slice();
+    Octets::joined(alloc, &mail_head(message, text.len() as u16), text)
 }
 
-// No bytes yet, and room for a mail with that text.
-fn mail_room(alloc: Global, text: &[u8]) -> Result<Vec<u8>, AllocError>
-    requires { IsText text.now }
-    ensures { IfOk result (λ out. out.items ≡ []) }
-{
-    Vec::with_capacity(alloc, MAIL_HEAD + text.len())
-}
-
+// It takes no memory.
+#[tactic(auto, unfolding(ken_record::specs::Spelling::number))]
 fn encode_ack(alloc: Global, from: u8, to: u8, through: u64) -> Result<Octets, AllocError>
     ensures { IfOk result (λ bytes. bytes ≡ ack_bytes from to through) }
 {
-    let mut out = Vec::with_capacity(alloc, ACK_LEN)?;
-    put_head(&mut out, ACK, from, to)?;
-    put_count(&mut out, through)?;
-    Ok(Octets::new(out))
+    let mut count = [0; 8];
+    BigEndian::write_u64(&mut count, through);
+    Octets::joined(alloc, &[ACK, from, to], &count)
+}
+
+// All of a mail that stands before its text, which has so many bytes.
+fn mail_head(message: &Message, len: u16) -> ArrayVec<u8, MAIL_HEAD>
+    ensures { result.items ≡ head 1 message.now.from message.now.to ++ (counts message.now.number message.now.stamp ++ number 2 len) }
+{
+    let mut head = ArrayVec::new();
+    append_ends(&mut head, message.from, message.to);
+    append_count(&mut head, message.number);
+    append_count(&mut head, message.stamp);
+    append_len(&mut head, len);
+    head
 }
 
 #[tactic(auto, unfolding(ken_record::specs::Spelling::number))]
-fn put_head(out: &mut Vec<u8>, kind: u8, from: u8, to: u8) -> Result<(), AllocError>
-    ensures { OnOk result (out.new.items ≡ out.old.items ++ head kind from to) }
+fn append_ends(out: &mut ArrayVec<u8, MAIL_HEAD>, from: u8, to: u8)
+    requires { length out.old.items + 3 ≤ MAIL_HEAD }
+    ensures bytes { out.new.items ≡ out.old.items ++ head 1 from to }
+    ensures len { length out.new.items ≡ length out.old.items + 3 }
 {
-    put_u8(out, kind)?;
-    put_u8(out, from)?;
-    put_u8(out, to)
+    append(out, &[MAIL, from, to]);
 }
 
 #[tactic(auto, unfolding(ken_record::specs::Spelling::number))]
-fn put_counts(out: &mut Vec<u8>, number: u64, stamp: u64) -> Result<(), AllocError>
-    ensures { OnOk result (out.new.items ≡ out.old.items ++ counts number stamp) }
+fn append_count(out: &mut ArrayVec<u8, MAIL_HEAD>, count: u64)
+    requires { length out.old.items + 8 ≤ MAIL_HEAD }
+    ensures bytes { out.new.items ≡ out.old.items ++ number 8 count }
+    ensures len { length out.new.items ≡ length out.old.items + 8 }
 {
-    put_u64(out, number)?;
-    put_u64(out, stamp)
+    let mut bytes = [0; 8];
+    BigEndian::write_u64(&mut bytes, count);
+    append(out, &bytes);
 }
 
 #[tactic(auto, unfolding(ken_record::specs::Spelling::number))]
-fn put_count(out: &mut Vec<u8>, count: u64) -> Result<(), AllocError>
-    ensures { OnOk result (out.new.items ≡ out.old.items ++ number 8 count) }
+fn append_len(out: &mut ArrayVec<u8, MAIL_HEAD>, len: u16)
+    requires { length out.old.items + 2 ≤ MAIL_HEAD }
+    ensures bytes { out.new.items ≡ out.old.items ++ number 2 len }
+    ensures len { length out.new.items ≡ length out.old.items + 2 }
 {
-    put_u64(out, count)
+    let mut bytes = [0; 2];
+    BigEndian::write_u16(&mut bytes, len);
+    append(out, &bytes);
 }
 
-#[tactic(auto, unfolding(ken_record::specs::Spelling::number))]
-fn put_text(out: &mut Vec<u8>, bytes: &[u8]) -> Result<(), AllocError>
-    requires { IsText bytes.now }
-    ensures { OnOk result (out.new.items ≡ out.old.items ++ text bytes.now) }
+// Appends bytes for which there is room.
+fn append(out: &mut ArrayVec<u8, MAIL_HEAD>, bytes: &[u8])
+    requires { length out.old.items + length bytes.now ≤ MAIL_HEAD }
+    ensures { out.new.items ≡ out.old.items ++ bytes.now }
 {
-    put_u16(out, bytes.len() as u16)?;
-    out.extend_from_slice(bytes)
+    if out.try_extend_from_slice(bytes).is_err() {
+        unreachable!()
+    }
 }

@@ -36,7 +36,7 @@ impl Model for PageHeap {
 }
 
 impl PageHeap {
-    /// Pages of zeros, with no turn begun and no spare frame.
+    /// Pages of zeros, with no turn begun and no spare frame. All share one frame until they are written.
     pub fn new(alloc: Global, pages: u32) -> Result<PageHeap, AllocError>
         requires some { 1 ≤ pages }
         requires most { pages ≤ MAX_PAGES }
@@ -47,9 +47,10 @@ impl PageHeap {
           own = replicate pages false;
         }) }
     {
+        let zeros = Arc::new(alloc, Frame::zeroed(alloc)?)?;
         let mut all = Vec::with_capacity(alloc, pages as usize)?;
         for _page in 0..pages {
-            all.push(Page::new(Frame::zeroed(alloc)?))?;
+            all.push(Page::new(Arc::try_clone(&zeros)?))?;
         }
         Ok(PageHeap {
             alloc,

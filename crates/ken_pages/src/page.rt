@@ -64,15 +64,15 @@ pub(crate) struct Page {
 }
 
 impl Page {
-    /// A page of its own.
-    pub(crate) fn new(frame: Frame) -> Page
-        ensures now { now_of result ≡ frame }
-        ensures was { was_of result ≡ frame }
+    /// A page that shares its frame, which no turn wrote.
+    pub(crate) fn new(frame: Arc<Frame>) -> Page
+        ensures now { now_of result ≡ arc_value frame }
+        ensures was { was_of result ≡ arc_value frame }
         ensures kept { is_kept result ≡ false }
         ensures own { is_own result ≡ false }
     {
         Page {
-            held: Held::Own(frame),
+            held: Held::Shared(frame),
             before: None,
         }
     }
@@ -182,7 +182,8 @@ impl Page {
         share
     }
 
-    /// Takes a frame's bytes over, of a page that no turn wrote. After an error it is as before.
+    /// Takes a frame's bytes over, of a page that no turn wrote. It takes memory only where the page shares its frame and has
+    /// other bytes. After an error it is as before.
     pub(crate) fn load(&mut self, alloc: Global, frame: &Frame) -> Result<(), AllocError>
         requires { is_kept self.old ≡ false }
         ensures now { OnOk result (now_of self.new ≡ frame.now) }
@@ -192,6 +193,9 @@ impl Page {
         ensures kept { is_kept self.new ≡ false }
     {
         prove!(frame.as_slice().len() == FRAME);
+        if equal_page(self.frame().as_slice(), frame.as_slice()) {
+            return Ok(());
+        }
         if let Held::Shared(_) = &self.held {
             self.held = Held::Own(Frame::zeroed(alloc)?);
         }

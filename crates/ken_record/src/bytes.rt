@@ -75,7 +75,7 @@ pub(crate) fn text_front(alloc: Global, bytes: &[u8]) -> Result<(Octets, &[u8]),
         return Err(RecordFault::Bad);
     }
     let (text, rest) = part_front(rest, len)?;
-    Ok((Octets::new(Vec::from_slice(alloc, text)?), rest))
+    Ok((Octets::copied(alloc, text)?, rest))
 }
 
 // The same, of whatever length the two bytes tell.
@@ -85,7 +85,7 @@ pub(crate) fn long_text_front(alloc: Global, bytes: &[u8]) -> Result<(Octets, &[
 {
     let (len, rest) = u16_front(bytes)?;
     let (text, rest) = part_front(rest, usize::from(len))?;
-    Ok((Octets::new(Vec::from_slice(alloc, text)?), rest))
+    Ok((Octets::copied(alloc, text)?, rest))
 }
 
 #[tactic(auto, unfolding(crate::specs::Spelling::number))]

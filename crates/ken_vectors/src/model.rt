@@ -1,7 +1,7 @@
 use ken_apps::{blocks_are_accounts, messages_are_credits, money_is_kept};
 use ken_model::{
-    Command, Items, Kind, Octets, Order, agreement_is_legal, first_gap_is_least, is_pair_of,
-    report_spells_its_run, rounded,
+    Command, Items, Kind, Octets, Order, TryClone, agreement_is_legal, first_gap_is_least,
+    is_pair_of, report_spells_its_run, rounded,
 };
 use std::alloc::AllocError;
 
@@ -53,7 +53,25 @@ fn octets_keep_their_bytes(rt: HostRuntime) -> Result<(), AllocError> {
     assert_eq!(rt; octets.len(), 3);
     assert!(rt; !octets.is_empty());
     assert_eq!(rt; octets.as_slice(), b"ken".as_slice());
-    assert_eq!(rt; octets.into_vec().as_slice(), b"ken".as_slice());
+    Ok(())
+}
+
+#[test]
+fn octets_are_copied(rt: HostRuntime) -> Result<(), AllocError> {
+    let alloc = rt.alloc();
+    for len in [0, 1, 46, 47, 512] {
+        let bytes = Vec::from_elem(alloc, 7_u8, len)?;
+        let copied = Octets::copied(alloc, bytes.as_slice())?;
+        assert_eq!(rt; copied.as_slice(), bytes.as_slice());
+        assert_eq!(rt; copied.len(), len);
+        assert_eq!(rt; copied.try_clone(alloc)?.as_slice(), bytes.as_slice());
+        let (front, back) = bytes.as_slice().split_at(len / 3);
+        assert_eq!(rt;
+            Octets::joined(alloc, front, back)?.as_slice(),
+            bytes.as_slice()
+        );
+        assert_eq!(rt; Octets::new(bytes).try_clone(alloc)?.len(), len);
+    }
     Ok(())
 }
 

@@ -3,7 +3,7 @@ ghost use Rattle.std.specs.Prelude.{◌≡◌, ◌<◌, ◌≤◌, IfOk};
 ghost use Rattle.std.specs.List.{AllByRecursion};
 ghost use Rattle.ken_model.specs.Network.{inputs_from};
 
-use ken_model::{Input, Message, OUTSIDE, TryClone};
+use ken_model::{Input, Message, OUTSIDE, Octets};
 use std::alloc::{AllocError, Global};
 
 // The inputs for a node, numbered from 1.
@@ -22,7 +22,7 @@ pub(crate) fn inputs_for(
                 to: node,
                 number: messages.len() as u64 + 1,
                 stamp: 0,
-                bytes: input.text.try_clone(alloc)?,
+                bytes: Octets::copied(alloc, input.text.as_slice())?,
             })?;
         }
     }
