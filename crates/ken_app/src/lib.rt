@@ -4,8 +4,6 @@
 mod app;
 mod faults;
 mod oracle;
-#[cfg(test)]
-mod tests;
 mod turn;
 
 pub use app::{App, take_turn};

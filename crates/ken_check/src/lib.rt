@@ -16,6 +16,3 @@ mod words;
 pub use judging::Judging;
 pub use laws::{reports_are_judged_once, reports_are_right, right_reports_are_of_runs};
 pub use verdict::Verdict;
-
-#[cfg(test)]
-mod tests;

@@ -7,8 +7,6 @@ mod inputs;
 mod laws;
 mod mishaps;
 mod soaks;
-#[cfg(test)]
-mod tests;
 mod walks;
 
 pub use generated::script_of;

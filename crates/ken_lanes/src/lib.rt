@@ -4,6 +4,3 @@
 mod compare;
 
 pub use compare::{equal_page, first_difference};
-
-#[cfg(test)]
-mod tests;

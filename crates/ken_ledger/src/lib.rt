@@ -3,8 +3,6 @@
 
 mod laws;
 mod ledger;
-#[cfg(test)]
-mod tests;
 
 pub use laws::{ledger_keeps_limits, ledger_keeps_lines, no_payment_is_lost};
 pub use ledger::Ledger;

@@ -4,8 +4,6 @@
 mod pop_end;
 mod push_end;
 mod rings;
-#[cfg(test)]
-mod tests;
 
 pub use pop_end::PopEnd;
 pub use push_end::{PushEnd, SLOTS};

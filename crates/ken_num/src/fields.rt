@@ -82,35 +82,3 @@ pub fn put_u64(out: &mut Vec<u8>, n: u64) -> Result<(), AllocError>
     BigEndian::write_u64(&mut field, n);
     out.extend_from_slice(&field)
 }
-
-#[cfg(test)]
-mod tests {
-    use super::*;
-    use std::test::Fail;
-
-    #[test]
-    fn reads_the_number_at_a_place(rt: HostRuntime) {
-        let bytes = [0x01, 0x23, 0x45, 0x67, 0x89, 0xab, 0xcd, 0xef, 0xff];
-        assert_eq!(rt; u8_at(&bytes, 8), Some(0xff));
-        assert_eq!(rt; u8_at(&bytes, 9), None);
-        assert_eq!(rt; u16_at(&bytes, 7), Some(0xefff));
-        assert_eq!(rt; u16_at(&bytes, 8), None);
-        assert_eq!(rt; u32_at(&bytes, 2), Some(0x4567_89ab));
-        assert_eq!(rt; u32_at(&bytes, 6), None);
-        assert_eq!(rt; u64_at(&bytes, 0), Some(0x0123_4567_89ab_cdef));
-        assert_eq!(rt; u64_at(&bytes, 1), Some(0x2345_6789_abcd_efff));
-        assert_eq!(rt; u64_at(&bytes, usize::MAX), None);
-    }
-
-    #[test]
-    fn appends_a_number_in_its_bytes(rt: HostRuntime) -> Result<(), Fail> {
-        let mut out = Vec::new(rt.alloc());
-        put_u8(&mut out, 0xa5)?;
-        put_u16(&mut out, 0x0102)?;
-        put_u32(&mut out, 0x4b45_4e48)?;
-        put_u64(&mut out, 0x0102_0304_0506_0708)?;
-        let want = [0xa5, 1, 2, b'K', b'E', b'N', b'H', 1, 2, 3, 4, 5, 6, 7, 8];
-        assert_eq!(rt; out.as_slice(), want.as_slice());
-        Ok(())
-    }
-}

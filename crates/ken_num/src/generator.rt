@@ -42,15 +42,3 @@ impl Lcg {
         self.state >> LOW_BITS
     }
 }
-
-#[cfg(test)]
-mod tests {
-    use super::*;
-
-    #[test]
-    fn answers_the_same_words_from_the_same_state(rt: HostRuntime) {
-        let mut from_zero = Lcg::new(0);
-        assert_eq!(rt; from_zero.next(), 167_951_807);
-        assert_eq!(rt; from_zero.next(), 218_396_424);
-    }
-}

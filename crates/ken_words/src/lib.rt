@@ -5,8 +5,6 @@ mod commands;
 mod laws;
 mod numbers;
 mod parser;
-#[cfg(test)]
-mod tests;
 
 pub use commands::{Command, command_in};
 pub use laws::commands_fit;
