@@ -2,21 +2,7 @@
 #![tactic(auto)]
 
 #[cfg(test)]
-mod actors;
-#[cfg(test)]
-mod counters;
-#[cfg(test)]
-mod frames;
-#[cfg(test)]
-mod heap_pages;
-#[cfg(test)]
-mod kinds;
-#[cfg(test)]
-mod model;
-#[cfg(test)]
 mod networks;
-#[cfg(test)]
-mod objects;
 #[cfg(test)]
 mod orders;
 #[cfg(test)]
@@ -27,7 +13,3 @@ mod packets;
 mod reports;
 #[cfg(test)]
 mod streams;
-#[cfg(test)]
-mod turns;
-#[cfg(test)]
-mod values;

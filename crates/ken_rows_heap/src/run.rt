@@ -1,0 +1,64 @@
+// Rows of a run of abstract actors.
+ghost use Rattle.std.specs.Prelude.{◌≡◌};
+
+use crate::row::{Answered, Row};
+use ken_model::{Actors, Facts, Input, Items, Kind, MAX_TEXT, Step};
+use ken_rows::RowFault;
+
+/// A run with heaps of one page and one input, for node 0.
+#[derive(Drop)]
+pub(crate) struct Run {
+    nodes: u8,
+    actors: Actors<'static>,
+    ghost known: { actors.facts.nodes ≡ nodes },
+}
+
+impl Run {
+    /// KIND NODES TURNS TEXT. The facts are never given back, since the actors borrow them.
+    pub(crate) fn start(row: &mut Row<'_, '_>) -> Result<Run, RowFault> {
+        let kind = Kind::of(row.words.word()?).ok_or(RowFault::Usage)?;
+        let nodes = row.words.within(1, 8)? as u8;
+        let turns = row.words.within(1, 100_000)?;
+        let text = row.text()?;
+        if text.len() > MAX_TEXT {
+            return Err(RowFault::Usage);
+        }
+        let facts = Facts {
+            nodes,
+            kind,
+            size: 256,
+            turns,
+            inputs: Items::new(vec![in row.alloc; Input { node: 0, text }]?),
+        };
+        let actors = Actors::start(row.alloc, Box::leak(Box::new(row.alloc, facts)?))?;
+        Ok(Run { nodes, actors })
+    }
+
+    /// NODE FROM DRAWS: what a step makes and the heap of its node then, or why it isn't made.
+    pub(crate) fn step(&mut self, row: &mut Row<'_, '_>) -> Answered {
+        let node = row.words.within(0, 255)? as u8;
+        let from = row.words.within(0, 255)? as u8;
+        let draws = Items::new(row.words.numbers(row.alloc)?);
+        let done = match self.actors.step(&Step { node, from, draws }) {
+            Ok(done) => done,
+            Err(fault) => {
+                let reason = format!(in row.alloc; "{fault}")?;
+                return Ok(row.answer.word(reason.as_str())?);
+            }
+        };
+        row.answer.named("stamp", done.stamp)?;
+        row.answer.named("number", done.number)?;
+        row.answer.end()?;
+        for send in done.sends.as_slice() {
+            let to = send.to;
+            row.put_text(format!(in row.alloc; "send {to}")?.as_str(), &send.bytes)?;
+        }
+        for out in done.outs.as_slice() {
+            row.put_text("out", &out.text)?;
+        }
+        if node < self.nodes {
+            row.put_value(self.actors.value(node))?;
+        }
+        Ok(())
+    }
+}
