@@ -1,5 +1,0 @@
-use Rattle.std.proofs.Common.{[], ◌∷◌}
-use Rattle.ken_wire_vectors.proofs.wires.send.Given as goal
-
-abbrev pub ghosts-put_as : goal.ghosts-put_as
-ghosts-put_as g a = record { sealed = a.message.now ∷ []; consumed = [] }
