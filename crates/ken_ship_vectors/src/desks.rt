@@ -1,11 +1,8 @@
-ghost use Rattle.std.specs.Prelude.{◌≡◌, ◌≤◌, ◌<◌, IfOk};
-ghost use Rattle.std.specs.List.{All};
-ghost use Rattle.ken_record.specs.Grammar.{IsSent};
+ghost use Rattle.std.specs.Prelude.{◌≡◌, ◌≤◌, IfOk};
 ghost use Rattle.ken_links.specs.Rings.{free, IsRing};
 
 use ken_links::{PopEnd, PushEnd, ring};
 use ken_model::{Items, Octets, Out};
-use ken_record::Sent;
 use ken_ship::{Sealed, SendWorker, Told};
 use std::alloc::{AllocError, Global};
 
@@ -33,24 +30,7 @@ pub(crate) fn new_desk(alloc: Global, nodes: u8) -> Result<Desk, AllocError>
     })
 }
 
-// Messages to a node with the numbers from `first` up to `end`, without that.
-fn sends(alloc: Global, to: u8, first: u64, end: u64) -> Result<Items<Sent>, AllocError>
-    requires to { to < 8 }
-    requires first { 1 ≤ first }
-    ensures { IfOk result (λ sends. All IsSent sends) }
-{
-    let mut sends = Vec::new(alloc);
-    for number in first..end {
-        sends.push(Sent {
-            to,
-            number,
-            bytes: Octets::new(Vec::from_slice(alloc, b"m")?),
-        })?;
-    }
-    Ok(Items::new(sends))
-}
-
-// Outputs with such numbers.
+// Outputs with the numbers from `first` up to `end`, without that.
 pub(crate) fn outs(alloc: Global, first: u64, end: u64) -> Result<Items<Out>, AllocError> {
     let mut outs = Vec::new(alloc);
     for number in first..end {
@@ -62,25 +42,12 @@ pub(crate) fn outs(alloc: Global, first: u64, end: u64) -> Result<Items<Out>, Al
     Ok(Items::new(outs))
 }
 
-// A turn that sends such messages to a node.
-pub(crate) fn sending(alloc: Global, to: u8, first: u64, end: u64) -> Result<Sealed, AllocError>
-    requires to { to < 8 }
-    requires first { 1 ≤ first }
-{
-    Ok(Sealed {
-        turn: 1,
-        stamp: 1,
-        sends: sends(alloc, to, first, end)?,
-        outs: Items::new(Vec::new(alloc)),
-    })
-}
-
 // A turn that outputs two.
 pub(crate) fn emitting(alloc: Global) -> Result<Sealed, AllocError> {
     Ok(Sealed {
         turn: 1,
         stamp: 1,
-        sends: sends(alloc, 0, 1, 1)?,
+        sends: Items::new(Vec::new(alloc)),
         outs: outs(alloc, 1, 3)?,
     })
 }

@@ -2,13 +2,9 @@
 #![tactic(auto)]
 
 #[cfg(test)]
-mod networks;
 #[cfg(test)]
-mod orders;
 #[cfg(test)]
-mod outboxes;
 #[cfg(test)]
-mod packets;
 #[cfg(test)]
 mod reports;
 #[cfg(test)]
