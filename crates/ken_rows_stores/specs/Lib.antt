@@ -1,2 +1,2 @@
-pub mod Disks
 pub mod Stores
+pub mod Stages

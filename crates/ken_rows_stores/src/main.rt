@@ -1,0 +1,15 @@
+//! Rows of the store of a node, over disks in memory.
+#![tactic(auto)]
+
+mod disks;
+mod rows;
+mod stores;
+mod turns;
+
+use ken_rows::transcribe;
+use std::process::ExitCode;
+use stores::Stores;
+
+fn main(rt: HostRuntime) -> ExitCode {
+    transcribe(&rt, &mut Stores::new(rt.alloc()))
+}
