@@ -1,0 +1,114 @@
+use ken_disk::{Disk, MAX_LEN};
+use ken_memdisk::{Cut, MemDisk};
+use ken_rows::{Answer, Layer, RowFault, Words};
+use std::alloc::Global;
+use std::fmt::Display;
+use std::mem;
+
+/// What a command comes to.
+pub(crate) type Told = Result<(), RowFault>;
+
+// The most cuts of a disk.
+const MAX_CUTS: usize = 256;
+
+/// What the rows speak to.
+#[derive(Drop)]
+pub(crate) struct Disks {
+    pub(crate) alloc: Global,
+    /// The disk of the rows, and the other one.
+    pub(crate) disk: Option<MemDisk>,
+    pub(crate) other: Option<MemDisk>,
+    /// Names of bytes.
+    pub(crate) names: Vec<(Vec<u8>, Vec<u8>)>,
+}
+
+impl Layer for Disks {
+    fn answer(&mut self, command: &[u8], words: &mut Words<'_>, answer: &mut Answer) -> Told {
+        match command {
+            b"let" => self.name(words),
+            b"new" => self.make(words),
+            b"swap" => Ok(mem::swap(&mut self.disk, &mut self.other)),
+            b"write" | b"sync" | b"bytes" | b"hint" | b"restart" => {
+                self.call(command, words, answer)
+            }
+            b"format" => self.format(words, answer),
+            b"seal" => self.seal(words, answer),
+            b"turnover" => self.turn_over(words, answer),
+            b"mount" => self.mount(false, words, answer),
+            b"log" => self.mount(true, words, answer),
+            b"image" => self.image(words, answer),
+            b"patch" => self.patch(words, answer),
+            b"load" => self.load(words, answer),
+            b"decode" => self.decode(words, answer),
+            b"show" => self.show(words, answer),
+            b"get" => self.get(words, answer),
+            b"put" => self.put(words, answer),
+            _ => Err(RowFault::Usage),
+        }
+    }
+}
+
+impl Disks {
+    pub(crate) fn new(alloc: Global) -> Disks {
+        Disks {
+            alloc,
+            disk: None,
+            other: None,
+            names: Vec::new(alloc),
+        }
+    }
+
+    /// Tells whether a call was done, or why it wasn't.
+    pub(crate) fn tell<E: Display + Drop>(&self, call: Result<(), E>, answer: &mut Answer) -> Told {
+        match call {
+            Ok(()) => Ok(answer.word("ok")?),
+            Err(fault) => Ok(answer.word(fault.to_string(self.alloc)?.as_str())?),
+        }
+    }
+
+    /// Takes the disk away.
+    pub(crate) fn take(&mut self) -> Result<MemDisk, RowFault> {
+        self.disk.take().ok_or(RowFault::Usage)
+    }
+
+    // A disk with cuts.
+    fn make(&mut self, words: &mut Words<'_>) -> Told {
+        let mut cuts = Vec::new(self.alloc);
+        for _ in 0..MAX_CUTS {
+            if !words.has_next() {
+                break;
+            }
+            let call = words.number()?;
+            let pick = words.number()?;
+            cuts.push(Cut { call, pick })?;
+        }
+        self.disk = Some(MemDisk::new(self.alloc, &cuts)?);
+        Ok(())
+    }
+
+    fn call(&mut self, command: &[u8], words: &mut Words<'_>, answer: &mut Answer) -> Told {
+        let mut disk = self.take()?;
+        match command {
+            b"write" => {
+                let at = words.number()?;
+                let bytes = self.changed(words)?;
+                if at > disk.len() || at > MAX_LEN || bytes.len() as u64 > MAX_LEN - at {
+                    return Err(RowFault::Usage);
+                }
+                self.tell(disk.write(at, &bytes), answer)?;
+            }
+            b"sync" => self.tell(disk.sync(), answer)?,
+            b"bytes" => {
+                let mut bytes = vec![in self.alloc; 0; disk.len() as usize]?;
+                match disk.read(0, &mut bytes) {
+                    Ok(()) => answer.bytes(&bytes)?,
+                    Err(fault) => self.tell(Err(fault), answer)?,
+                }
+            }
+            b"hint" => answer.number(disk.hint())?,
+            _ => disk.restart(words.number()?)?,
+        }
+        self.disk = Some(disk);
+        Ok(())
+    }
+}
