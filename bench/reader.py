@@ -4,6 +4,8 @@ import json
 import math
 from dataclasses import dataclass, field
 
+from rows import bytes_word, named, text_word
+
 PAGE = 256
 OPEN = 0xA5
 MAX_NODES = 8
@@ -560,70 +562,81 @@ def read_script(data):
     return script
 
 
-# Answers, as `ken_bytes` spells them
+# Rows that ask for the bytes, each with the lines that answer it
 
 
-def numbers_word(numbers):
-    return ",".join(map(str, numbers))
+def item_lines(name, items):
+    """A line for each item, of its numbers and a text behind them."""
+    return [f"{named(**{name: item[:-1]})} {text_word(item[-1])}" for item in items]
 
 
-def item_word(*item):
-    """Numbers, and a text behind them."""
-    return f"{numbers_word(item[:-1])}:{item[-1].hex()}"
+def base_lines(base):
+    numbers = named(stamp=base.stamp, consumed=base.consumed, sent=base.sent, outputs=base.made)
+    return [numbers, *item_lines("message", base.messages), *item_lines("output", base.outputs), *item_lines("page", base.pages)]
 
 
-def items_words(items):
-    return " ".join([str(len(items)), *[item_word(*item) for item in items]])
+def record_lines(record):
+    numbers = named(turn=record.turn, stamp=record.stamp, **{"from": record.sender}, number=record.number, draws=record.draws)
+    return [numbers, *item_lines("send", record.sends), *item_lines("output", record.outputs), *item_lines("page", record.pages)]
 
 
-def record_word(record):
-    counts = [len(items) for items in (record.draws, record.sends, record.outputs, record.pages)]
-    return numbers_word([record.turn, record.stamp, record.sender, record.number, *counts])
-
-
-def answer_mount(data):
+def log_lines(data):
     try:
         log = mount(data)
     except Damaged as damaged:
-        return f"damaged {damaged.place}"
+        return [f"the item at {damaged.place} is damaged"]
     if not log:
-        return "unformatted"
+        return ["there is no log"]
     header = log.header
-    place = [header.node, header.nodes, header.pages, header.generation, header.turns, header.base_bytes]
-    words = [record_word(record) for _, record in log.records]
-    return " ".join(["ok", numbers_word(place), str(log.end), str(len(words)), *words])
+    lines = [named(generation=header.generation, records=len(log.records), end=log.end)]
+    owner = dict(node=header.node, nodes=header.nodes, pages=header.pages)
+    lines.append(named(**owner, generation=header.generation, turns=header.turns, base=header.base_bytes))
+    for part in [base_lines(log.base)] if log.base else []:
+        lines += part
+    for _, record in log.records:
+        lines += record_lines(record)
+    return lines
 
 
-def answer_recover(owner, *disks):
+def mount_rows(data):
+    return [("new", []), (f"write 0 {bytes_word(data)}", ["ok"]), ("log 0", log_lines(data))]
+
+
+def recover_rows(owner, *disks):
+    """A row of a node whose owner was told by an earlier row. Where there is no store, one is made on the disks."""
+    row = " ".join(["recover", *map(bytes_word, disks)])
     try:
         store = recover(owner, disks)
     except Damaged as damaged:
-        return f"damaged {damaged.disk} {damaged.place}"
+        return [(row, [f"disk {damaged.disk} is damaged at {damaged.place}"])]
     if not store:
-        return "fresh"
-    numbers = [store.turns, store.stamp, numbers_word(store.consumed), numbers_word(store.sent), store.made]
-    items = [sorted(store.messages), store.outputs]
-    heap = [store.heap.root, items_words(store.heap.blocks)]
-    return " ".join(map(str, ["ok", *numbers, *map(items_words, items), *heap]))
+        return [(row, ["fresh"])]
+    words = [named(turns=store.turns, stamp=store.stamp, consumed=store.consumed, sent=store.sent, outputs=store.made)]
+    words += item_lines("message", sorted(store.messages)) + item_lines("output", store.outputs)
+    words.append(named(root=store.heap.root))
+    words += [f"{named(block=place)} {bytes_word(block)}" for place, block in store.heap.blocks]
+    return [(row, [" ".join(words)])]
 
 
-def answer_decode(data):
-    packet = decode(data)
+def decode_rows(data):
+    packet, answer = decode(data), "no packet"
     if isinstance(packet, Mail):
-        ends = numbers_word([packet.sender, packet.to])
-        return f"mail {ends} {item_word(packet.number, packet.stamp, packet.text)}"
+        answer = f"mail {packet.sender} {packet.to} {packet.number} {packet.stamp} {text_word(packet.text)}"
     if isinstance(packet, Ack):
-        return f"ack {packet.sender},{packet.to} {packet.through}"
-    return "none"
+        answer = f"ack {packet.sender} {packet.to} {packet.through}"
+    return [(f"decode {bytes_word(data)}", [answer])]
 
 
-def answer_read(data):
+def script_lines(data):
     try:
         script = read_script(data)
     except Broken as broken:
-        return f"script {broken.rule} {broken.index}"
-    numbers = [script["nodes"]]
-    for key, absent in (("pages", 16), ("seed", 0), ("turns", 1000), ("rounds", 0), ("restarts", 64)):
-        numbers.append(script.get(key, absent))
-    counts = [len(script.get(key, [])) for key in ("inputs", "cuts", "mail", "acks", "outlets")]
-    return f"ok {numbers_word(numbers)} {numbers_word(counts)}"
+        return [f"rule S{broken.rule} at {broken.index}"]
+    absent = dict(pages=16, seed=0, turns=1000, rounds=0, restarts=64)
+    numbers = {key: script.get(key, value) for key, value in absent.items()}
+    counts = {key: len(script.get(key, [])) for key in ("inputs", "cuts", "mail", "acks", "outlets")}
+    return [named(nodes=script["nodes"], **numbers), named(**counts)]
+
+
+def read_rows(data):
+    return [(f"bytes {bytes_word(data)}", []), ("read", script_lines(data))]

@@ -1,6 +1,7 @@
 """Times runs of a program: each case is run again and again, and its best run counts."""
 
 import subprocess
+import sys
 import tempfile
 import time
 from dataclasses import dataclass, field
@@ -8,10 +9,6 @@ from pathlib import Path
 
 ROOT = Path(__file__).resolve().parent.parent
 TIME = Path("/usr/bin/time")
-
-# The crate with the programs that are only timed.
-BENCH = ROOT / "crates/ken_bench"
-PROGRAM = BENCH / "out/ken_bench"
 
 # A case runs until it has taken so many seconds, and at least so often.
 SECONDS = 2.0
@@ -28,24 +25,30 @@ class Case:
     spent: float = field(default=0.0, init=False)
     runs: int = field(default=0, init=False)
     taken: bytes = field(default=b"", init=False)
-    # Empty where nothing tells it.
-    peak_kib: str = field(default="", init=False)
+    # In KiB, or 0 where nothing tells it.
+    peak: int = field(default=0, init=False)
+
+    @property
+    def peak_kib(self):
+        return f"{self.peak:,}" if self.peak else ""
 
     def has_time_left(self):
         return self.runs < LEAST_RUNS or self.spent < SECONDS
 
 
-def build(crate=BENCH, words=("store", "copy", "1", "1")):
-    """rt builds a program only to run it, here with these words and no input."""
-    words = ["rt", "run", "--", *words]
-    done = subprocess.run(words, cwd=crate, stdin=subprocess.DEVNULL, capture_output=True, text=True)
-    if done.returncode:
-        raise SystemExit(done.stdout + done.stderr)
-
-
-def case_of(*words):
-    """A run of ken_bench, without input."""
-    return Case([PROGRAM, *map(str, words)])
+def built(crate, *words):
+    """The program of a crate. rt builds one only to run it, here with these words and no input, and says what it does meanwhile."""
+    print(f"rt builds {crate}, and proves what isn't proved yet", file=sys.stderr, flush=True)
+    told, folder = [], ROOT / "crates" / crate
+    streams = {"stdin": subprocess.DEVNULL, "stdout": subprocess.PIPE, "stderr": subprocess.STDOUT}
+    with subprocess.Popen(["rt", "run", "--", *words], cwd=folder, text=True, **streams) as rt:
+        for line in rt.stdout:
+            told.append(line)
+            if line.startswith(("rt:", "so far:")):
+                print(line, end="", file=sys.stderr, flush=True)
+    if rt.returncode:
+        raise SystemExit("".join(told))
+    return folder / "out" / crate
 
 
 def run(words, case, room):
@@ -71,7 +74,7 @@ def find_peak(case, room):
     if TIME.exists():
         told = room / "peak"
         run([TIME, "-q", "-f", "%M", "-o", told, *case.words], case, room)
-        case.peak_kib = f"{int(told.read_text()):,}"
+        case.peak = int(told.read_text())
 
 
 def measure(cases):

@@ -1,5 +1,1 @@
-pub mod Disks
-pub mod Logs
-pub mod Stores
-pub mod Ends
 pub mod Rings
