@@ -31,8 +31,6 @@ impl Blocks {
 
     pub(crate) fn answer(&mut self, command: &[u8], row: &mut Row<'_, '_>) -> Answered {
         match command {
-            b"value" => row.put_value(&self.heap.value(row.alloc)?)?,
-            b"is-block" => row.answer.flag(self.heap.is_block(row.words.number()?))?,
             b"alloc" => {
                 let size = row.words.within(1, u64::MAX)?;
                 row.answer.numbers(self.heap.alloc(size)?.as_slice())?;
@@ -41,20 +39,13 @@ impl Blocks {
                 let place = self.place(row)?;
                 self.heap.free(place)?;
             }
-            b"put" => {
-                let place = self.place(row)?;
-                let len = self.heap.len_of(place);
-                let at = row.words.within(0, len)?;
-                let bytes = row.bytes(len - at)?;
-                self.heap.write(place, at, &bytes)?;
-            }
+            b"put" => self.put(row)?,
             b"set-root" => self.heap.set_root(row.words.number()?)?,
             b"oracle" => {
                 self.oracle.reading = row.words.number()?;
                 self.oracle.word = row.words.number()?;
             }
             b"turn" => self.turn(row)?,
-            b"dirty" => row.put_pages(&self.heap.dirty()?)?,
             b"freeze" => row.answer.number(self.heap.freeze()?.len() as u64)?,
             b"commit" => {
                 self.heap.commit();
@@ -64,9 +55,33 @@ impl Blocks {
                 self.heap.abort();
                 self.heap.begin();
             }
-            _ => return Err(RowFault::Usage),
+            _ => self.tell(command, row)?,
         }
         Ok(())
+    }
+
+    // PLACE AT BYTES
+    fn put(&mut self, row: &mut Row<'_, '_>) -> Answered {
+        let place = self.place(row)?;
+        let len = self.heap.len_of(place);
+        let at = row.words.within(0, len)?;
+        let bytes = row.bytes(len - at)?;
+        Ok(self.heap.write(place, at, &bytes)?)
+    }
+
+    // What changes nothing.
+    fn tell(&self, command: &[u8], row: &mut Row<'_, '_>) -> Answered {
+        match command {
+            b"value" => row.put_value(&self.heap.value(row.alloc)?),
+            b"next" => {
+                let place = self.place(row)?;
+                Ok(row.answer.numbers(self.heap.next(place).as_slice())?)
+            }
+            b"first" => Ok(row.answer.numbers(self.heap.first().as_slice())?),
+            b"is-block" => Ok(row.answer.flag(self.heap.is_block(row.words.number()?))?),
+            b"dirty" => row.put(format!(in row.alloc; "{:?}", self.heap.dirty()?)?),
+            _ => Err(RowFault::Usage),
+        }
     }
 
     // The place of a block.
@@ -106,8 +121,8 @@ impl Blocks {
         row.answer.named_numbers("draws", made.draws.as_slice())?;
         row.answer.end()?;
         for send in &made.sends {
-            let to = send.to;
-            row.put_text(format!(in row.alloc; "send {to}")?.as_str(), &send.bytes)?;
+            let word = format!(in row.alloc; "send {}", send.to)?;
+            row.put_text(word.as_str(), &send.bytes)?;
         }
         for out in &made.outs {
             row.put_text("out", out)?;

@@ -68,31 +68,21 @@ impl State {
 
 impl Layer for State {
     fn answer(&mut self, command: &[u8], words: &mut Words<'_>, answer: &mut Answer) -> Answered {
-        let alloc = self.alloc;
         let row = &mut Row {
-            alloc,
+            alloc: self.alloc,
             words,
             answer,
         };
         match command {
             b"new" => {
                 let pages = row.words.within(1, u64::from(MAX_PAGES))? as u32;
-                self.heap = Heap::Pages(Pages::new(PageHeap::new(alloc, pages)?));
+                self.heap = Heap::Pages(Pages::new(PageHeap::new(self.alloc, pages)?));
             }
             b"format" | b"adopt" | b"into-pages" => self.form(command, row)?,
             b"run" => self.run = Some(Run::start(row)?),
             b"step" => self.run.as_mut().ok_or(RowFault::Usage)?.step(row)?,
-            b"differ" => {
-                let (a, b) = (row.words.bytes(alloc)?, row.words.bytes(alloc)?);
-                let place = first_difference(&a, &b).map(|at| at as u64);
-                row.answer.numbers(place.as_slice())?;
-            }
-            b"random" => {
-                let mut generator = Lcg::new(row.words.number()?);
-                for _ in 0..row.words.number()? {
-                    row.answer.number(generator.next())?;
-                }
-            }
+            b"differ" => differ(row)?,
+            b"random" => random(row)?,
             _ => match &mut self.heap {
                 Heap::Pages(pages) => pages.answer(command, row)?,
                 Heap::Blocks(blocks) => blocks.answer(command, row)?,
@@ -101,4 +91,20 @@ impl Layer for State {
         }
         Ok(())
     }
+}
+
+// A B: where two lists of bytes differ first.
+fn differ(row: &mut Row<'_, '_>) -> Answered {
+    let (a, b) = (row.words.bytes(row.alloc)?, row.words.bytes(row.alloc)?);
+    let place = first_difference(&a, &b).map(|at| at as u64);
+    Ok(row.answer.numbers(place.as_slice())?)
+}
+
+// STATE COUNT: words of a generator.
+fn random(row: &mut Row<'_, '_>) -> Answered {
+    let mut generator = Lcg::new(row.words.number()?);
+    for _ in 0..row.words.number()? {
+        row.answer.number(generator.next())?;
+    }
+    Ok(())
 }

@@ -1,12 +1,10 @@
 // Rows of a heap of pages.
-ghost use Rattle.std.specs.Prelude.{◌≡◌, ◌+◌, ◌≤◌, None, IfOk, IsSome, length};
+ghost use Rattle.std.specs.Prelude.{◌≡◌, None, IsSome, length};
 
 use crate::row::{Answered, Row};
 use ken_frame::{FRAME, Frame};
-use ken_model::Value;
 use ken_pages::PageHeap;
 use ken_rows::RowFault;
-use std::alloc::{AllocError, Global};
 
 /// Pages of which a turn is always begun.
 #[derive(Drop)]
@@ -25,21 +23,9 @@ impl Pages {
 
     pub(crate) fn answer(&mut self, command: &[u8], row: &mut Row<'_, '_>) -> Answered {
         match command {
-            b"read" => {
-                let at = row.words.within(0, self.size())?;
-                let len = row.words.within(0, self.size() - at)?;
-                row.answer.bytes(&self.bytes(row.alloc, at, len)?)?;
-            }
-            b"write" => {
-                let at = row.words.within(0, self.size())?;
-                let bytes = row.bytes(self.size() - at)?;
-                self.heap.write(at, &bytes)?;
-            }
+            b"write" => self.write(row)?,
             b"load" => self.load(row)?,
-            b"stands" => self.stands(row)?,
             b"reserve" => self.heap.reserve(row.words.within(0, 1 << 32)? as usize)?,
-            b"spare" => row.answer.number(self.heap.spare() as u64)?,
-            b"dirty" => row.put_pages(&self.heap.dirty()?)?,
             b"freeze" => row.answer.number(self.heap.freeze()?.len() as u64)?,
             b"commit" => {
                 self.heap.commit();
@@ -49,9 +35,25 @@ impl Pages {
                 self.heap.abort();
                 self.heap.begin();
             }
-            _ => return Err(RowFault::Usage),
+            _ => self.tell(command, row)?,
         }
         Ok(())
+    }
+
+    // What changes nothing.
+    fn tell(&self, command: &[u8], row: &mut Row<'_, '_>) -> Answered {
+        match command {
+            b"read" => {
+                let at = row.words.within(0, self.size())?;
+                let len = row.words.within(0, self.size() - at)?;
+                let mut bytes = vec![in row.alloc; 0; len as usize]?;
+                self.heap.read(at, &mut bytes);
+                Ok(row.answer.bytes(&bytes)?)
+            }
+            b"spare" => Ok(row.answer.number(self.heap.spare() as u64)?),
+            b"dirty" => row.put(format!(in row.alloc; "{:?}", self.heap.dirty()?)?),
+            _ => Err(RowFault::Usage),
+        }
     }
 
     fn size(&self) -> u64
@@ -60,13 +62,11 @@ impl Pages {
         256 * u64::from(self.heap.pages())
     }
 
-    fn bytes(&self, alloc: Global, at: u64, len: u64) -> Result<Vec<u8>, AllocError>
-        requires { at + len ≤ length self.now.heap.bytes }
-        ensures { IfOk result (λ bytes. length bytes.items ≡ len) }
-    {
-        let mut bytes = vec![in alloc; 0; len as usize]?;
-        self.heap.read(at, &mut bytes);
-        Ok(bytes)
+    // AT BYTES
+    fn write(&mut self, row: &mut Row<'_, '_>) -> Answered {
+        let at = row.words.within(0, self.size())?;
+        let bytes = row.bytes(self.size() - at)?;
+        Ok(self.heap.write(at, &bytes)?)
     }
 
     // PAGE BYTES: zeros stand behind fewer bytes than a page has. What the turn did is kept.
@@ -78,15 +78,6 @@ impl Pages {
         let loaded = self.heap.load(page, &frame);
         self.heap.begin();
         Ok(loaded?)
-    }
-
-    // LEN: the value that so many bytes stand for.
-    fn stands(&self, row: &mut Row<'_, '_>) -> Answered {
-        let len = row.words.within(0, self.size())?;
-        match Value::read(row.alloc, &self.bytes(row.alloc, 0, len)?)? {
-            Some(value) => row.put_value(&value),
-            None => Ok(row.answer.word("none")?),
-        }
     }
 
     /// The pages, once the turn is kept.

@@ -40,6 +40,11 @@ impl Row<'_, '_> {
         Ok(Octets::copied(self.alloc, quoted.ok_or(RowFault::Usage)?)?)
     }
 
+    /// A word of the answer.
+    pub(crate) fn put(&mut self, word: String) -> Answered {
+        Ok(self.answer.word(word.as_str())?)
+    }
+
     /// A text behind a word, in a line of its own: between quotes, or as bytes where it is long or has what isn't printed.
     pub(crate) fn put_text(&mut self, word: &str, text: &Octets) -> Answered {
         let text = text.as_slice();
@@ -47,8 +52,7 @@ impl Row<'_, '_> {
         let is_printed = text.iter().all(|byte| matches!(*byte, b' '..=b'~'));
         if is_printed && text.len() <= LONGEST {
             let text = String::from_utf8_lossy(self.alloc, text)?;
-            self.answer
-                .word(format!(in self.alloc; "\"{text}\"")?.as_str())?;
+            self.put(format!(in self.alloc; "\"{text}\"")?)?;
         } else {
             self.answer.bytes(text)?;
         }
@@ -61,20 +65,9 @@ impl Row<'_, '_> {
         self.answer.named("root", value.root)?;
         self.answer.end()?;
         for block in value.blocks.as_slice() {
-            let place = block.place;
-            self.put_text(
-                format!(in self.alloc; "block {place}")?.as_str(),
-                &block.bytes,
-            )?;
+            let word = format!(in self.alloc; "block {}", block.place)?;
+            self.put_text(word.as_str(), &block.bytes)?;
         }
         Ok(())
-    }
-
-    /// Pages by their numbers.
-    pub(crate) fn put_pages(&mut self, pages: &[u32]) -> Answered {
-        Ok(
-            self.answer
-                .word(format!(in self.alloc; "{pages:?}")?.as_str())?,
-        )
     }
 }

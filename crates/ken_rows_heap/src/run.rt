@@ -41,17 +41,14 @@ impl Run {
         let draws = Items::new(row.words.numbers(row.alloc)?);
         let done = match self.actors.step(&Step { node, from, draws }) {
             Ok(done) => done,
-            Err(fault) => {
-                let reason = format!(in row.alloc; "{fault}")?;
-                return Ok(row.answer.word(reason.as_str())?);
-            }
+            Err(fault) => return row.put(format!(in row.alloc; "{fault}")?),
         };
         row.answer.named("stamp", done.stamp)?;
         row.answer.named("number", done.number)?;
         row.answer.end()?;
         for send in done.sends.as_slice() {
-            let to = send.to;
-            row.put_text(format!(in row.alloc; "send {to}")?.as_str(), &send.bytes)?;
+            let word = format!(in row.alloc; "send {}", send.to)?;
+            row.put_text(word.as_str(), &send.bytes)?;
         }
         for out in done.outs.as_slice() {
             row.put_text("out", &out.text)?;
