@@ -1,0 +1,100 @@
+// Calls of the program, and what they leave.
+use ken_drive::MemWorld;
+use ken_io::{MemSink, MemSource};
+use ken_ledger::{Ledger, ledger_keeps_limits, ledger_keeps_lines};
+use ken_model::MAX_NODES;
+use ken_rows::{Answer, RowFault, Words};
+use ken_top::{Status, ken, serve};
+use std::alloc::{AllocError, Global};
+use std::str::from_utf8;
+use std::sync::Wait;
+use std::thread::Threads;
+
+/// What is called.
+#[derive(Drop)]
+pub(crate) enum Work {
+    /// The program, with these words.
+    Program(Vec<String>),
+    /// The ledger's service.
+    Ledger,
+}
+
+/// A call that is to be made, over a world in memory.
+#[derive(Drop)]
+pub(crate) struct Asked {
+    pub(crate) work: Work,
+    pub(crate) source: MemSource,
+    pub(crate) sink: MemSink,
+}
+
+/// How a call ended, what is left to read, what is written, and the devices.
+#[derive(Drop)]
+pub(crate) struct Ran {
+    status: Status,
+    pub(crate) source: Option<MemSource>,
+    pub(crate) sink: MemSink,
+    world: MemWorld,
+}
+
+/// Makes a call.
+pub(crate) fn make<R: Threads + Wait + Sync>(rt: &R, alloc: Global, asked: Asked) -> Ran {
+    let Asked {
+        work,
+        mut source,
+        mut sink,
+    } = asked;
+    let mut world = MemWorld::new(alloc);
+    ledger_keeps_limits();
+    ledger_keeps_lines();
+    let status = match work {
+        Work::Program(words) => ken(rt, alloc, &words, &mut source, &mut sink, &mut world),
+        Work::Ledger => serve(rt, alloc, Ledger, &mut source, &mut sink, &mut world),
+    };
+    Ran {
+        status,
+        source: Some(source),
+        sink,
+        world,
+    }
+}
+
+impl Ran {
+    /// Answers each line that is written, and how the call ended: the exit status of the process and its text.
+    pub(crate) fn tell(&self, alloc: Global, answer: &mut Answer) -> Result<(), AllocError> {
+        answer.lines(self.sink.bytes())?;
+        answer.named("exit", u64::from(self.status.exit_code()))?;
+        let text = format!(in alloc; "{}", self.status)?;
+        if !text.is_empty() {
+            answer.word(&text)?;
+        }
+        Ok(())
+    }
+
+    /// Answers of which nodes devices are kept, how many calls of their outlets were made, and how many outputs these took.
+    pub(crate) fn tell_kept(&self, answer: &mut Answer) -> Result<(), AllocError> {
+        for node in 0..MAX_NODES {
+            if let Some(kept) = self.world.kept(node) {
+                answer.named("node", u64::from(node))?;
+                answer.named("calls", kept.out.calls())?;
+                answer.named("took", kept.out.took().len() as u64)?;
+                answer.end()?;
+            }
+        }
+        Ok(())
+    }
+}
+
+/// Appends the words that are left of a row, with one space between two.
+pub(crate) fn push_words(
+    alloc: Global,
+    list: &mut Vec<String>,
+    words: &mut Words<'_>,
+) -> Result<(), RowFault> {
+    if words.has_next() {
+        for word in words.rest()?.split(|byte| *byte == b' ') {
+            let word = from_utf8(word).map_err(|_| RowFault::Usage)?;
+            list.push(String::from_str(alloc, word)?)?;
+        }
+    }
+    Ok(())
+}
