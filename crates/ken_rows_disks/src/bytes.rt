@@ -3,7 +3,6 @@ use crate::disks::{Disks, Told};
 use ken_rows::{RowFault, Words};
 
 impl Disks {
-    /// Gives bytes a name.
     pub(crate) fn name(&mut self, words: &mut Words<'_>) -> Told {
         let name = Vec::from_slice(self.alloc, words.word()?)?;
         let bytes = self.bytes(words)?;

@@ -5,11 +5,7 @@ use std::alloc::Global;
 use std::fmt::Display;
 use std::mem;
 
-/// What a command comes to.
 pub(crate) type Told = Result<(), RowFault>;
-
-// The most cuts of a disk.
-const MAX_CUTS: usize = 256;
 
 /// What the rows speak to.
 #[derive(Drop)]
@@ -28,9 +24,6 @@ impl Layer for Disks {
             b"let" => self.name(words),
             b"new" => self.make(words),
             b"swap" => Ok(mem::swap(&mut self.disk, &mut self.other)),
-            b"write" | b"sync" | b"bytes" | b"hint" | b"restart" => {
-                self.call(command, words, answer)
-            }
             b"format" => self.format(words, answer),
             b"seal" => self.seal(words, answer),
             b"turnover" => self.turn_over(words, answer),
@@ -43,7 +36,7 @@ impl Layer for Disks {
             b"show" => self.show(words, answer),
             b"get" => self.get(words, answer),
             b"put" => self.put(words, answer),
-            _ => Err(RowFault::Usage),
+            _ => self.call(command, words, answer),
         }
     }
 }
@@ -66,15 +59,10 @@ impl Disks {
         }
     }
 
-    /// Takes the disk away.
-    pub(crate) fn take(&mut self) -> Result<MemDisk, RowFault> {
-        self.disk.take().ok_or(RowFault::Usage)
-    }
-
-    // A disk with cuts.
+    // A disk with at most 256 cuts.
     fn make(&mut self, words: &mut Words<'_>) -> Told {
         let mut cuts = Vec::new(self.alloc);
-        for _ in 0..MAX_CUTS {
+        for _ in 0..256 {
             if !words.has_next() {
                 break;
             }
@@ -87,7 +75,7 @@ impl Disks {
     }
 
     fn call(&mut self, command: &[u8], words: &mut Words<'_>, answer: &mut Answer) -> Told {
-        let mut disk = self.take()?;
+        let mut disk = self.disk.take().ok_or(RowFault::Usage)?;
         match command {
             b"write" => {
                 let at = words.number()?;
@@ -106,7 +94,8 @@ impl Disks {
                 }
             }
             b"hint" => answer.number(disk.hint())?,
-            _ => disk.restart(words.number()?)?,
+            b"restart" => disk.restart(words.number()?)?,
+            _ => return Err(RowFault::Usage),
         }
         self.disk = Some(disk);
         Ok(())

@@ -21,7 +21,8 @@ impl Disks {
     pub(crate) fn image(&mut self, words: &mut Words<'_>, answer: &mut Answer) -> Told {
         let pages = words.within(0, u64::from(u32::MAX))? as u32;
         let first = self.page(words)?;
-        let (made, disk) = match Image::format(self.take()?, pages, &first) {
+        let disk = self.disk.take().ok_or(RowFault::Usage)?;
+        let (made, disk) = match Image::format(disk, pages, &first) {
             Ok(image) => (Ok(()), image.release()),
             Err((fault, disk)) => (Err(fault), disk),
         };
@@ -29,14 +30,13 @@ impl Disks {
         self.tell(made, answer)
     }
 
-    /// Writes a page, and syncs.
     pub(crate) fn patch(&mut self, words: &mut Words<'_>, answer: &mut Answer) -> Told {
-        let pages = words.within(0, u64::from(u32::MAX))? as u32;
-        let place = words.within(0, u64::from(u32::MAX))? as u32;
+        let pages = words.within(1, u64::from(u32::MAX))? as u32;
+        let place = words.within(0, u64::from(pages - 1))? as u32;
         let page = self.page(words)?;
-        let mut disk = self.take()?;
+        let mut disk = self.disk.take().ok_or(RowFault::Usage)?;
         disk.restart(1)?;
-        if place >= pages || disk.len() < FRAME as u64 * u64::from(pages) {
+        if disk.len() < FRAME as u64 * u64::from(pages) {
             return Err(RowFault::Usage);
         }
         let mut image = Image::mount(disk, pages);
@@ -48,11 +48,11 @@ impl Disks {
 
     /// Tells a page after a restart with a pick, where the disk has so many.
     pub(crate) fn load(&mut self, words: &mut Words<'_>, answer: &mut Answer) -> Told {
-        let mut disk = self.take()?;
+        let mut disk = self.disk.take().ok_or(RowFault::Usage)?;
         disk.restart(words.number()?)?;
-        let pages = words.within(0, u64::from(u32::MAX))? as u32;
-        let place = words.within(0, u64::from(u32::MAX))? as u32;
-        if place >= pages || disk.len() < FRAME as u64 * u64::from(pages) {
+        let pages = words.within(1, u64::from(u32::MAX))? as u32;
+        let place = words.within(0, u64::from(pages - 1))? as u32;
+        if disk.len() < FRAME as u64 * u64::from(pages) {
             return Ok(answer.word("short")?);
         }
         let mut image = Image::mount(disk, pages);

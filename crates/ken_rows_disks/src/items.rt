@@ -25,7 +25,6 @@ impl Disks {
         Ok(base.map(|base| (Item::Base(base), len as usize)))
     }
 
-    /// Tells the length of an item.
     pub(crate) fn decode(&self, words: &mut Words<'_>, answer: &mut Answer) -> Told {
         match self.item(words)? {
             Ok((_item, len)) => Ok(answer.number(len as u64)?),
@@ -36,8 +35,9 @@ impl Disks {
 
     /// Tells what an item has, and spells it again.
     pub(crate) fn show(&self, words: &mut Words<'_>, answer: &mut Answer) -> Told {
-        let Ok((item, _)) = self.item(words)? else {
-            return Err(RowFault::Usage);
+        let item = match self.item(words)? {
+            Ok((item, _)) if item.fits() => item,
+            _ => return Err(RowFault::Usage),
         };
         match &item {
             Item::Header(header) => show_header(header, answer)?,

@@ -1,14 +1,17 @@
 // Rows of a log. Each but `format` restarts the disk, and mounts the log on it.
 ghost use Rattle.std.specs.Prelude.{IfOk, IfSome};
+ghost use Rattle.ken_record.specs.Grammar.{IsRecord};
+ghost use Rattle.ken_record.specs.Versions.{One};
 ghost use Rattle.ken_rows_disks.specs.Logs.{TakesSeals};
 
 use crate::disks::{Disks, Told};
 use crate::shown::{show_base, show_header, show_record};
 use ken_disk::{Disk, MAX_LEN};
-use ken_log::Log;
+use ken_log::{Log, SealFault};
 use ken_memdisk::MemDisk;
 use ken_record::{Header, Item, ItemKind, MAX_FIELDS, Record, decode, decode_base, lengths};
 use ken_rows::{Answer, RowFault, Words};
+use std::alloc::Global;
 use std::mem;
 
 // A record, its length, its gate and the next gate end within the disk's limit from here on.
@@ -21,7 +24,7 @@ impl Disks {
     fn found(&mut self, pick: u64, answer: &mut Answer) -> Result<Found, RowFault>
         ensures { IfOk result (λ found. IfSome found (λ x. TakesSeals x.0)) }
     {
-        let mut disk = self.take()?;
+        let mut disk = self.disk.take().ok_or(RowFault::Usage)?;
         disk.restart(pick)?;
         match Log::mount(self.alloc, disk) {
             Ok(found) => Ok(Some(found)),
@@ -33,7 +36,6 @@ impl Disks {
         }
     }
 
-    /// Makes the first log of a node.
     pub(crate) fn format(&mut self, words: &mut Words<'_>, answer: &mut Answer) -> Told {
         let header = Header {
             node: words.within(0, u64::from(u8::MAX))? as u8,
@@ -43,7 +45,8 @@ impl Disks {
             turns: 0,
             base_len: 0,
         };
-        let (made, disk) = match Log::format(self.alloc, self.take()?, &header) {
+        let disk = self.disk.take().ok_or(RowFault::Usage)?;
+        let (made, disk) = match Log::format(self.alloc, disk, &header) {
             Ok(log) => (Ok(()), log.release()),
             Err((fault, disk)) => (Err(fault), disk),
         };
@@ -61,14 +64,7 @@ impl Disks {
         let Some((mut log, _)) = self.found(1, answer)? else {
             return Ok(());
         };
-        // A record is at most a mebibyte long.
-        lengths();
-        let mut sealed = Ok(());
-        for _ in 0..count {
-            if sealed.is_ok() && log.end() <= MAX_END {
-                sealed = log.seal(self.alloc, &record);
-            }
-        }
+        let sealed = seals(self.alloc, &mut log, &record, count);
         self.disk = Some(log.release());
         self.tell(sealed, answer)
     }
@@ -80,7 +76,7 @@ impl Disks {
         let Ok(base) = decode_base(self.alloc, len, &bytes) else {
             return Err(RowFault::Usage);
         };
-        let mut disk = self.take()?;
+        let mut disk = self.disk.take().ok_or(RowFault::Usage)?;
         mem::swap(&mut self.disk, &mut self.other);
         let Some((mut log, _)) = self.found(1, answer)? else {
             return Ok(());
@@ -118,4 +114,20 @@ impl Disks {
         self.disk = Some(log.release());
         Ok(())
     }
+}
+
+// Seals a record so often, unless the disk fails, or has no room for more.
+fn seals(alloc: Global, log: &mut Log<MemDisk>, item: &Record, count: u64) -> Result<(), SealFault>
+    requires settled { TakesSeals log.old }
+    requires fits { IsRecord One item.now }
+{
+    // A record is at most a mebibyte long.
+    lengths();
+    for _ in 0..count {
+        if log.end() > MAX_END {
+            return Ok(());
+        }
+        log.seal(alloc, item)?;
+    }
+    Ok(())
 }

@@ -1,5 +1,4 @@
-//! Rows of the disk layer: a disk in memory that fails where it is told to, the log and the image on it, and the items of a log
-//! in bytes.
+//! Rows of disks in memory that fail where they are told to, of the log and the image on them, and of a log's items in bytes.
 #![tactic(auto)]
 
 mod bytes;
