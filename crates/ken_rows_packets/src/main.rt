@@ -41,7 +41,7 @@ impl Layer for Rows {
         let alloc = self.alloc;
         let row = &mut Row {
             alloc,
-            words,
+            words: *words,
             answer,
         };
         match command {
@@ -56,6 +56,7 @@ impl Layer for Rows {
             }
             _ => return Err(RowFault::Usage),
         }
+        *words = row.words;
         Ok(())
     }
 }

@@ -1,7 +1,7 @@
-// Node 0's externaliser over a network of eight nodes.
-ghost use Rattle.std.specs.Prelude.{◌≡◌, ◌<◌, ◌≤◌, length};
+ghost use Rattle.std.specs.Prelude.{◌≡◌, ◌<◌, ◌≤◌, length, IfOk};
 ghost use Rattle.ken_links.specs.Rings.{free, IsRing};
 ghost use Rattle.ken_net.specs.Puts.{MayPut};
+ghost use Rattle.ken_rows_packets.specs.Ends.{IsEndOf};
 
 use crate::outboxes::mail;
 use crate::packets::tell;
@@ -16,7 +16,7 @@ use ken_ship::{Sealed, SendWorker, Told};
 use std::alloc::{AllocError, Global};
 use std::marker::Brand;
 
-/// The externaliser, its end of the network, and the ends of its rings that its handler holds.
+/// Node 0's externaliser, its end of a network of eight nodes, and the ends of its rings that its handler holds.
 #[derive(Drop)]
 pub(crate) struct Ship {
     acts: Vec<LinkAct>,
@@ -24,8 +24,7 @@ pub(crate) struct Ship {
     worker: SendWorker,
     sealed: PushEnd<Sealed>,
     told: PopEnd<Told>,
-    ghost first: { (end.base.node ≡ 0) × (worker.backlog.node ≡ 0) },
-    ghost eight: { (length end.base.takes ≡ 8) × (length end.base.puts ≡ 8) × (worker.nodes ≡ 8) },
+    ghost first: { IsEndOf 0 end.base × (worker.backlog.node ≡ 0) × (worker.nodes ≡ 8) },
     ghost rings: { IsRing sealed worker.sealed × IsRing worker.told told },
 }
 
@@ -48,9 +47,15 @@ impl Ship {
     pub(crate) fn answered(mut self, row: &mut Row) -> Result<Self, RowFault> {
         match row.words.word()? {
             b"new" => Ok(Ship::new(row.alloc)?),
-            b"act" => self.with_act(row),
-            b"take" => self.by_node(false, row),
-            b"ack" => self.by_node(true, row),
+            b"act" => {
+                let links = self.links(row)?;
+                self.end = Lossy::over(links, self.end.into_parts().1);
+                Ok(self)
+            }
+            call @ (b"take" | b"ack") => {
+                self.end = by_node(self.end, call == b"ack".as_slice(), row)?;
+                Ok(self)
+            }
             call => {
                 self.by_first(call, row)?;
                 Ok(self)
@@ -70,8 +75,10 @@ impl Ship {
         }
     }
 
-    // With one act more for the puts to come, which are numbered anew.
-    fn with_act(mut self, row: &mut Row) -> Result<Self, RowFault> {
+    // Links with one act more, over which nothing was put yet.
+    fn links(&mut self, row: &mut Row) -> Result<Links, RowFault>
+        ensures { IfOk result (λ l. (l.from ≡ 0) × (length l.links ≡ 8)) }
+    {
         let (from, to, n) = (row.node()?, row.node()?, row.words.number()?);
         let act = match row.words.word()? {
             b"lose" => Act::Lose,
@@ -80,31 +87,7 @@ impl Ship {
             _ => return Err(RowFault::Usage),
         };
         self.acts.push(LinkAct { from, to, n, act })?;
-        let (_, base) = self.end.into_parts();
-        self.end = Lossy::over(Links::new(row.alloc, 0, 8, &self.acts)?, base);
-        Ok(self)
-    }
-
-    // A node takes the next mail, or acknowledges.
-    fn by_node(mut self, acknowledges: bool, row: &mut Row) -> Result<Self, RowFault> {
-        let from = row.node()?;
-        let (links, base) = self.end.into_parts();
-        let (acks, mails) = base.into_parts();
-        let own = Links::new(row.alloc, from, 8, &[])?;
-        let mut end = Lossy::over(own, PlainNet::new(from, mails, acks));
-        if acknowledges {
-            let (to, through) = (row.node()?, row.words.within(1, u64::MAX)?);
-            let bytes = encode(row.alloc, &Packet::Ack { from, to, through })?;
-            put_as::<Brand>(&mut end, to, bytes)?;
-        } else if let Some(bytes) = end.take() {
-            tell(bytes.as_slice(), row)?;
-        } else {
-            row.answer.word("nothing")?;
-        }
-        let (_, base) = end.into_parts();
-        let (mails, acks) = base.into_parts();
-        self.end = Lossy::over(links, PlainNet::new(0, acks, mails));
-        Ok(self)
+        Ok(Links::new(row.alloc, 0, 8, &self.acts)?)
     }
 
     fn put(&mut self, row: &mut Row) -> Result<(), RowFault> {
@@ -141,6 +124,36 @@ impl Ship {
         }
         Ok(())
     }
+}
+
+// A node takes the next mail, or acknowledges.
+fn by_node(end: Lossy<PlainNet>, acks: bool, row: &mut Row) -> Result<Lossy<PlainNet>, RowFault>
+    requires { IsEndOf 0 end.base }
+    ensures { IfOk result (λ end. IsEndOf 0 end.base) }
+{
+    let from = row.node()?;
+    let own = Links::new(row.alloc, from, 8, &[])?;
+    let (links, base) = end.into_parts();
+    let (takes, puts) = base.into_parts();
+    let mut end = Lossy::over(own, PlainNet::new(from, puts, takes));
+    if acks {
+        acknowledge(&mut end, from, row)?;
+    } else if let Some(bytes) = end.take() {
+        tell(bytes.as_slice(), row)?;
+    } else {
+        row.answer.word("nothing")?;
+    }
+    let (puts, takes) = end.into_parts().1.into_parts();
+    Ok(Lossy::over(links, PlainNet::new(0, takes, puts)))
+}
+
+fn acknowledge(end: &mut Lossy<PlainNet>, from: u8, row: &mut Row) -> Result<(), RowFault>
+    requires { (from < 8) × IsEndOf from end.old.base }
+    ensures { IsEndOf from end.new.base }
+{
+    let (to, through) = (row.node()?, row.words.within(1, u64::MAX)?);
+    let bytes = encode(row.alloc, &Packet::Ack { from, to, through })?;
+    Ok(put_as::<Brand>(end, to, bytes)?)
 }
 
 fn put_as<H: Handed>(end: &mut Lossy<PlainNet>, to: u8, bytes: Octets) -> Result<(), AllocError>

@@ -1,19 +1,16 @@
-// Which message of a sender comes next, and the stamps of turns.
 ghost use Rattle.std.specs.Prelude.{◌≡◌};
 
-use crate::outboxes::state;
 use crate::row::Row;
 use ken_order::{Order, Verdict};
 use ken_rows::RowFault;
 
-/// Answers a row of a node's order.
+/// Answers a row of an order, which has what a node consumed, and its stamps.
 pub(crate) fn answer(order: &mut Order, row: &mut Row) -> Result<(), RowFault>
     requires { order.old.nodes ≡ 8 }
     ensures { order.new.nodes ≡ 8 }
 {
     match row.words.word()? {
         b"new" => *order = Order::new(8),
-        b"resume" => *order = Order::resume(8, &state(row)?),
         b"stamp" => row.answer.number(order.stamp())?,
         b"stamp-after" if order.stamp() < u64::MAX => {
             let stamp = row.words.within(0, u64::MAX - 1)?;

@@ -9,7 +9,7 @@ use std::alloc::Global;
 #[derive(Drop)]
 pub(crate) struct Row<'a, 'w> {
     pub alloc: Global,
-    pub words: &'a mut Words<'w>,
+    pub words: Words<'w>,
     pub answer: &'a mut Answer,
 }
 

@@ -3,23 +3,20 @@
 #![tactic(auto)]
 
 mod calls;
-mod input;
 mod runs;
 mod scripts;
-mod stream;
+mod streams;
 
 use calls::{Asked, make};
 use ken_rows::transcribe;
 use runs::Runs;
 use std::process::ExitCode;
 
-// The exit status where there isn't memory enough.
-const NO_MEMORY: u8 = 8;
-
 fn main(rt: HostRuntime) -> ExitCode {
     let alloc = rt.alloc();
+    // The handle of calls that may wait goes with the closure.
     let Ok(make) = Box::new(alloc, move |asked: Asked| make(&rt, alloc, asked)) else {
-        return ExitCode::from(NO_MEMORY);
+        return ExitCode::FAILURE;
     };
     transcribe(&rt, &mut Runs::new(alloc, make))
 }

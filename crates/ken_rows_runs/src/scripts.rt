@@ -2,14 +2,33 @@
 use crate::calls::push_words;
 use ken_gen::{script_of, summary};
 use ken_model::{MAX_INPUTS, MAX_NODES, PAGE};
+use ken_net::{Act, LinkAct};
 use ken_rows::{Answer, RowFault, Words};
-use ken_script::{MAX_ROUNDS, Script};
+use ken_script::{MAX_ROUNDS, Script, ScriptFault, read};
 use ken_words::command_in;
 use std::alloc::{AllocError, Global};
-use std::fmt::Debug;
 
-/// Answers the numbers of a script, and how many items its lists have.
-pub(crate) fn tell_script(script: &Script, answer: &mut Answer) -> Result<(), AllocError> {
+/// Answers what a script says, or the first rule that it breaks.
+pub(crate) fn tell_read(
+    alloc: Global,
+    bytes: &[u8],
+    answer: &mut Answer,
+) -> Result<Option<Script>, RowFault> {
+    match read(alloc, bytes) {
+        Ok(script) => {
+            tell_script(&script, answer)?;
+            Ok(Some(script))
+        }
+        Err(ScriptFault::Memory) => Err(RowFault::Memory),
+        Err(fault) => {
+            answer.word(&format!(in alloc; "{fault}")?)?;
+            Ok(None)
+        }
+    }
+}
+
+// Answers the numbers of a script, and how many items its lists have.
+fn tell_script(script: &Script, answer: &mut Answer) -> Result<(), AllocError> {
     let facts = &script.facts;
     answer.named("nodes", u64::from(facts.nodes))?;
     answer.named("pages", facts.size / PAGE)?;
@@ -27,7 +46,6 @@ pub(crate) fn tell_script(script: &Script, answer: &mut Answer) -> Result<(), Al
 
 /// Answers each item of a list of a script.
 pub(crate) fn tell_list(
-    alloc: Global,
     script: &Script,
     words: &mut Words<'_>,
     answer: &mut Answer,
@@ -40,18 +58,29 @@ pub(crate) fn tell_list(
                 answer.end()?;
             }
         }
-        b"cuts" => tell_each(alloc, script.cuts.as_slice(), answer)?,
-        b"mail" => tell_each(alloc, script.mail.as_slice(), answer)?,
-        b"acks" => tell_each(alloc, script.acks.as_slice(), answer)?,
-        b"outlets" => tell_each(alloc, script.outlets.as_slice(), answer)?,
+        b"cuts" => {
+            for cut in script.cuts.as_slice() {
+                let (node, disk) = (u64::from(cut.node), u64::from(cut.disk));
+                answer.numbers(&[node, disk, cut.call, cut.pick])?;
+                answer.end()?;
+            }
+        }
+        b"mail" => tell_acts(script.mail.as_slice(), answer)?,
+        b"acks" => tell_acts(script.acks.as_slice(), answer)?,
         _ => return Err(RowFault::Usage),
     }
     Ok(())
 }
 
-fn tell_each<T: Debug>(alloc: Global, items: &[T], answer: &mut Answer) -> Result<(), AllocError> {
-    for item in items {
-        answer.lines(format!(in alloc; "{item:?}")?.as_bytes())?;
+fn tell_acts(acts: &[LinkAct], answer: &mut Answer) -> Result<(), AllocError> {
+    for act in acts {
+        answer.numbers(&[u64::from(act.from), u64::from(act.to), act.n])?;
+        match act.act {
+            Act::Lose => answer.word("lose")?,
+            Act::Repeat => answer.word("repeat")?,
+            Act::Hold(later) => answer.number(u64::from(later))?,
+        }
+        answer.end()?;
     }
     Ok(())
 }

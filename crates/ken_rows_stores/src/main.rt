@@ -1,6 +1,7 @@
 //! Rows of the store of a node, over disks in memory.
 #![tactic(auto)]
 
+mod calls;
 mod disks;
 mod rows;
 mod stores;

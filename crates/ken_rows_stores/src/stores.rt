@@ -1,9 +1,10 @@
 // A node over disks in memory, and how its store comes up.
-ghost use Rattle.ken_store.specs.Answers.{AreAtRest};
+ghost use Rattle.ken_store.specs.Answers.{AreAtRest, AreUnformatted};
+ghost use Rattle.ken_rows_stores.specs.Stages.{IsNode, Stands};
 ghost use Rattle.ken_rows_stores.specs.Stores.{told};
 
 use crate::disks::{Kept, Three, read, rested};
-use ken_model::{MAX_PAGES, State};
+use ken_model::{MAX_PAGES, OUTSIDE, State};
 use ken_rows::{Answer, RowFault, Words};
 use ken_store::{Recovered, StoreFault, create, recover};
 use std::alloc::Global;
@@ -11,6 +12,8 @@ use std::marker::Model;
 use std::mem;
 
 pub(crate) type Row = Result<(), RowFault>;
+
+type Found = Result<Option<State>, StoreFault>;
 
 /// How far a node is.
 #[derive(Drop)]
@@ -69,49 +72,87 @@ impl Stores {
         self.come_up(rested(disks, pick)?, answer)
     }
 
-    /// Recovers the store on these disks. Where there is none it is created.
+    /// Recovers the store on these disks.
     pub(crate) fn come_up(&mut self, disks: Three, answer: &mut Answer) -> Row
         requires { AreAtRest told disks }
     {
-        let (node, nodes, pages) = self.owner;
-        match recover(self.alloc, disks, node, nodes, pages) {
-            Ok(Recovered::Fresh(disks)) => match create(self.alloc, disks, node, nodes, pages) {
-                Ok(store) => {
-                    self.stage = Stage::Idle(store);
-                    Ok(answer.word("fresh")?)
-                }
-                Err((fault, disks)) => self.go_down(fault, disks, answer),
-            },
-            Ok(Recovered::Whole(store, state, _records)) => {
-                self.stage = Stage::Idle(store);
+        let (found, stage) = recovered(self.alloc, self.owner, disks);
+        self.stage = stage;
+        match found {
+            Ok(Some(state)) => {
                 tell_state(&state, answer)?;
                 self.value(answer)
             }
-            Err((fault, disks)) => self.go_down(fault, disks, answer),
+            Ok(None) => Ok(answer.word("fresh")?),
+            Err(fault) => self.tell_fault(fault, answer),
         }
     }
 
     /// Tells the fault by which the node is down.
-    pub(crate) fn go_down(&mut self, fault: StoreFault, disks: Three, answer: &mut Answer) -> Row {
-        self.stage = Stage::Down(disks);
+    pub(crate) fn tell_fault(&self, fault: StoreFault, answer: &mut Answer) -> Row {
         if fault == StoreFault::Memory {
             return Err(RowFault::Memory);
         }
         Ok(answer.word(format!(in self.alloc; "{fault}")?.as_str())?)
     }
 
+    fn store(&self) -> Result<&Kept, RowFault> {
+        match &self.stage {
+            Stage::Idle(store) | Stage::Begun(store) => Ok(store),
+            _ => Err(RowFault::Usage),
+        }
+    }
+
     /// What the heap stands for.
     pub(crate) fn value(&self, answer: &mut Answer) -> Row {
-        let (Stage::Idle(store) | Stage::Begun(store)) = &self.stage else {
-            return Err(RowFault::Usage);
-        };
-        let value = store.value(self.alloc)?;
+        let value = self.store()?.value(self.alloc)?;
         answer.named("root", value.root)?;
         for block in value.blocks.as_slice() {
             answer.named("block", block.place)?;
             answer.bytes(block.bytes.as_slice())?;
         }
         Ok(())
+    }
+
+    /// How far the node has come, and its log.
+    pub(crate) fn numbers(&self, answer: &mut Answer) -> Row {
+        let store = self.store()?;
+        answer.named("turns", store.turns())?;
+        answer.named("stamp", store.stamp())?;
+        answer.named("inputs", store.consumed_from(OUTSIDE))?;
+        answer.named("sent", store.sent_to(0))?;
+        answer.named("outputs", store.outputs())?;
+        answer.named("pages", u64::from(store.pages()))?;
+        answer.named("generation", u64::from(store.generation()))?;
+        answer.named("records", store.records())?;
+        Ok(answer.named("end", store.log_end())?)
+    }
+}
+
+// What a recovery finds on disks, and the stage after it. Where there is no store one is created.
+fn recovered(alloc: Global, owner: (u8, u8, u32), disks: Three) -> (Found, Stage)
+    requires owner { IsNode owner }
+    requires rests { AreAtRest told disks }
+    ensures { Stands result.1 }
+{
+    let (node, nodes, pages) = owner;
+    match recover(alloc, disks, node, nodes, pages) {
+        Ok(Recovered::Fresh(disks)) => created(alloc, owner, disks),
+        Ok(Recovered::Whole(store, state, _records)) => (Ok(Some(state)), Stage::Idle(store)),
+        Err((fault, disks)) => (Err(fault), Stage::Down(disks)),
+    }
+}
+
+fn created(alloc: Global, owner: (u8, u8, u32), disks: Three) -> (Found, Stage)
+    requires owner { IsNode owner }
+    requires rests { AreAtRest told disks }
+    requires none { AreUnformatted told disks }
+    ensures { Stands result.1 }
+{
+    let (node, nodes, pages) = owner;
+    match create(alloc, disks, node, nodes, pages) {
+        Ok(store) => (Ok(None), Stage::Idle(store)),
+        Err((fault, disks)) => (Err(fault), Stage::Down(disks)),
     }
 }
 

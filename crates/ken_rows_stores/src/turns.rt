@@ -1,94 +1,28 @@
-// Turns, and the other calls of a store.
-ghost use Rattle.std.specs.Prelude.{◌≡◌, IfSome, IsSome, OnOk};
+// Turns of a store: what they change, and their effects.
+ghost use Rattle.std.specs.Prelude.{◌≡◌, IsSome, OnOk};
 ghost use Rattle.ken_rows_stores.specs.Stores.{IsBegun, IsIdle};
 
 use crate::disks::Kept;
 use ken_alloc::Objects;
-use ken_disk::MAX_LEN;
 use ken_model::{Items, MAX_PAGES, OUTSIDE, Octets, Out, PAGE};
 use ken_record::{Effects, Sent};
-use ken_rows::{RowFault, Words};
 use ken_store::StoreFault;
 use std::alloc::{AllocError, Global};
 
 // The place of the first block.
 const PLACE: u64 = 32;
 
-type Outcome = Result<u64, StoreFault>;
+/// A number that a call tells, or its fault.
+pub(crate) type Outcome = Result<u64, StoreFault>;
 
-/// What a call told, with a name, or the fault that it came to.
-pub(crate) type Told = (&'static str, Outcome);
-
-/// Does the call of this name with these numbers, where there is one, and names what it tells.
-pub(crate) fn perform(alloc: Global, store: &mut Kept, name: &[u8], args: &[u64]) -> Option<Told>
-    requires { IsIdle store.old }
-    ensures { IfSome result (λ told. OnOk told.1 (IsIdle store.new)) }
-{
-    match (name, args) {
-        (b"turn", [root, pages]) => Some(("turn", turn(alloc, store, *root, *pages))),
-        (b"turns", [count, pages]) => Some(("turns", turns(alloc, store, *count, *pages))),
-        (b"patch", []) => Some(("patched", store.patch_next().map(u64::from))),
-        (b"clean", []) => Some(("patched", patch_all(store))),
-        (b"settle", []) => Some(("settled", store.settle())),
-        (b"turnover", [settled, emitted, acked @ ..]) => {
-            Some(("base", turn_over(store, *settled, *emitted, acked)))
-        }
-        _ => None,
-    }
-}
-
-// A turn that takes the next input.
-fn turn(alloc: Global, store: &mut Kept, root: u64, pages: u64) -> Outcome
+/// A turn that takes the next input.
+pub(crate) fn turn(alloc: Global, store: &mut Kept, root: u64, pages: u64) -> Outcome
     requires { IsIdle store.old }
     ensures { OnOk result (IsIdle store.new) }
 {
     let effects = of_input(alloc, store.turns().saturating_add(1))?;
     begin(store, root, pages)?;
     seal(store, &effects)
-}
-
-// So many turns, each of which changes so many pages, is patched and settled. A log goes over with 32 records.
-fn turns(alloc: Global, store: &mut Kept, count: u64, pages: u64) -> Outcome
-    requires { IsIdle store.old }
-    ensures { OnOk result (IsIdle store.new) }
-{
-    for _ in 0..count {
-        if store.records() >= 32 {
-            turn_over(store, store.turns(), store.outputs(), &[])?;
-        }
-        turn(alloc, store, store.turns().saturating_add(1), pages)?;
-        patch_all(store)?;
-        store.settle()?;
-    }
-    Ok(store.turns())
-}
-
-// Writes all pages that are to be patched: how many there are.
-fn patch_all(store: &mut Kept) -> Outcome
-    requires { IsIdle store.old }
-    ensures { OnOk result (IsIdle store.new) }
-{
-    for written in 0..u64::MAX {
-        if !store.patch_next()? {
-            return Ok(written);
-        }
-    }
-    Ok(u64::MAX)
-}
-
-// Goes over to the other log, where that may be: the length of its base.
-fn turn_over(store: &mut Kept, settled: u64, emitted: u64, acked: &[u64]) -> Outcome
-    requires { IsIdle store.old }
-    ensures { OnOk result (IsIdle store.new) }
-{
-    if store.log_end() > MAX_LEN || store.generation() == u32::MAX {
-        return Ok(0);
-    }
-    let size = store.base_size(settled, acked, emitted);
-    if size <= u64::from(u32::MAX) {
-        store.turnover(settled, acked, emitted)?;
-    }
-    Ok(size)
 }
 
 /// Begins a turn, and changes the root and by it eight bytes of each other of the first pages, so many.
@@ -120,8 +54,17 @@ fn change(objects: &mut Objects, root: u64, pages: u64) -> Result<(), AllocError
     objects.set_root(root)
 }
 
-/// Seals the turn that is begun, and tells its number. One that may not be sealed is taken back: then it is 0.
-pub(crate) fn seal(store: &mut Kept, effects: &Effects) -> Outcome
+/// Seals the turn that is begun, by a stamp, a sender, the number of its message, a node that `0` is sent to, and draws.
+pub(crate) fn seal_told(alloc: Global, store: &mut Kept, told: &[u64]) -> Outcome
+    requires { IsBegun store.old }
+    ensures { OnOk result (IsIdle store.new) }
+{
+    let effects = of_told(alloc, store, told)?;
+    seal(store, &effects)
+}
+
+// One that may not be sealed is taken back: then its number is 0.
+fn seal(store: &mut Kept, effects: &Effects) -> Outcome
     requires { IsBegun store.old }
     ensures { OnOk result (IsIdle store.new) }
 {
@@ -148,16 +91,17 @@ fn of_input(alloc: Global, turn: u64) -> Result<Effects, AllocError> {
     })
 }
 
-/// Those that a row tells: stamp, sender, number of its message, draws, a node and what is sent to it. Then `0` is output.
-pub(crate) fn read(alloc: Global, store: &Kept, row: &mut Words<'_>) -> Result<Effects, RowFault> {
+fn of_told(alloc: Global, store: &Kept, told: &[u64]) -> Result<Effects, AllocError> {
     let mut effects = of_input(alloc, store.outputs().saturating_add(1))?;
-    effects.stamp = row.number()?;
-    effects.from = row.within(0, 255)? as u8;
-    effects.number = row.number()?;
-    effects.draws = Items::new(row.numbers(alloc)?);
-    let to = row.within(0, 7)? as u8;
-    let number = store.sent_to(to).saturating_add(1);
-    let bytes = Octets::new(row.bytes(alloc)?);
-    effects.sends = Items::new(vec![in alloc; Sent { to, number, bytes }]?);
+    if let [stamp, from, number, to, draws @ ..] = told {
+        effects.stamp = *stamp;
+        effects.from = (*from % 256) as u8;
+        effects.number = *number;
+        effects.draws = Items::new(Vec::from_slice(alloc, draws)?);
+        let to = (*to % 8) as u8;
+        let number = store.sent_to(to).saturating_add(1);
+        let bytes = Octets::copied(alloc, b"0")?;
+        effects.sends = Items::new(vec![in alloc; Sent { to, number, bytes }]?);
+    }
     Ok(effects)
 }

@@ -17,7 +17,7 @@ put_as-requires-clause-may c =
     record {
       packet = Mail m;
       is = read;
-      of_node = c.in_ok-mail.ensures.0 ∙ sym c.args.self.now.first.0;
+      of_node = c.in_ok-mail.ensures.0 ∙ sym c.args.self.now.first.0.0;
       for_node = refl;
       handed = subst (λ (o : Option Packet). Contains (own_sealed o) m) (sym read) (0, omega arith, refl);
     }
