@@ -1,36 +1,48 @@
-// Calls of a store, by their names.
-ghost use Rattle.std.specs.Prelude.{IfSome, OnOk};
-ghost use Rattle.ken_rows_stores.specs.Stages.{Stands};
-ghost use Rattle.ken_rows_stores.specs.Stores.{IsBegun, IsIdle};
+// Calls of a store by their names, and its turns.
+ghost use Rattle.std.specs.Prelude.{◌≡◌, IfSome, IsSome, OnOk};
+ghost use Rattle.ken_rows_stores.specs.Stores.{IsBegun, IsIdle, Stands};
 
 use crate::disks::Kept;
 use crate::stores::Stage;
-use crate::turns::{Outcome, begin, seal_told, turn};
+use ken_alloc::Objects;
 use ken_disk::MAX_LEN;
-use ken_store::{Store, StoreFault};
-use std::alloc::Global;
+use ken_model::{Items, MAX_PAGES, OUTSIDE, Octets, Out, PAGE};
+use ken_record::{Effects, Sent};
+use ken_store::StoreFault;
+use std::alloc::{AllocError, Global};
 
-/// What a call comes to, and the stage after it. What it tells has a name; there is none where there is no such call.
-pub(crate) type Step = (Option<(&'static str, Outcome)>, Stage);
+// The place of the first block.
+const PLACE: u64 = 32;
 
-/// Does the call of this name with these numbers.
-pub(crate) fn step(alloc: Global, stage: Stage, name: &[u8], args: &[u64]) -> Step
+type Outcome = Result<u64, StoreFault>;
+
+/// What a call tells, with a name, or its fault. It is nothing where there is no such call.
+pub(crate) type Told = Option<(&'static str, Outcome)>;
+
+/// Does the call of this name with these numbers, and gives the stage after it.
+pub(crate) fn step(alloc: Global, stage: Stage, name: &[u8], args: &[u64]) -> (Told, Stage)
     requires { Stands stage }
     ensures { Stands result.1 }
 {
     match stage {
         Stage::Idle(store) => on_idle(alloc, store, name, args),
-        Stage::Begun(store) => on_begun(alloc, store, name, args),
+        Stage::Begun(mut store) => {
+            let outcome = seal(alloc, &mut store, name == b"seal".as_slice(), args);
+            after(store, "turn", outcome)
+        }
         _ => (None, stage),
     }
 }
 
-fn on_idle(alloc: Global, mut store: Kept, name: &[u8], args: &[u64]) -> Step
+fn on_idle(alloc: Global, mut store: Kept, name: &[u8], args: &[u64]) -> (Told, Stage)
     requires { IsIdle store }
     ensures { Stands result.1 }
 {
     if let (b"begin", [root, pages]) = (name, args) {
-        return begun(store, *root, *pages);
+        return match begin(&mut store, *root, *pages) {
+            Ok(()) => (Some(("root", Ok(*root))), Stage::Begun(store)),
+            Err(_) => after(store, "root", Err(StoreFault::Memory)),
+        };
     }
     match perform(alloc, &mut store, name, args) {
         Some((name, outcome)) => after(store, name, outcome),
@@ -38,29 +50,7 @@ fn on_idle(alloc: Global, mut store: Kept, name: &[u8], args: &[u64]) -> Step
     }
 }
 
-fn on_begun(alloc: Global, mut store: Kept, name: &[u8], args: &[u64]) -> Step
-    requires { IsBegun store }
-    ensures { Stands result.1 }
-{
-    if name == b"abort".as_slice() {
-        store.abort();
-        return (Some(("turn", Ok(0))), Stage::Idle(store));
-    }
-    let outcome = seal_told(alloc, &mut store, args);
-    after(store, "turn", outcome)
-}
-
-fn begun(mut store: Kept, root: u64, pages: u64) -> Step
-    requires { IsIdle store }
-    ensures { Stands result.1 }
-{
-    match begin(&mut store, root, pages) {
-        Ok(()) => (Some(("root", Ok(root))), Stage::Begun(store)),
-        Err(_) => after(store, "root", Err(StoreFault::Memory)),
-    }
-}
-
-fn after(store: Kept, name: &'static str, outcome: Outcome) -> Step
+fn after(store: Kept, name: &'static str, outcome: Outcome) -> (Told, Stage)
     requires { OnOk outcome (IsIdle store) }
     ensures { Stands result.1 }
 {
@@ -70,12 +60,7 @@ fn after(store: Kept, name: &'static str, outcome: Outcome) -> Step
     }
 }
 
-fn perform(
-    alloc: Global,
-    store: &mut Kept,
-    name: &[u8],
-    args: &[u64],
-) -> Option<(&'static str, Outcome)>
+fn perform(alloc: Global, store: &mut Kept, name: &[u8], args: &[u64]) -> Told
     requires { IsIdle store.old }
     ensures { IfSome result (λ told. OnOk told.1 (IsIdle store.new)) }
 {
@@ -90,6 +75,14 @@ fn perform(
         }
         _ => None,
     }
+}
+
+fn turn(alloc: Global, store: &mut Kept, root: u64, pages: u64) -> Outcome
+    requires { IsIdle store.old }
+    ensures { OnOk result (IsIdle store.new) }
+{
+    begin(store, root, pages)?;
+    seal(alloc, store, true, &[])
 }
 
 // So many turns, each of which changes so many pages, is patched and settled. A log goes over with 32 records.
@@ -134,4 +127,74 @@ fn turn_over(store: &mut Kept, settled: u64, emitted: u64, acked: &[u64]) -> Out
         store.turnover(settled, acked, emitted)?;
     }
     Ok(size)
+}
+
+// Begins a turn, and changes the root and by it eight bytes of each other of the first pages, so many.
+fn begin(store: &mut Kept, root: u64, pages: u64) -> Result<(), AllocError>
+    requires { IsIdle store.old }
+    ensures { OnOk result (IsBegun store.new) }
+{
+    store.begin()?;
+    let objects = store.objects();
+    let answer = change(objects, root, pages);
+    objects.stands();
+    answer
+}
+
+// The other pages are in a block, which ends where they do, but for the head of the next one.
+fn change(objects: &mut Objects, root: u64, pages: u64) -> Result<(), AllocError>
+    requires { IsSome objects.old.begun }
+    ensures { objects.new.begun ≡ objects.old.begun }
+{
+    if pages > 1 && !objects.is_block(PLACE) {
+        objects.alloc(PAGE * pages.min(MAX_PAGES) - 48)?;
+    }
+    for page in 1..pages.min(MAX_PAGES) {
+        let at = PAGE * page - PLACE;
+        if objects.is_block(PLACE) && at + 8 <= objects.len_of(PLACE) {
+            objects.write(PLACE, at, &root.to_be_bytes())?;
+        }
+    }
+    objects.set_root(root)
+}
+
+// Seals the turn that is begun, and tells its number. One that isn't kept, or may not be sealed, is taken back: then it is 0.
+fn seal(alloc: Global, store: &mut Kept, is_kept: bool, told: &[u64]) -> Outcome
+    requires { IsBegun store.old }
+    ensures { OnOk result (IsIdle store.new) }
+{
+    let effects = effects(alloc, store, told)?;
+    if is_kept && store.may_seal(&effects) {
+        return store.seal(&effects);
+    }
+    store.abort();
+    Ok(0)
+}
+
+// A turn takes the next input with a stamp that is greater by two, and outputs `0`. Where it is told a stamp, a sender, the number
+// of its message, a node and draws, it takes that message, draws these, and sends `0` to the node.
+fn effects(alloc: Global, store: &Kept, told: &[u64]) -> Result<Effects, AllocError> {
+    let out = Out {
+        number: store.outputs().saturating_add(1),
+        text: Octets::copied(alloc, b"0")?,
+    };
+    let mut effects = Effects {
+        from: OUTSIDE,
+        number: store.consumed_from(OUTSIDE).saturating_add(1),
+        stamp: store.stamp().saturating_add(2),
+        draws: Items::new(Vec::new(alloc)),
+        sends: Items::new(Vec::new(alloc)),
+        outs: Items::new(vec![in alloc; out]?),
+    };
+    if let [stamp, from, number, to, draws @ ..] = told {
+        effects.stamp = *stamp;
+        effects.from = (*from % 256) as u8;
+        effects.number = *number;
+        effects.draws = Items::new(Vec::from_slice(alloc, draws)?);
+        let to = (*to % 8) as u8;
+        let number = store.sent_to(to).saturating_add(1);
+        let bytes = Octets::copied(alloc, b"0")?;
+        effects.sends = Items::new(vec![in alloc; Sent { to, number, bytes }]?);
+    }
+    Ok(effects)
 }

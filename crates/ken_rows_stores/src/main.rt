@@ -5,7 +5,6 @@ mod calls;
 mod disks;
 mod rows;
 mod stores;
-mod turns;
 
 use ken_rows::transcribe;
 use std::process::ExitCode;

@@ -30,7 +30,7 @@ impl Stores {
             b"recover" => self.come_up(read(self.alloc, false, words)?, answer),
             b"crash" => self.restart(Some(words.number()?), answer),
             b"restart" => self.restart(None, answer),
-            b"numbers" => self.numbers(answer),
+            b"log" => self.log(answer),
             b"value" => self.value(answer),
             _ => self.call(command, words, answer),
         }
@@ -46,7 +46,8 @@ impl Stores {
         }
         let stage = mem::replace(&mut self.stage, Stage::Absent);
         let (told, stage) = step(self.alloc, stage, name, &args);
-        self.stage = stage;
+        // What is forgotten is absent.
+        mem::forget(mem::replace(&mut self.stage, stage));
         let (name, outcome) = told.ok_or(RowFault::Usage)?;
         match outcome {
             Ok(number) => Ok(answer.named(name, number)?),

@@ -1,10 +1,9 @@
 // A node over disks in memory, and how its store comes up.
-ghost use Rattle.ken_store.specs.Answers.{AreAtRest, AreUnformatted};
-ghost use Rattle.ken_rows_stores.specs.Stages.{IsNode, Stands};
-ghost use Rattle.ken_rows_stores.specs.Stores.{told};
+ghost use Rattle.ken_store.specs.Answers.{AreAtRest};
+ghost use Rattle.ken_rows_stores.specs.Stores.{IsNode, Stands, told};
 
 use crate::disks::{Kept, Three, read, rested};
-use ken_model::{MAX_PAGES, OUTSIDE, State};
+use ken_model::{MAX_PAGES, State};
 use ken_rows::{Answer, RowFault, Words};
 use ken_store::{Recovered, StoreFault, create, recover};
 use std::alloc::Global;
@@ -22,7 +21,6 @@ pub(crate) enum Stage {
     /// A disk failed, or is damaged.
     Down(Three),
     Idle(Kept),
-    /// A turn is begun.
     Begun(Kept),
 }
 
@@ -35,7 +33,7 @@ pub(crate) struct Stores {
 }
 
 impl Model for Stores {
-    ghost use Rattle.ken_rows_stores.specs.Stages.{IsNode, Stands};
+    ghost use Rattle.ken_rows_stores.specs.Stores.{IsNode, Stands};
 
     ghost Value = { Unit {0} };
 
@@ -64,20 +62,27 @@ impl Stores {
 
     /// Recovers the store after a crash with this pick, or once its disks are synced.
     pub(crate) fn restart(&mut self, pick: Option<u64>, answer: &mut Answer) -> Row {
-        let disks = match mem::replace(&mut self.stage, Stage::Absent) {
-            Stage::Absent => return Err(RowFault::Usage),
-            Stage::Down(disks) => disks,
-            Stage::Idle(store) | Stage::Begun(store) => store.release(),
-        };
+        let disks = self.release().ok_or(RowFault::Usage)?;
         self.come_up(rested(disks, pick)?, answer)
     }
 
-    /// Recovers the store on these disks.
+    // Takes the disks, where there are any.
+    fn release(&mut self) -> Option<Three> {
+        match mem::replace(&mut self.stage, Stage::Absent) {
+            Stage::Absent => None,
+            Stage::Down(disks) => Some(disks),
+            Stage::Idle(store) | Stage::Begun(store) => Some(store.release()),
+        }
+    }
+
+    /// Recovers the store on these disks, in place of any others.
     pub(crate) fn come_up(&mut self, disks: Three, answer: &mut Answer) -> Row
         requires { AreAtRest told disks }
     {
+        let _others = self.release();
         let (found, stage) = recovered(self.alloc, self.owner, disks);
-        self.stage = stage;
+        // What is forgotten is absent: the disks were taken.
+        mem::forget(mem::replace(&mut self.stage, stage));
         match found {
             Ok(Some(state)) => {
                 tell_state(&state, answer)?;
@@ -114,18 +119,13 @@ impl Stores {
         Ok(())
     }
 
-    /// How far the node has come, and its log.
-    pub(crate) fn numbers(&self, answer: &mut Answer) -> Row {
+    /// The log, and the pages of the heap.
+    pub(crate) fn log(&self, answer: &mut Answer) -> Row {
         let store = self.store()?;
-        answer.named("turns", store.turns())?;
-        answer.named("stamp", store.stamp())?;
-        answer.named("inputs", store.consumed_from(OUTSIDE))?;
-        answer.named("sent", store.sent_to(0))?;
-        answer.named("outputs", store.outputs())?;
-        answer.named("pages", u64::from(store.pages()))?;
         answer.named("generation", u64::from(store.generation()))?;
         answer.named("records", store.records())?;
-        Ok(answer.named("end", store.log_end())?)
+        answer.named("end", store.log_end())?;
+        Ok(answer.named("pages", u64::from(store.pages()))?)
     }
 }
 
@@ -135,23 +135,12 @@ fn recovered(alloc: Global, owner: (u8, u8, u32), disks: Three) -> (Found, Stage
     requires rests { AreAtRest told disks }
     ensures { Stands result.1 }
 {
-    let (node, nodes, pages) = owner;
-    match recover(alloc, disks, node, nodes, pages) {
-        Ok(Recovered::Fresh(disks)) => created(alloc, owner, disks),
+    match recover(alloc, disks, owner.0, owner.1, owner.2) {
+        Ok(Recovered::Fresh(disks)) => match create(alloc, disks, owner.0, owner.1, owner.2) {
+            Ok(store) => (Ok(None), Stage::Idle(store)),
+            Err((fault, disks)) => (Err(fault), Stage::Down(disks)),
+        },
         Ok(Recovered::Whole(store, state, _records)) => (Ok(Some(state)), Stage::Idle(store)),
-        Err((fault, disks)) => (Err(fault), Stage::Down(disks)),
-    }
-}
-
-fn created(alloc: Global, owner: (u8, u8, u32), disks: Three) -> (Found, Stage)
-    requires owner { IsNode owner }
-    requires rests { AreAtRest told disks }
-    requires none { AreUnformatted told disks }
-    ensures { Stands result.1 }
-{
-    let (node, nodes, pages) = owner;
-    match create(alloc, disks, node, nodes, pages) {
-        Ok(store) => (Ok(None), Stage::Idle(store)),
         Err((fault, disks)) => (Err(fault), Stage::Down(disks)),
     }
 }
