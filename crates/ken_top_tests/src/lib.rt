@@ -1,4 +1,4 @@
-//! Runs of the program over worlds of the tests' own.
+//! Runs of the program over worlds of the tests' own, and streams of the tests' own as its source and sink.
 #![tactic(auto)]
 
 #[cfg(test)]
@@ -7,3 +7,5 @@ mod calls;
 mod meeting;
 #[cfg(test)]
 mod own_world;
+#[cfg(test)]
+mod streams;
