@@ -1,4 +1,4 @@
-//! Whether a report is one that a run prints: right, or its first wrong line.
+//! Whether each line of a report is right for a script, or which is the first wrong one.
 #![tactic(auto)]
 
 mod checker;

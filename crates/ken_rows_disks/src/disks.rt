@@ -36,7 +36,12 @@ impl Layer for Disks {
             b"show" => self.show(words, answer),
             b"get" => self.get(words, answer),
             b"put" => self.put(words, answer),
-            _ => self.call(command, words, answer),
+            b"write" => self.write(words, answer),
+            b"sync" => self.sync(answer),
+            b"bytes" => self.read(answer),
+            b"hint" => self.hint(answer),
+            b"restart" => self.restart(words),
+            _ => Err(RowFault::Usage),
         }
     }
 }
@@ -74,30 +79,50 @@ impl Disks {
         Ok(())
     }
 
-    fn call(&mut self, command: &[u8], words: &mut Words<'_>, answer: &mut Answer) -> Told {
-        let mut disk = self.disk.take().ok_or(RowFault::Usage)?;
-        match command {
-            b"write" => {
-                let at = words.number()?;
-                let bytes = self.changed(words)?;
-                if at > disk.len() || at > MAX_LEN || bytes.len() as u64 > MAX_LEN - at {
-                    return Err(RowFault::Usage);
-                }
-                self.tell(disk.write(at, &bytes), answer)?;
-            }
-            b"sync" => self.tell(disk.sync(), answer)?,
-            b"bytes" => {
-                let mut bytes = vec![in self.alloc; 0; disk.len() as usize]?;
-                match disk.read(0, &mut bytes) {
-                    Ok(()) => answer.bytes(&bytes)?,
-                    Err(fault) => self.tell(Err(fault), answer)?,
-                }
-            }
-            b"hint" => answer.number(disk.hint())?,
-            b"restart" => disk.restart(words.number()?)?,
-            _ => return Err(RowFault::Usage),
+    fn write(&mut self, words: &mut Words<'_>, answer: &mut Answer) -> Told {
+        let at = words.number()?;
+        let bytes = self.changed(words)?;
+        let Some(disk) = &mut self.disk else {
+            return Err(RowFault::Usage);
+        };
+        if at > disk.len() || at > MAX_LEN || bytes.len() as u64 > MAX_LEN - at {
+            return Err(RowFault::Usage);
         }
-        self.disk = Some(disk);
-        Ok(())
+        let done = disk.write(at, &bytes);
+        self.tell(done, answer)
+    }
+
+    fn sync(&mut self, answer: &mut Answer) -> Told {
+        let Some(disk) = &mut self.disk else {
+            return Err(RowFault::Usage);
+        };
+        let done = disk.sync();
+        self.tell(done, answer)
+    }
+
+    fn read(&mut self, answer: &mut Answer) -> Told {
+        let Some(disk) = &mut self.disk else {
+            return Err(RowFault::Usage);
+        };
+        let mut bytes = vec![in self.alloc; 0; disk.len() as usize]?;
+        match disk.read(0, &mut bytes) {
+            Ok(()) => Ok(answer.bytes(&bytes)?),
+            Err(fault) => self.tell(Err(fault), answer),
+        }
+    }
+
+    fn restart(&mut self, words: &mut Words<'_>) -> Told {
+        let pick = words.number()?;
+        match &mut self.disk {
+            Some(disk) => Ok(disk.restart(pick)?),
+            None => Err(RowFault::Usage),
+        }
+    }
+
+    fn hint(&self, answer: &mut Answer) -> Told {
+        match &self.disk {
+            Some(disk) => Ok(answer.number(disk.hint())?),
+            None => Err(RowFault::Usage),
+        }
     }
 }

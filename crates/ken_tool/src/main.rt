@@ -1,6 +1,6 @@
 //! The program `ken`: rollback recovery over a simulated group of nodes. `ken run` reads a script on standard input and
-//! writes the report of its run. `ken check LENGTH` reads a script of so many bytes and a report behind it, and says whether the
-//! report is one that a run of the script prints. `ken soak` makes a script of a seed and three numbers, runs it, and sums it up.
+//! writes the report of its run. `ken check LENGTH` reads a script of so many bytes and a report behind it, and says whether
+//! each line of the report is right for the script. `ken soak` makes a script of a seed and three numbers, runs it, and sums it up.
 #![tactic(auto)]
 
 use ken_drive::MemWorld;

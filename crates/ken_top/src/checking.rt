@@ -19,8 +19,8 @@ use std::alloc::Global;
 /// The most bytes of a script and a report that are checked.
 pub const MOST_INPUT: usize = 268_435_456;
 
-/// Reads a script of `length` bytes, fewer where the source ends sooner, and a report behind it, and says whether the report is one that
-/// a run of the script prints. The report is held against the script's run as it comes in, and let go.
+/// Reads a script of `length` bytes, fewer where the source ends sooner, and a report behind it, and says whether each line of the report
+/// is right for the script. The report is held against the script's run as it comes in, and let go.
 pub(crate) fn checked<S: Source, K: Sink>(
     alloc: Global,
     length: usize,

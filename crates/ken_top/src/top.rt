@@ -26,8 +26,8 @@ use std::sync::Wait;
 use std::thread::Threads;
 
 /// Does what the program does. `words` begins with the program's name. With `run` it reads a script, runs it over the world's devices, and
-/// writes its report. With `check` and a length it reads a script of so many bytes and a report behind it, and writes `yes` where the
-/// report is one that a run of the script prints. With `soak`, a seed, and numbers of nodes, inputs and rounds it makes a script of these,
+/// writes its report. With `check` and a length it reads a script of so many bytes and a report behind it, and writes `yes` where
+/// each line of the report is right for the script. With `soak`, a seed, and numbers of nodes, inputs and rounds it makes a script of these,
 /// runs it, and writes the summary of what its nodes came to.
 ///
 /// A run makes the rounds that its script asks for: the workers of its nodes are threads then, as far as `rt` starts them, and one may wait

@@ -1,4 +1,4 @@
-use Rattle.std.proofs.Common.{◌≡◌, ◌∙◌, ℕ, ◌≤◌, Option, Some, refl, sym, ap, subst, arith, rules}
+use Rattle.std.proofs.Common.{◌≡◌, ◌∙◌, ℕ, Option, Some, refl, sym, ap, subst, arith, rules}
 use Rattle.ken_packet.specs.declared.packet.Packet.{Packet}
 use Rattle.ken_packet.specs.declared.packet.Packet.TheVariants.{Ack}
 use Rattle.ken_packet.specs.Packets.{IsAck}
