@@ -1,10 +1,11 @@
 -- A turn that is being made, and the turn that an application has made.
-use Rattle.std.specs.Prelude.{◌≡◌, ℕ, ◌<◌, ◌≤◌, List, [], ◌∷◌, ◌++◌, length, nat_lt, if◌then◌else◌, Some, IsSome, IfSome}
+use Rattle.std.specs.Prelude.{◌≡◌, ℕ, ◌<◌, ◌≤◌, List, [], ◌∷◌, ◌++◌, length, Some, IsSome, IfSome}
 use Rattle.std.specs.List.{AllByRecursion}
 use Rattle.ken_alloc.specs.Objects.{Heap}
 use Rattle.ken_model.specs.declared.messages.Message.{Message}
 use Rattle.ken_model.specs.declared.messages.Send.{Send}
 use Rattle.ken_model.specs.declared.facts.TheConstants.{MAX_NODES, MAX_TEXT}
+use Rattle.ken_model.specs.Reading.{value_of}
 use Rattle.ken_model.specs.Effects.{Effect}
 use Rattle.ken_model.specs.Handler.{Handler}
 use Rattle.ken_app.specs.declared.turn.Turn.{Turn}
@@ -44,10 +45,11 @@ pub record IsPlaced (node nodes : ℕ) : Type 0 where
   pub few_nodes : nodes ≤ MAX_NODES
   pub known : node < nodes
 
--- a turn at its beginning: one of the heap is begun, and nothing was drawn, sent or output
+-- a turn at its beginning: one of the heap is begun, and nothing was changed since, drawn, sent or output
 pub record IsFresh (t : Turning) : Type 0 where
   pub placed : IsPlaced t.node t.nodes
   pub begun : IsSome t.heap.begun
+  pub unchanged : IfSome t.heap.begun (λ before. value_of before ≡ t.heap.value)
   pub draws : t.draws ≡ []
   pub sends : t.sends ≡ []
   pub outs : t.outs ≡ []
@@ -56,9 +58,9 @@ pub record IsFresh (t : Turning) : Type 0 where
 abbrev pub IsShortText : List ℕ → Type 0
 IsShortText bytes = length bytes ≤ MAX_TEXT
 
--- the turn with a text more that it sends, where that goes to a node of the run
+-- the turn with a text more that it sends
 abbrev pub with_send : ℕ → List ℕ → Turning → Turning
-with_send to text t = record t { sends = t.sends ++ (if nat_lt to t.nodes then record { to = to; bytes = text } ∷ [] else []) }
+with_send to text t = record t { sends = t.sends ++ record { to = to; bytes = text } ∷ [] }
 
 -- the turn with a text more that it outputs
 abbrev pub with_output : List ℕ → Turning → Turning

@@ -44,7 +44,7 @@ pub fn take_turn<A: App, O: Oracle>(
     oracle: &mut O,
 ) -> Result<Made, AllocError>
     requires placed { IsPlaced node nodes }
-    requires begun { IsSome objects.old.begun }
+    requires begun { objects.old.begun ≡ Some objects.old.bytes }
     ensures handled { IfOk result (λ made. Allows (A.handler app.now) (first_turning node nodes message.now objects.old) made.draws.items
         → (A.handler app.now).after node nodes objects.old.value message.now made.draws.items
         ≡ Some (record { value = objects.new.value; sends = made.sends.items; outs = made.outs.items })) }
@@ -56,6 +56,7 @@ pub fn take_turn<A: App, O: Oracle>(
     ensures words_go_on { HasAnswered (O.telling.words oracle.old) (O.telling.words oracle.new) }
     ensures origin { O.telling.origin oracle.new ≡ O.telling.origin oracle.old }
 {
+    objects.stands();
     let mut made = Made::new(alloc);
     let mut turn = Turn::new(node, nodes, message, objects, oracle, &mut made);
     app.on_message(&mut turn)?;

@@ -4,9 +4,11 @@
 mod app;
 mod faults;
 mod oracle;
+mod service;
 mod turn;
 
 pub use app::{App, take_turn};
 pub use faults::{NoDraw, OutputFault, SendFault};
 pub use oracle::Oracle;
+pub use service::{Limited, Service, limited_keeps_limits, limited_keeps_lines};
 pub use turn::{MAX_DRAWS, MAX_OUTPUTS, MAX_SENDS, Made, Turn};

@@ -1,9 +1,12 @@
 // A turn that is being made.
-ghost use Rattle.std.specs.Prelude.{◌≡◌, ◌↔◌, ◌<◌, ◌≤◌, [], ◌∷◌, ◌++◌, length, decimal, OnOk, OnErr, IfOk, IsErr, IsErrOf};
+ghost use Rattle.std.specs.Prelude.{◌≡◌, ◌↔◌, ◌<◌, ◌≤◌, [], ◌∷◌, ◌++◌, length, decimal, OnOk, OnErr, IfOk, IsErr, IsErrOf, Some, IsSome, IfSome};
+ghost use Rattle.std.specs.List.{list_all};
+ghost use Rattle.ken_model.specs.Reading.{value_of};
 ghost use Rattle.ken_model.specs.declared.facts.TheConstants.{MAX_TEXT};
 ghost use Rattle.ken_app.specs.declared.turn.TheConstants.{MAX_DRAWS, MAX_SENDS, MAX_OUTPUTS};
 ghost use Rattle.ken_app.specs.Oracles.{Answers};
-ghost use Rattle.ken_app.specs.Turning.{turning, oracle_of, IsOneTurn, IsShortText, with_send, with_output};
+ghost use Rattle.ken_app.specs.Turning.{turning, oracle_of, IsOneTurn, with_send, with_output};
+ghost use Rattle.ken_app.specs.Limited.{is_line, is_text, send_fits, fits};
 
 use crate::faults::{NoDraw, OutputFault, SendFault};
 use crate::oracle::Oracle;
@@ -149,26 +152,22 @@ impl<'a, O: Oracle> Turn<'a, O> {
             .map_err(|_| SendFault::Memory)
     }
 
-    /// Sends a text to a node, as handlers do: one of more than `MAX_TEXT` bytes, or to no node of the run, is beyond the
-    /// limits of a turn and is passed over, where `send` refuses it. After an error the turn is as before.
+    /// Sends a text to a node, as handlers do. It may be beyond the limits of a turn, where `send` refuses it: what makes the
+    /// turn then judges it whole. After an error the turn is as before.
     pub fn send_text(&mut self, to: u8, text: &[u8]) -> Result<(), AllocError>
-        requires few { length (turning self.old).sends < MAX_SENDS }
-        ensures ok { OnOk result (IsShortText text.now → turning self.new ≡ with_send to text.now (turning self.old)) }
-        ensures too_long { MAX_TEXT < length text.now → turning self.new ≡ turning self.old }
+        ensures ok { OnOk result (turning self.new ≡ with_send to text.now (turning self.old)) }
         ensures err { OnErr result (turning self.new ≡ turning self.old) }
         ensures rest { turning self.new ≡ record (turning self.old) { sends = (turning self.new).sends } }
         ensures oracle { oracle_of self.new ≡ oracle_of self.old }
         ensures same { IsOneTurn self.old self.new }
     {
-        match self.send(to, text) {
-            Err(SendFault::Memory) => Err(AllocError),
-            _ => Ok(()),
-        }
+        let bytes = Octets::copied(self.made.alloc, text)?;
+        self.made.sends.push(Send { to, bytes })?;
+        Ok(())
     }
 
     /// Sends a number in decimal, as `send_text` does a text.
     pub fn send_number(&mut self, to: u8, n: u64) -> Result<(), AllocError>
-        requires few { length (turning self.old).sends < MAX_SENDS }
         ensures ok { OnOk result (turning self.new ≡ with_send to (decimal n) (turning self.old)) }
         ensures err { OnErr result (turning self.new ≡ turning self.old) }
         ensures rest { turning self.new ≡ record (turning self.old) { sends = (turning self.new).sends } }
@@ -198,26 +197,21 @@ impl<'a, O: Oracle> Turn<'a, O> {
         self.made.outs.push(text).map_err(|_| OutputFault::Memory)
     }
 
-    /// Outputs a text, as handlers do: one of more than `MAX_TEXT` bytes is beyond the limits of a turn and is passed over,
-    /// where `output` refuses it. After an error the turn is as before.
+    /// Outputs a text, as `send_text` sends one.
     pub fn output_text(&mut self, text: &[u8]) -> Result<(), AllocError>
-        requires few { length (turning self.old).outs < MAX_OUTPUTS }
-        ensures ok { OnOk result (IsShortText text.now → turning self.new ≡ with_output text.now (turning self.old)) }
-        ensures too_long { MAX_TEXT < length text.now → turning self.new ≡ turning self.old }
+        ensures ok { OnOk result (turning self.new ≡ with_output text.now (turning self.old)) }
         ensures err { OnErr result (turning self.new ≡ turning self.old) }
         ensures rest { turning self.new ≡ record (turning self.old) { outs = (turning self.new).outs } }
         ensures oracle { oracle_of self.new ≡ oracle_of self.old }
         ensures same { IsOneTurn self.old self.new }
     {
-        match self.output(text) {
-            Err(OutputFault::Memory) => Err(AllocError),
-            _ => Ok(()),
-        }
+        let text = Octets::copied(self.made.alloc, text)?;
+        self.made.outs.push(text)?;
+        Ok(())
     }
 
     /// Outputs a number in decimal, as `output_text` does a text.
     pub fn output_number(&mut self, n: u64) -> Result<(), AllocError>
-        requires few { length (turning self.old).outs < MAX_OUTPUTS }
         ensures ok { OnOk result (turning self.new ≡ with_output (decimal n) (turning self.old)) }
         ensures err { OnErr result (turning self.new ≡ turning self.old) }
         ensures rest { turning self.new ≡ record (turning self.old) { outs = (turning self.new).outs } }
@@ -225,6 +219,33 @@ impl<'a, O: Oracle> Turn<'a, O> {
         ensures same { IsOneTurn self.old self.new }
     {
         self.output_text(Buffer::new().format(n).as_bytes())
+    }
+
+    // Whether what was sent and output is within the limits of a turn, and all of it lines.
+    pub(crate) fn fits(&self) -> bool
+        ensures { result ≡ fits (turning self.now).nodes (turning self.now).sends (turning self.now).outs }
+    {
+        self.made.sends.len() <= MAX_SENDS
+            && self.made.outs.len() <= MAX_OUTPUTS
+            && sends_fit(self.nodes, self.made.sends.as_slice())
+            && outs_fit(self.made.outs.as_slice())
+    }
+
+    // Takes back what was done to the heap, sent and output. What was drawn stays.
+    pub(crate) fn take_back(&mut self)
+        requires { IsSome (turning self.old).heap.begun }
+        ensures taken { IfSome (turning self.old).heap.begun (λ before. turning self.new ≡ record (turning self.old) {
+          heap = record { value = value_of before; bytes = before; begun = Some before };
+          sends = [];
+          outs = [];
+        }) }
+        ensures oracle { oracle_of self.new ≡ oracle_of self.old }
+        ensures same { IsOneTurn self.old self.new }
+    {
+        self.objects.abort();
+        self.objects.begin();
+        self.made.sends.clear();
+        self.made.outs.clear();
     }
 
     /// Draws a reading of the clock. It takes no memory. `NoDraw` exactly where the turn has drawn `MAX_DRAWS` times; the
@@ -263,4 +284,31 @@ impl<'a, O: Oracle> Turn<'a, O> {
         self.made.draws.push(word);
         Ok(word)
     }
+}
+
+// Whether a text is one line, and short.
+fn is_text(text: &[u8]) -> bool
+    ensures { result ≡ is_text text.now }
+{
+    text.len() <= MAX_TEXT && is_line(text)
+}
+
+fn is_line(text: &[u8]) -> bool
+    ensures { result ≡ is_line text.now }
+{
+    text.iter().all(|byte| *byte != b'\n')
+}
+
+fn sends_fit(nodes: u8, sends: &[Send]) -> bool
+    ensures { result ≡ list_all (send_fits nodes) sends.now }
+{
+    sends
+        .iter()
+        .all(|send| send.to < nodes && is_text(send.bytes.as_slice()))
+}
+
+fn outs_fit(outs: &[Octets]) -> bool
+    ensures { result ≡ list_all is_text outs.now }
+{
+    outs.iter().all(|out| is_text(out.as_slice()))
 }

@@ -1,5 +1,5 @@
 -- What a payment takes from one balance its receiver adds to its own.
-use Rattle.std.proofs.Common.{◌≡◌, ℕ, ◌+◌, ◌-◌, ◌<◌, ◌≤◌, ◌^◌, List, [], ◌∷◌, Bool, true, false, ◌==◌, ◌&&◌, nat_lt, nat_le, if◌then◌else◌, Option, Some, None, option_map, codes, decimal, refl, sym, ◌∙◌, ap, subst, arith, ne_eqb, lt-ltb}
+use Rattle.std.proofs.Common.{◌≡◌, ℕ, ◌+◌, ◌-◌, ◌<◌, ◌≤◌, ◌^◌, List, [], ◌∷◌, Bool, true, false, ◌==◌, ◌&&◌, nat_lt, nat_le, if◌then◌else◌, Option, Some, None, option_map, codes, decimal, refl, sym, ◌∙◌, ap, subst, arith, inl, inr, ne_eqb, lt-ltb}
 use Rattle.std.specs.List.{AllByRecursion}
 use Rattle.ken_model.specs.declared.messages.Message.{Message}
 use Rattle.ken_model.specs.declared.messages.Send.{Send}
@@ -10,6 +10,9 @@ use Rattle.ken_model.specs.Kinds.{without_draws}
 use Rattle.ken_num.specs.Numbers.{num}
 use Rattle.ken_num.proofs.ReadBack.{num_decimal}
 use Rattle.ken_num.proofs.Small.{num-lt}
+use Rattle.ken_app.specs.Limited.{fits, within}
+use Rattle.ken_app.proofs.Texts.{decimal_is_text}
+use Rattle.ken_app.proofs.Within.{within_some, within_fits}
 use Rattle.ken_ledger.specs.Laws.{IsCredit, IsPayment, NoPaymentIsLost}
 use Rattle.ken_ledger.specs.Ledger.{payment_of, with_receipt, credited, asked, ledger_after}
 
@@ -28,13 +31,24 @@ no_sends (d ∷ ds) made e none is = absurd cc
 
 -- ---- an amount from a node
 
+receipt_fits : (nodes balance clock : ℕ) → balance < 2 ^ 64 → clock < 2 ^ 64 → fits nodes [] (decimal balance ∷ decimal clock ∷ []) ≡ true
+receipt_fits nodes balance clock held word = rw (decimal_is_text balance held, decimal_is_text clock word) refl
+
+kept_balance : (nodes : ℕ) (v : Value) (balance : ℕ) (draws : List ℕ) (e : Effect) → balance < 2 ^ 64 → AllByRecursion (λ (d : ℕ). d < 2 ^ 64) draws → within nodes v (with_receipt v balance [] draws) ≡ Some e → e.value.root ≡ balance
+kept_balance nodes v balance [] e held words is = absurd cc
+kept_balance nodes v balance (clock ∷ []) e held words is =
+    let made : Effect = record { value = record v { root = balance }; sends = []; outs = decimal balance ∷ decimal clock ∷ [] } in
+    let fit = receipt_fits nodes balance clock held words.0 in
+    (receipt_balance v balance [] (clock ∷ []) e (sym (within_fits nodes v made fit) ∙ is)).0
+kept_balance nodes v balance (clock ∷ d ∷ ds) e held words is = absurd cc
+
 is_credit : (n : ℕ) → n < 10 ^ 9 → IsCredit (decimal n) n
 unfolding ledger_after
-is_credit n small node nodes v m draws e text inside room is =
+is_credit n small node nodes v m draws e text inside room words is =
     let node_s : (m.from == OUTSIDE) ≡ false = ne_eqb m.from OUTSIDE inside in
     let read : num m.bytes ≡ Some n = ap num text ∙ num_decimal n small in
     let held : nat_lt (v.root + n) (2 ^ 64) ≡ true = lt-ltb (v.root + n) (2 ^ 64) room in
-    (receipt_balance v (v.root + n) [] draws e (rw (node_s, read, held) at is)).0
+    kept_balance nodes v (v.root + n) draws e room words (rw (node_s, read, held) at is)
 
 -- ---- a turn that sends
 
@@ -77,6 +91,12 @@ module _ (nodes : ℕ) (v : Value) (draws : List ℕ) (e : Effect) where
   either_paid true m is = asked_paid m.bytes (payment_of m.bytes) (payment_small m.bytes) is
   either_paid false m is = none_paid v e (credited_none (num m.bytes) is)
 
-pub no_payment_is_lost : NoPaymentIsLost
+defined_paid : (node nodes : ℕ) (v : Value) (m : Message) (draws : List ℕ) (e : Effect) → ledger_after node nodes v m draws ≡ Some e → AllByRecursion (IsPayment v e) e.sends
 unfolding ledger_after
-no_payment_is_lost node nodes v m draws e is = either_paid nodes v draws e (m.from == OUTSIDE) m is
+defined_paid node nodes v m draws e is = either_paid nodes v draws e (m.from == OUTSIDE) m is
+
+pub no_payment_is_lost : NoPaymentIsLost
+no_payment_is_lost node nodes v m draws e is = elim (within_some nodes v (ledger_after node nodes v m draws) e is) [
+  | inl made ↦ defined_paid node nodes v m draws e made
+  | inr beyond ↦ none_paid v e (ap (λ (x : Effect). x.sends) beyond)
+]

@@ -1,4 +1,4 @@
--- What holds of a ledger.
+-- What holds of a ledger, as runs play it: within the limits of a turn.
 use Rattle.std.specs.Prelude.{◌≡◌, ℕ, ◌+◌, ◌<◌, ◌^◌, List, Some}
 use Rattle.std.specs.List.{AllByRecursion}
 use Rattle.ken_model.specs.declared.messages.Message.{Message}
@@ -6,23 +6,14 @@ use Rattle.ken_model.specs.declared.messages.Send.{Send}
 use Rattle.ken_model.specs.declared.messages.TheConstants.{OUTSIDE}
 use Rattle.ken_model.specs.declared.values.Value.{Value}
 use Rattle.ken_model.specs.Effects.{Effect}
-use Rattle.ken_app.specs.Limits.{KeepsLimits}
-use Rattle.ken_app.specs.Lines.{KeepsLines}
-use Rattle.ken_ledger.specs.Ledger.{ledger, ledger_after}
-
--- the ledger keeps the limits of a turn at each node, so nodes can run it
-abbrev pub LedgerKeepsLimits : Type 0
-LedgerKeepsLimits = (nodes size : ℕ) → KeepsLimits nodes size ledger
-
--- and its report can be printed
-abbrev pub LedgerKeepsLines : Type 0
-LedgerKeepsLines = (nodes size : ℕ) → KeepsLines nodes size ledger
+use Rattle.ken_app.specs.Limited.{limited}
+use Rattle.ken_ledger.specs.Ledger.{ledger}
 
 -- a text adds n to the balance of each node that takes it from a node, where 64 bits hold the sum
 abbrev pub IsCredit : List ℕ → ℕ → Type 0
 IsCredit bytes n =
     (node nodes : ℕ) (value : Value) (m : Message) (draws : List ℕ) (e : Effect) → m.bytes ≡ bytes → (m.from ≡ OUTSIDE → ⊥) → value.root + n < 2 ^ 64
-    → ledger_after node nodes value m draws ≡ Some e → e.value.root ≡ value.root + n
+    → AllByRecursion (λ (d : ℕ). d < 2 ^ 64) draws → (limited ledger).after node nodes value m draws ≡ Some e → e.value.root ≡ value.root + n
 
 -- of an effect on a heap, a message takes from its balance just what it adds to its receiver's
 pub record IsPayment (value : Value) (e : Effect) (s : Send) : Type 0 where
@@ -32,4 +23,4 @@ pub record IsPayment (value : Value) (e : Effect) (s : Send) : Type 0 where
 
 -- so does each message of a ledger
 abbrev pub NoPaymentIsLost : Type 0
-NoPaymentIsLost = (node nodes : ℕ) (value : Value) (m : Message) (draws : List ℕ) (e : Effect) → ledger_after node nodes value m draws ≡ Some e → AllByRecursion (IsPayment value e) e.sends
+NoPaymentIsLost = (node nodes : ℕ) (value : Value) (m : Message) (draws : List ℕ) (e : Effect) → (limited ledger).after node nodes value m draws ≡ Some e → AllByRecursion (IsPayment value e) e.sends

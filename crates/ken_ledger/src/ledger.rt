@@ -1,10 +1,9 @@
 // The ledger.
-ghost use Rattle.std.specs.Prelude.{◌≡◌, ◌+◌, ◌<◌, length, decimal, OnOk, IsSome};
-ghost use Rattle.ken_app.specs.declared.turn.TheConstants.{MAX_OUTPUTS};
+ghost use Rattle.std.specs.Prelude.{◌≡◌, decimal, OnOk, IsSome};
 ghost use Rattle.ken_app.specs.Turning.{turning, oracle_of, with_output, IsOneTurn};
 ghost use Rattle.ken_ledger.specs.Ledger.{ledger, payment_of};
 
-use ken_app::{App, Oracle, Turn};
+use ken_app::{Oracle, Service, Turn};
 use ken_model::OUTSIDE;
 use ken_num::num;
 use std::alloc::AllocError;
@@ -27,7 +26,6 @@ fn payment(text: &[u8]) -> Option<(u8, u64)>
 /// Keeps a balance, and outputs it with the reading of the clock.
 fn keep<O: Oracle>(turn: &mut Turn<'_, O>, balance: u64, reading: u64) -> Result<(), AllocError>
     requires begun { IsSome (turning turn.old).heap.begun }
-    requires few { length (turning turn.old).outs + 1 < MAX_OUTPUTS }
     ensures ok { OnOk result (turning turn.new ≡ record (with_output (decimal reading) (with_output (decimal balance) (turning turn.old))) { heap = (turning turn.new).heap }) }
     ensures value { OnOk result ((turning turn.new).heap.value ≡ record (turning turn.old).heap.value { root = balance }) }
     ensures rest { turning turn.new ≡ record (turning turn.old) { heap = (turning turn.new).heap; outs = (turning turn.new).outs } }
@@ -40,7 +38,7 @@ fn keep<O: Oracle>(turn: &mut Turn<'_, O>, balance: u64, reading: u64) -> Result
     turn.output_number(reading)
 }
 
-impl App for Ledger {
+impl Service for Ledger {
     ghost handler = { λ _. ledger };
 
     #[tactic(auto, unfolding(crate::specs::Ledger::ledger_after))]

@@ -4,5 +4,5 @@
 mod laws;
 mod ledger;
 
-pub use laws::{ledger_keeps_limits, ledger_keeps_lines, no_payment_is_lost};
+pub use laws::no_payment_is_lost;
 pub use ledger::Ledger;

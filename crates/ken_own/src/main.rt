@@ -4,7 +4,7 @@
 
 use ken_drive::MemWorld;
 use ken_io::{StdSink, StdSource};
-use ken_ledger::{Ledger, ledger_keeps_limits, ledger_keeps_lines};
+use ken_ledger::Ledger;
 use ken_top::{Status, serve};
 use std::process::ExitCode;
 
@@ -12,9 +12,6 @@ fn main(rt: HostRuntime) -> ExitCode {
     let mut source = StdSource::new(rt.stdin());
     let mut sink = StdSink::new(rt.stdout());
     let mut world = MemWorld::new(rt.alloc());
-    // That nodes can have this handler, and that its report can be printed.
-    ledger_keeps_limits();
-    ledger_keeps_lines();
     let status = serve(&rt, rt.alloc(), Ledger, &mut source, &mut sink, &mut world);
     if status != Status::Settled {
         let _ = eprintln!(rt; "{status}");

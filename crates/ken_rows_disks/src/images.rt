@@ -57,11 +57,11 @@ impl Disks {
         }
         let mut image = Image::mount(disk, pages);
         let mut page = Frame::zeroed(self.alloc)?;
-        match image.load(place, &mut page) {
-            Ok(()) => answer.bytes(page.as_slice())?,
-            Err(fault) => self.tell(Err(fault), answer)?,
-        }
+        let loaded = image.load(place, &mut page);
         self.disk = Some(image.release());
-        Ok(())
+        match loaded {
+            Ok(()) => Ok(answer.bytes(page.as_slice())?),
+            Err(fault) => self.tell(Err(fault), answer),
+        }
     }
 }

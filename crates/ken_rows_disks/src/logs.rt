@@ -11,7 +11,7 @@ use ken_log::{Log, SealFault};
 use ken_memdisk::MemDisk;
 use ken_record::{Header, Item, ItemKind, MAX_FIELDS, Record, decode, decode_base, lengths};
 use ken_rows::{Answer, RowFault, Words};
-use std::alloc::Global;
+use std::alloc::{AllocError, Global};
 use std::mem;
 
 // A record, its length, its gate and the next gate end within the disk's limit from here on.
@@ -76,11 +76,11 @@ impl Disks {
         let Ok(base) = decode_base(self.alloc, len, &bytes) else {
             return Err(RowFault::Usage);
         };
-        let mut disk = self.disk.take().ok_or(RowFault::Usage)?;
         mem::swap(&mut self.disk, &mut self.other);
         let Some((mut log, _)) = self.found(1, answer)? else {
             return Ok(());
         };
+        let mut disk = self.other.take().ok_or(RowFault::Usage)?;
         let header = *log.header();
         if header.generation == u32::MAX || header.turns > MAX_END || log.records() > MAX_END {
             return Err(RowFault::Usage);
@@ -99,21 +99,33 @@ impl Disks {
         let Some((log, records)) = self.found(words.number()?, answer)? else {
             return Ok(());
         };
-        answer.named("generation", u64::from(log.header().generation))?;
-        answer.named("records", log.records())?;
-        answer.named("end", log.end())?;
-        if all {
-            show_header(log.header(), answer)?;
-            if let Some(base) = log.base() {
-                show_base(base, answer)?;
-            }
-            for record in &records {
-                show_record(record, answer)?;
-            }
-        }
+        let told = show_log(&log, &records, all, answer);
         self.disk = Some(log.release());
-        Ok(())
+        Ok(told?)
     }
+}
+
+// Where a log ends, and perhaps all that it has.
+fn show_log(
+    log: &Log<MemDisk>,
+    records: &[Record],
+    all: bool,
+    answer: &mut Answer,
+) -> Result<(), AllocError> {
+    answer.named("generation", u64::from(log.header().generation))?;
+    answer.named("records", log.records())?;
+    answer.named("end", log.end())?;
+    if !all {
+        return Ok(());
+    }
+    show_header(log.header(), answer)?;
+    if let Some(base) = log.base() {
+        show_base(base, answer)?;
+    }
+    for record in records {
+        show_record(record, answer)?;
+    }
+    Ok(())
 }
 
 // Seals a record so often, unless the disk fails, or has no room for more.

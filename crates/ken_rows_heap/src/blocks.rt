@@ -5,9 +5,9 @@ ghost use Rattle.ken_alloc.specs.Objects.{IsBlock};
 use crate::oracle::Fixed;
 use crate::row::{Answered, Row};
 use ken_alloc::Objects;
-use ken_app::{App, take_turn};
+use ken_app::{App, Limited, take_turn};
 use ken_apps::KindApp;
-use ken_counter::Counter;
+use ken_ledger::Ledger;
 use ken_model::{Kind, Message};
 use ken_pages::PageHeap;
 use ken_rows::RowFault;
@@ -95,11 +95,11 @@ impl Blocks {
         Ok(place)
     }
 
-    // KIND NODES NODE FROM TEXT: the kind is `counter`, or one of a script.
+    // KIND NODES NODE FROM TEXT: the kind is `ledger`, or one of a script. What was done so far is kept.
     fn turn(&mut self, row: &mut Row<'_, '_>) -> Answered {
         let name = row.words.word()?;
-        if name == b"counter".as_slice() {
-            return self.turn_of(&Counter, row);
+        if name == b"ledger".as_slice() {
+            return self.turn_of(&Limited { service: Ledger }, row);
         }
         self.turn_of(&KindApp(Kind::of(name).ok_or(RowFault::Usage)?), row)
     }
@@ -115,6 +115,8 @@ impl Blocks {
             stamp: 0,
             bytes: row.text()?,
         };
+        self.heap.commit();
+        self.heap.begin();
         let (heap, oracle) = (&mut self.heap, &mut self.oracle);
         let made = take_turn(row.alloc, app, node, nodes, &message, heap, oracle)?;
         row.answer.named("root", self.heap.root())?;

@@ -1,7 +1,7 @@
 // Calls of the program, and what they leave.
 use ken_drive::MemWorld;
 use ken_io::{MemSink, MemSource};
-use ken_ledger::{Ledger, ledger_keeps_limits, ledger_keeps_lines};
+use ken_ledger::Ledger;
 use ken_model::MAX_NODES;
 use ken_rows::{Answer, RowFault, Words};
 use ken_top::{Status, ken, serve};
@@ -44,8 +44,6 @@ pub(crate) fn make<R: Threads + Wait + Sync>(rt: &R, alloc: Global, asked: Asked
         mut sink,
     } = asked;
     let mut world = MemWorld::new(alloc);
-    ledger_keeps_limits();
-    ledger_keeps_lines();
     let status = match work {
         Work::Program(words) => ken(rt, alloc, &words, &mut source, &mut sink, &mut world),
         Work::Ledger => serve(rt, alloc, Ledger, &mut source, &mut sink, &mut world),

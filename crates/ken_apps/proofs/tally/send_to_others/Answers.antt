@@ -18,9 +18,8 @@ loop-to-preserved g c =
     elim c.if-to-node.branch [
       | then-to-node+in_ok-send_text w ↦ (let one : List Send = record { to = to; bytes = text } ∷ [] in
           let sent = w.in_ok-send_text.ensures in
-          let in_run : nat_lt to first.nodes ≡ true = lt-ltb to first.nodes (omega (arith, c.loop-to-test.true, c.nodes-to-end.ensures)) in
-          let added : turning w.send_text.new.self ≡ with_send to text (turning c.loop-to.turn) = sent.ok c.requires.short in
-          let now : turning w.send_text.new.self ≡ with (to_others first.node to text ++ one) = added ∙ ap (with_send to text) inv.so_far ∙ ap (λ b. with (to_others first.node to text ++ (if b then one else []))) in_run in
+          let added : turning w.send_text.new.self ≡ with_send to text (turning c.loop-to.turn) = sent.ok in
+          let now : turning w.send_text.new.self ≡ with (to_others first.node to text ++ one) = added ∙ ap (with_send to text) inv.so_far in
           let turn_is = w.turn-is in
           record {
             so_far = ap turning turn_is ∙ now ∙ ap with (sym (to_others-other first.node to text (λ same. w.if-to-node.true (same ∙ sym node))));

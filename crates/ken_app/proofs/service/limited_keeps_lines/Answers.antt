@@ -1,0 +1,5 @@
+use Rattle.ken_app.proofs.Within.{limited_keeps_lines}
+use Rattle.ken_app.proofs.service.limited_keeps_lines.Goals as goal
+
+pub returns : goal.returns
+returns c = limited_keeps_lines

@@ -1,3 +1,0 @@
-pub mod First
-pub mod Limits
-pub mod Within

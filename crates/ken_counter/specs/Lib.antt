@@ -1,3 +1,0 @@
-pub mod Counter
-pub mod First
-pub mod Laws
