@@ -1,11 +1,11 @@
 -- A turn of the heap that was just begun.
-use Rattle.std.proofs.Common.{◌≡◌, ℕ, List, [], Some, IsSome, IfSome, Option, refl, sym, subst}
+use Rattle.std.proofs.Common.{◌≡◌, ℕ, List, Some, IsSome, IfSome, Option, refl, sym, subst}
 use Rattle.ken_alloc.specs.Objects.{Heap}
 use Rattle.ken_model.specs.declared.messages.Message.{Message}
 use Rattle.ken_model.specs.Layout.{StandsFor}
 use Rattle.ken_model.specs.Reading.{value_of}
 use Rattle.ken_model.proofs.Unique.{value_of-unique}
-use Rattle.ken_app.specs.Turning.{Turning, IsFresh, IsPlaced, first_turning}
+use Rattle.ken_app.specs.Turning.{IsFresh, IsPlaced, first_turning}
 
 pub is_fresh : (node nodes : ℕ) (m : Message) (heap : Heap) → IsPlaced node nodes → StandsFor heap.bytes heap.value → heap.begun ≡ Some heap.bytes → IsFresh (first_turning node nodes m heap)
 is_fresh node nodes m heap placed stands begun = record {

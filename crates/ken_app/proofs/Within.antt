@@ -1,5 +1,5 @@
 -- What a limited handler comes to, and that it keeps the limits of a turn, and sends and outputs no line feed.
-use Rattle.std.proofs.Common.{◌≡◌, ℕ, ◌<◌, ◌≤◌, List, [], ◌∷◌, length, Bool, true, false, ◌==◌, ◌&&◌, not, nat_lt, nat_le, if◌then◌else◌, Option, Some, None, IfSome, ◌⊎◌, inl, inr, codes, refl, sym, subst, arith, ltb-true}
+use Rattle.std.proofs.Common.{◌≡◌, ℕ, ◌<◌, List, [], ◌∷◌, length, Bool, true, false, ◌==◌, ◌&&◌, not, nat_lt, nat_le, if◌then◌else◌, Option, Some, None, IfSome, ◌⊎◌, inl, inr, codes, refl, sym, subst, ltb-true}
 use Rattle.std.specs.List.{AllByRecursion, list_all}
 use Rattle.std.proofs.lemmas.Bool.{leb-true}
 use Rattle.ken_model.specs.declared.facts.TheConstants.{MAX_TEXT}

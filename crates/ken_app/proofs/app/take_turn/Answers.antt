@@ -1,4 +1,4 @@
-use Rattle.std.proofs.Common.{◌≡◌, ◌∙◌, sym, ap, subst}
+use Rattle.std.proofs.Common.{◌≡◌, sym, subst}
 use Rattle.ken_app.specs.Turning.{Turning, turning, IsFresh, first_turning}
 use Rattle.ken_app.proofs.Fresh.{is_fresh}
 use Rattle.ken_app.proofs.app.take_turn.Goals as goal
