@@ -1,6 +1,7 @@
 // Calls of the program, and what they leave.
 use ken_drive::MemWorld;
 use ken_io::{MemSink, MemSource};
+use ken_leases::Leases;
 use ken_ledger::Ledger;
 use ken_model::MAX_NODES;
 use ken_rows::{Answer, RowFault, Words};
@@ -15,8 +16,9 @@ use std::thread::Threads;
 pub(crate) enum Work {
     /// The program, with these words.
     Program(Vec<String>),
-    /// The ledger's service.
+    /// A service.
     Ledger,
+    Leases,
 }
 
 /// A call that is to be made, over a world in memory.
@@ -47,6 +49,7 @@ pub(crate) fn make<R: Threads + Wait + Sync>(rt: &R, alloc: Global, asked: Asked
     let status = match work {
         Work::Program(words) => ken(rt, alloc, &words, &mut source, &mut sink, &mut world),
         Work::Ledger => serve(rt, alloc, Ledger, &mut source, &mut sink, &mut world),
+        Work::Leases => serve(rt, alloc, Leases, &mut source, &mut sink, &mut world),
     };
     Ran {
         status,

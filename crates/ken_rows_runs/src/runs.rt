@@ -78,6 +78,7 @@ impl Runs {
             b"run" => self.call(&mut Words::new(command))?,
             b"right" => self.run_and_check()?,
             b"ledger" => self.make(Work::Ledger)?,
+            b"leases" => self.make(Work::Leases)?,
             _ => return Err(RowFault::Usage),
         };
         ran.tell(self.alloc, answer)?;

@@ -1,0 +1,6 @@
+pub mod Drawn
+pub mod Rewrites
+pub mod BytesRead
+pub mod Changes
+pub mod Decisions
+pub mod Terms

@@ -1,0 +1,3 @@
+pub mod Leases
+pub mod Found
+pub mod Laws
