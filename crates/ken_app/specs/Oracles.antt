@@ -7,11 +7,12 @@ pub record Origin : Type 0 where
   pub node : ℕ
   pub seed : ℕ
 
--- what oracles of a type tell: the readings and the words that one has answered, in order, and its origin. Where they
--- always tell, a world gives out none that doesn't tell its answers
+-- what oracles of a type tell: the readings and the words that one has answered, each in order, all its answers in order, and its origin.
+-- Where they always tell, a world gives out none that doesn't tell its readings and words
 pub record Telling (O : Type 0) : Type 0 where
   pub clocks : O → Option (List ℕ)
   pub words : O → Option (List ℕ)
+  pub answers : O → Option (List ℕ)
   pub origin : O → Option Origin
   pub always : Bool
 

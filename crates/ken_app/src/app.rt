@@ -25,6 +25,7 @@ pub trait App {
         ensures begun { (turning turn.new).heap.begun ≡ (turning turn.old).heap.begun }
         ensures clocks { OnOk result (Answers (O.telling.clocks (oracle_of turn.old)) (O.telling.clocks (oracle_of turn.new)) ((handler self.now).clocks (turning turn.new).draws)) }
         ensures words { OnOk result (Answers (O.telling.words (oracle_of turn.old)) (O.telling.words (oracle_of turn.new)) ((handler self.now).words (turning turn.new).draws)) }
+        ensures answers { OnOk result (Answers (O.telling.answers (oracle_of turn.old)) (O.telling.answers (oracle_of turn.new)) (turning turn.new).draws) }
         ensures clocks_go_on { HasAnswered (O.telling.clocks (oracle_of turn.old)) (O.telling.clocks (oracle_of turn.new)) }
         ensures words_go_on { HasAnswered (O.telling.words (oracle_of turn.old)) (O.telling.words (oracle_of turn.new)) }
         ensures origin { O.telling.origin (oracle_of turn.new) ≡ O.telling.origin (oracle_of turn.old) }
@@ -52,6 +53,7 @@ pub fn take_turn<A: App, O: Oracle>(
     ensures begun { objects.new.begun ≡ objects.old.begun }
     ensures clocks { IfOk result (λ made. Answers (O.telling.clocks oracle.old) (O.telling.clocks oracle.new) ((A.handler app.now).clocks made.draws.items)) }
     ensures words { IfOk result (λ made. Answers (O.telling.words oracle.old) (O.telling.words oracle.new) ((A.handler app.now).words made.draws.items)) }
+    ensures answers { IfOk result (λ made. Answers (O.telling.answers oracle.old) (O.telling.answers oracle.new) made.draws.items) }
     ensures clocks_go_on { HasAnswered (O.telling.clocks oracle.old) (O.telling.clocks oracle.new) }
     ensures words_go_on { HasAnswered (O.telling.words oracle.old) (O.telling.words oracle.new) }
     ensures origin { O.telling.origin oracle.new ≡ O.telling.origin oracle.old }
@@ -65,7 +67,7 @@ pub fn take_turn<A: App, O: Oracle>(
 }
 
 // What was drawn is words.
-fn are_words(draws: &[u64])
+pub(crate) fn are_words(draws: &[u64])
     ensures { AllByRecursion (λ d. d < 2 ^ 64) draws.now }
 {
     let _draws = draws;

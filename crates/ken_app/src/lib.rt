@@ -10,5 +10,5 @@ mod turn;
 pub use app::{App, take_turn};
 pub use faults::{NoDraw, OutputFault, SendFault};
 pub use oracle::Oracle;
-pub use service::{Limited, Service, limited_keeps_limits, limited_keeps_lines};
+pub use service::{Limited, Service, limited_keeps_limits, limited_keeps_lines, take_service_turn};
 pub use turn::{MAX_DRAWS, MAX_OUTPUTS, MAX_SENDS, Made, Turn};

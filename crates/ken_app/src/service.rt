@@ -1,15 +1,18 @@
 // A service of one's own, within the limits of a turn.
-ghost use Rattle.std.specs.Prelude.{◌≡◌, OnOk};
+ghost use Rattle.std.specs.Prelude.{◌≡◌, ◌<◌, ◌^◌, Some, OnOk, IfOk};
+ghost use Rattle.std.specs.List.{AllByRecursion};
 ghost use Rattle.ken_model.specs.Handler.{Handler};
 ghost use Rattle.ken_app.specs.Oracles.{Answers, HasAnswered};
-ghost use Rattle.ken_app.specs.Turning.{turning, oracle_of, IsOneTurn, IsFresh, IsHandled};
+ghost use Rattle.ken_app.specs.Turning.{turning, oracle_of, IsOneTurn, IsPlaced, IsFresh, IsHandled};
 ghost use Rattle.ken_app.specs.Limited.{limited};
 ghost use Rattle.ken_app.specs.Laws.{LimitedKeepsLimits, LimitedKeepsLines};
 
-use crate::app::App;
+use crate::app::{App, are_words};
 use crate::oracle::Oracle;
-use crate::turn::Turn;
-use std::alloc::AllocError;
+use crate::turn::{Made, Turn};
+use ken_alloc::Objects;
+use ken_model::Message;
+use std::alloc::{AllocError, Global};
 
 /// A service: what its author writes. `Limited` makes an application of it.
 pub trait Service {
@@ -24,6 +27,7 @@ pub trait Service {
         ensures begun { (turning turn.new).heap.begun ≡ (turning turn.old).heap.begun }
         ensures clocks { OnOk result (Answers (O.telling.clocks (oracle_of turn.old)) (O.telling.clocks (oracle_of turn.new)) ((handler self.now).clocks (turning turn.new).draws)) }
         ensures words { OnOk result (Answers (O.telling.words (oracle_of turn.old)) (O.telling.words (oracle_of turn.new)) ((handler self.now).words (turning turn.new).draws)) }
+        ensures answers { OnOk result (Answers (O.telling.answers (oracle_of turn.old)) (O.telling.answers (oracle_of turn.new)) (turning turn.new).draws) }
         ensures clocks_go_on { HasAnswered (O.telling.clocks (oracle_of turn.old)) (O.telling.clocks (oracle_of turn.new)) }
         ensures words_go_on { HasAnswered (O.telling.words (oracle_of turn.old)) (O.telling.words (oracle_of turn.new)) }
         ensures origin { O.telling.origin (oracle_of turn.new) ≡ O.telling.origin (oracle_of turn.old) }
@@ -41,13 +45,56 @@ impl<S: Service> App for Limited<S> {
     ghost handler = { λ app. limited (S.handler app.service) };
 
     fn on_message<O: Oracle>(&self, turn: &mut Turn<'_, O>) -> Result<(), AllocError> {
-        self.service.on_message(turn)?;
-        if turn.fits() {
-            return Ok(());
-        }
-        turn.take_back();
-        turn.output_text(b"beyond the limits")
+        judged(&self.service, turn)
     }
+}
+
+// Makes a turn of a service, and takes back one that is beyond the limits.
+fn judged<S: Service, O: Oracle>(service: &S, turn: &mut Turn<'_, O>) -> Result<(), AllocError>
+    requires { IsFresh (turning turn.old) }
+    ensures handled { OnOk result (IsHandled (limited (S.handler service.now)) (turning turn.old) (turning turn.new)) }
+    ensures begun { (turning turn.new).heap.begun ≡ (turning turn.old).heap.begun }
+    ensures clocks { OnOk result (Answers (O.telling.clocks (oracle_of turn.old)) (O.telling.clocks (oracle_of turn.new)) ((S.handler service.now).clocks (turning turn.new).draws)) }
+    ensures words { OnOk result (Answers (O.telling.words (oracle_of turn.old)) (O.telling.words (oracle_of turn.new)) ((S.handler service.now).words (turning turn.new).draws)) }
+    ensures answers { OnOk result (Answers (O.telling.answers (oracle_of turn.old)) (O.telling.answers (oracle_of turn.new)) (turning turn.new).draws) }
+    ensures clocks_go_on { HasAnswered (O.telling.clocks (oracle_of turn.old)) (O.telling.clocks (oracle_of turn.new)) }
+    ensures words_go_on { HasAnswered (O.telling.words (oracle_of turn.old)) (O.telling.words (oracle_of turn.new)) }
+    ensures origin { O.telling.origin (oracle_of turn.new) ≡ O.telling.origin (oracle_of turn.old) }
+    ensures same { IsOneTurn turn.old turn.new }
+{
+    service.on_message(turn)?;
+    if turn.fits() {
+        return Ok(());
+    }
+    turn.take_back();
+    turn.output_text(b"beyond the limits")
+}
+
+/// Makes a turn of a service within the limits, as `take_turn` makes one of `Limited`: what comes of a message of any length is said
+/// without a premise.
+pub fn take_service_turn<S: Service, O: Oracle>(
+    alloc: Global,
+    service: &S,
+    node: u8,
+    nodes: u8,
+    message: &Message,
+    objects: &mut Objects,
+    oracle: &mut O,
+) -> Result<Made, AllocError>
+    requires placed { IsPlaced node nodes }
+    requires begun { objects.old.begun ≡ Some objects.old.bytes }
+    ensures handled { IfOk result (λ made. (limited (S.handler service.now)).after node nodes objects.old.value message.now made.draws.items
+        ≡ Some (record { value = objects.new.value; sends = made.sends.items; outs = made.outs.items })) }
+    ensures drawn { IfOk result (λ made. AllByRecursion (λ d. d < 2 ^ 64) made.draws.items) }
+    ensures begun { objects.new.begun ≡ objects.old.begun }
+    ensures answers { IfOk result (λ made. Answers (O.telling.answers oracle.old) (O.telling.answers oracle.new) made.draws.items) }
+{
+    objects.stands();
+    let mut made = Made::new(alloc);
+    let mut turn = Turn::new(node, nodes, message, objects, oracle, &mut made);
+    judged(service, &mut turn)?;
+    are_words(made.draws.as_slice());
+    Ok(made)
 }
 
 /// A limited handler keeps the limits of a turn, whatever it comes to: so nodes can run it.

@@ -254,6 +254,7 @@ impl<'a, O: Oracle> Turn<'a, O> {
         ensures ok { IfOk result (λ reading. turning self.new ≡ record (turning self.old) { draws = (turning self.old).draws ++ reading ∷ [] }) }
         ensures clocks { IfOk result (λ reading. Answers (O.telling.clocks (oracle_of self.old)) (O.telling.clocks (oracle_of self.new)) (reading ∷ [])) }
         ensures words { O.telling.words (oracle_of self.new) ≡ O.telling.words (oracle_of self.old) }
+        ensures answers { IfOk result (λ reading. Answers (O.telling.answers (oracle_of self.old)) (O.telling.answers (oracle_of self.new)) (reading ∷ [])) }
         ensures origin { O.telling.origin (oracle_of self.new) ≡ O.telling.origin (oracle_of self.old) }
         ensures err { OnErr result ((turning self.new ≡ turning self.old) × (oracle_of self.new ≡ oracle_of self.old)) }
         ensures no_draw { IsErr result ↔ (MAX_DRAWS ≤ length (turning self.old).draws) }
@@ -272,6 +273,7 @@ impl<'a, O: Oracle> Turn<'a, O> {
         ensures ok { IfOk result (λ word. turning self.new ≡ record (turning self.old) { draws = (turning self.old).draws ++ word ∷ [] }) }
         ensures words { IfOk result (λ word. Answers (O.telling.words (oracle_of self.old)) (O.telling.words (oracle_of self.new)) (word ∷ [])) }
         ensures clocks { O.telling.clocks (oracle_of self.new) ≡ O.telling.clocks (oracle_of self.old) }
+        ensures answers { IfOk result (λ word. Answers (O.telling.answers (oracle_of self.old)) (O.telling.answers (oracle_of self.new)) (word ∷ [])) }
         ensures origin { O.telling.origin (oracle_of self.new) ≡ O.telling.origin (oracle_of self.old) }
         ensures err { OnErr result ((turning self.new ≡ turning self.old) × (oracle_of self.new ≡ oracle_of self.old)) }
         ensures no_draw { IsErr result ↔ (MAX_DRAWS ≤ length (turning self.old).draws) }

@@ -16,6 +16,7 @@ use std::alloc::AllocError;
 pub(crate) fn on_message<O: Oracle>(turn: &mut Turn<'_, O>) -> Result<(), AllocError>
     requires { IsFresh (turning turn.old) }
     ensures handled { OnOk result (IsHandled (handler_of Tally) (turning turn.old) (turning turn.new)) }
+    ensures undrawn { OnOk result ((turning turn.new).draws ≡ (turning turn.old).draws) }
     ensures oracle { oracle_of turn.new ≡ oracle_of turn.old }
     ensures begun { (turning turn.new).heap.begun ≡ (turning turn.old).heap.begun }
     ensures same { IsOneTurn turn.old turn.new }

@@ -5,10 +5,7 @@ use Rattle.std.proofs.Math.Nat.{mul-le-mul}
 use Rattle.std.proofs.lemmas.List.Elements.{All-from_get_or}
 use Rattle.std.proofs.lemmas.List.FromFn.{length-range_with_len}
 use Rattle.std.proofs.lemmas.List.Sums.{sum_by-le}
-use Rattle.ken_model.specs.declared.messages.Done.{Done}
 use Rattle.ken_model.specs.declared.messages.Step.{Step}
-use Rattle.ken_model.specs.Actors.{IsStep, Playing}
-use Rattle.ken_model.specs.Held.{playing_of}
 use Rattle.ken_model.specs.Ending.{nodes_of}
 use Rattle.ken_model.specs.Game.{Game}
 use Rattle.ken_model.specs.Network.{Network, Place, Turn, applied, place_after, start}
@@ -17,7 +14,7 @@ use Rattle.ken_check.specs.declared.known.Known.{Known}
 use Rattle.ken_check.specs.Counts.{HaveRoom, MayTurn}
 use Rattle.ken_check.specs.Knowing.{IsLegalTo, Knows}
 use Rattle.ken_check.specs.Right.{Told}
-use Rattle.ken_check.proofs.Turning.{sends_few, sum_in, sum_none, sum_two, turn_opened}
+use Rattle.ken_check.proofs.Turning.{sum_in, sum_none, sum_two, turn_opened}
 
 -- no node made more turns than it may
 abbrev HaveTurnsLeft : Game → Network → Type 0
@@ -53,7 +50,7 @@ module _ (g : Game) (most : ℕ) (c : Checker) (told : Told) (knows : Knows g mo
       omega (arith, all, most_turns)
 
   -- what came for each node, and a few more
-  pub room_for : (more : ℕ) → more ≤ 8 → HaveRoom more c.nodes.items
+  pub room_for : (more : ℕ) → more < 2 ^ 32 → HaveRoom more c.nodes.items
   room_for more few v known none = omega (arith, (knows.each v (omega (arith, known, knows.width)) none).few, few_turns, few)
 
   pub may_turn : MayTurn c.nodes.items
@@ -62,9 +59,5 @@ module _ (g : Game) (most : ℕ) (c : Checker) (told : Told) (knows : Knows g mo
   -- what waits
   pub few_wait : sum_by (λ (k : Known). k.came - k.turns) c.nodes.items < 2 ^ 64
   few_wait =
-      let each : All (λ (k : Known). k.came - k.turns ≤ 6410000) c.nodes.items = λ v none known. (let k = knows.each v (omega (arith, known, knows.width)) none in omega (arith, k.few, few_turns)) in
-      omega (arith, sum_by-le (λ (k : Known). k.came - k.turns) 6410000 c.nodes.items each, knows.width, knows.limits.few_nodes)
-
-  -- what a turn sends
-  pub sends_room : (s : Step) (now : Playing) (done : Done) → IsStep (playing_of c.actors) now s done → HaveRoom (length done.sends) c.nodes.items
-  sends_room s now done made = room_for (length done.sends) (omega (arith, sends_few g most c told s now done knows made, knows.limits.few_nodes))
+      let each : All (λ (k : Known). k.came - k.turns ≤ 3435973836810000) c.nodes.items = λ v none known. (let k = knows.each v (omega (arith, known, knows.width)) none in omega (arith, k.few, few_turns)) in
+      omega (arith, sum_by-le (λ (k : Known). k.came - k.turns) 3435973836810000 c.nodes.items each, knows.width, knows.limits.few_nodes)

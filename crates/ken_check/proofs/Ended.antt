@@ -14,9 +14,8 @@ use Rattle.ken_model.specs.Network.{Network, outputs_from, outside}
 use Rattle.ken_model.specs.Schedule.{play}
 use Rattle.ken_check.specs.declared.known.Known.{Known}
 use Rattle.ken_check.specs.Endings.{EndsBy, IsDone}
-use Rattle.ken_check.specs.Knowing.{KnowsNode}
+use Rattle.ken_check.specs.Knowing.{HasOnlyNodes, KnowsNode}
 use Rattle.ken_check.specs.Right.{Told}
-use Rattle.ken_check.proofs.Beyond.{HasOnlyNodes}
 
 length-outputs_from : (n : ℕ) (xs : List (List ℕ)) → length (outputs_from n xs) ≡ length xs
 unfolding outputs_from

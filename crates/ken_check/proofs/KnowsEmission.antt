@@ -152,12 +152,11 @@ module _ (g : Game) (most : ℕ) (c : Checker) (told : Told) (knows : Knows g mo
           record {
             game = knows.game;
             limits = knows.limits;
-            facts = knows.facts;
             limit = knows.limit;
-            alike = knows.alike;
             width = length-set c.nodes.items i kept2 ∙ knows.width;
             each = known_with g most c told knows told2 e.node i kept2 place own others;
             turns = knows.turns;
+            only = knows.only;
             legal = knows.legal;
             no_emission = (λ is. absurd cc, λ is. absurd (some_more told.emissions e is));
             emitter = sym (last_emitter-more 0 told.emissions e);

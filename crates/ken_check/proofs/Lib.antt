@@ -5,7 +5,6 @@ mod Schedules
 mod Fronts
 pub mod Reports
 mod Runs
-mod Sends
 pub mod Wording
 pub mod Pieces
 pub mod Naming

@@ -8,14 +8,15 @@ use Rattle.std.proofs.lemmas.List.Splits.{slice_split_none}
 use Rattle.std.proofs.lemmas.List.Elements.{All-from_recursion}
 use Rattle.ken_model.specs.declared.reports.Ending.TheVariants.{Settled, Cut}
 use Rattle.ken_model.specs.Game.{Game}
+use Rattle.ken_model.specs.Handler.{Handler}
 use Rattle.ken_model.specs.Report.{line}
 use Rattle.ken_model.specs.Spelling.{parts_at}
 use Rattle.ken_model.proofs.Parts.{IsFree, parts_at-append}
-use Rattle.ken_check.specs.declared.checker.Checker.{Checker}
+use Rattle.ken_check.specs.declared.reader.Reader.{Reader}
 use Rattle.ken_check.specs.Kinds.{IsEmissionLine, IsEndLine, IsHeapLine, IsRestartLine, IsTurnLine}
-use Rattle.ken_check.specs.Knowing.{IsHeard}
+use Rattle.ken_check.specs.Knowing.{IsAnswered, IsHeard}
 use Rattle.ken_check.specs.Right.{IsRightLine, Told}
-use Rattle.ken_check.proofs.Hearing.{heard_as}
+use Rattle.ken_check.proofs.Hearing.{answered_as, answered_beside}
 
 -- the text of a line of words
 pub text_of_line : (text : List ℕ) (words : List (List ℕ)) → text ++ 10 ∷ [] ≡ line words → text ≡ join_with_byte 32 words
@@ -110,21 +111,21 @@ heap_is_right g most told bytes told2 l = as_right l.text l.tells (IsRightLine.h
 end_is_right : (g : Game) (most : ℕ) (told : Told) (bytes : List ℕ) (told2 : Told) → IsEndLine g told bytes told2 → IsRightLine g most told bytes told2
 end_is_right g most told bytes told2 l = as_right l.text l.tells (IsRightLine.ends l.ending l.comes l.heaps l.ends)
 
-module _ (g : Game) (most : ℕ) (old new : Checker) (text : List ℕ) (r : Result Bool AllocError) where
-  pub heard_turn : slice_get (parts_at 32 text) 0 ≡ Some (codes "turn") → IsHeard g most (IsTurnLine g) old new text r → IsHeard g most (IsRightLine g most) old new text r
-  heard_turn word = heard_as g most (IsTurnLine g) (IsRightLine g most) old new text r (λ told told2 l. turn_is_right g most told _ told2 l) (λ told told2 knows l. turn_named word (named g most told text _ told2 refl l))
+module _ {A H : Type 0} (h : A → Handler) (g : Game) (most : ℕ) (old new : Reader A H) (text : List ℕ) (r : Result Bool AllocError) where
+  pub heard_turn : slice_get (parts_at 32 text) 0 ≡ Some (codes "turn") → IsAnswered h g most (IsTurnLine g) old new text r → IsAnswered h g most (IsRightLine g most) old new text r
+  heard_turn word = answered_as h g most (IsTurnLine g) (IsRightLine g most) old new text r (λ told told2 l. turn_is_right g most told _ told2 l) (λ told told2 follows l. turn_named word (named g most told text _ told2 refl l))
 
-  pub heard_emission : slice_get (parts_at 32 text) 0 ≡ Some (codes "emit") → IsHeard g most (IsEmissionLine g) old new text r → IsHeard g most (IsRightLine g most) old new text r
-  heard_emission word = heard_as g most (IsEmissionLine g) (IsRightLine g most) old new text r (λ told told2 l. emission_is_right g most told _ told2 l) (λ told told2 knows l. emission_named word (named g most told text _ told2 refl l))
+  pub heard_emission : slice_get (parts_at 32 text) 0 ≡ Some (codes "emit") → new.actors ≡ old.actors → IsHeard g most (IsEmissionLine g) old.checker new.checker text r → IsAnswered h g most (IsRightLine g most) old new text r
+  heard_emission word same = answered_beside h g most (IsEmissionLine g) (IsRightLine g most) old new text r same (λ told told2 l. (emission_is_right g most told _ told2 l, ap (λ (t : Told). t.schedule) l.tells)) (λ told told2 l. emission_named word (named g most told text _ told2 refl l))
 
-  pub heard_restart : slice_get (parts_at 32 text) 0 ≡ Some (codes "restart") → IsHeard g most (IsRestartLine g most) old new text r → IsHeard g most (IsRightLine g most) old new text r
-  heard_restart word = heard_as g most (IsRestartLine g most) (IsRightLine g most) old new text r (λ told told2 l. restart_is_right g most told _ told2 l) (λ told told2 knows l. restart_named word (named g most told text _ told2 refl l))
+  pub heard_restart : slice_get (parts_at 32 text) 0 ≡ Some (codes "restart") → new.actors ≡ old.actors → IsHeard g most (IsRestartLine g most) old.checker new.checker text r → IsAnswered h g most (IsRightLine g most) old new text r
+  heard_restart word same = answered_beside h g most (IsRestartLine g most) (IsRightLine g most) old new text r same (λ told told2 l. (restart_is_right g most told _ told2 l, ap (λ (t : Told). t.schedule) l.tells)) (λ told told2 l. restart_named word (named g most told text _ told2 refl l))
 
-  pub heard_heap : slice_get (parts_at 32 text) 0 ≡ Some (codes "heap") → IsHeard g most (IsHeapLine g) old new text r → IsHeard g most (IsRightLine g most) old new text r
-  heard_heap word = heard_as g most (IsHeapLine g) (IsRightLine g most) old new text r (λ told told2 l. heap_is_right g most told _ told2 l) (λ told told2 knows l. heap_named word (named g most told text _ told2 refl l))
+  pub heard_heap : slice_get (parts_at 32 text) 0 ≡ Some (codes "heap") → IsAnswered h g most (IsHeapLine g) old new text r → IsAnswered h g most (IsRightLine g most) old new text r
+  heard_heap word = answered_as h g most (IsHeapLine g) (IsRightLine g most) old new text r (λ told told2 l. heap_is_right g most told _ told2 l) (λ told told2 follows l. heap_named word (named g most told text _ told2 refl l))
 
-  pub heard_end : slice_get (parts_at 32 text) 0 ≡ Some (codes "end") → IsHeard g most (IsEndLine g) old new text r → IsHeard g most (IsRightLine g most) old new text r
-  heard_end word = heard_as g most (IsEndLine g) (IsRightLine g most) old new text r (λ told told2 l. end_is_right g most told _ told2 l) (λ told told2 knows l. end_named word (named g most told text _ told2 refl l))
+  pub heard_end : slice_get (parts_at 32 text) 0 ≡ Some (codes "end") → new.actors ≡ old.actors → IsHeard g most (IsEndLine g) old.checker new.checker text r → IsAnswered h g most (IsRightLine g most) old new text r
+  heard_end word same = answered_beside h g most (IsEndLine g) (IsRightLine g most) old new text r same (λ told told2 l. (end_is_right g most told _ told2 l, ap (λ (t : Told). t.schedule) l.tells)) (λ told told2 l. end_named word (named g most told text _ told2 refl l))
 
 -- a line of no kind isn't right
 no_named : {g : Game} {most : ℕ} {told : Told} {text : List ℕ} {told2 : Told} → (slice_get (parts_at 32 text) 0 ≡ Some (codes "turn") → ⊥) → (slice_get (parts_at 32 text) 0 ≡ Some (codes "emit") → ⊥) → (slice_get (parts_at 32 text) 0 ≡ Some (codes "restart") → ⊥) → (slice_get (parts_at 32 text) 0 ≡ Some (codes "heap") → ⊥) → (slice_get (parts_at 32 text) 0 ≡ Some (codes "end") → ⊥) → IsNamed g most told text told2 → ⊥
@@ -134,8 +135,8 @@ no_named t e r h n (IsNamed.of_restart w l) = r w
 no_named t e r h n (IsNamed.of_heap w l) = h w
 no_named t e r h n (IsNamed.of_end w l) = n w
 
-pub heard_none : (g : Game) (most : ℕ) (old new : Checker) (text : List ℕ) → (slice_get (parts_at 32 text) 0 ≡ Some (codes "turn") → ⊥) → (slice_get (parts_at 32 text) 0 ≡ Some (codes "emit") → ⊥) → (slice_get (parts_at 32 text) 0 ≡ Some (codes "restart") → ⊥) → (slice_get (parts_at 32 text) 0 ≡ Some (codes "heap") → ⊥) → (slice_get (parts_at 32 text) 0 ≡ Some (codes "end") → ⊥) → IsHeard g most (IsRightLine g most) old new text (Ok false)
-heard_none g most old new text t e r h n = λ told knows told2 l. no_named t e r h n (named g most told text _ told2 refl l)
+pub heard_none : {A H : Type 0} (h : A → Handler) (g : Game) (most : ℕ) (old new : Reader A H) (text : List ℕ) → (slice_get (parts_at 32 text) 0 ≡ Some (codes "turn") → ⊥) → (slice_get (parts_at 32 text) 0 ≡ Some (codes "emit") → ⊥) → (slice_get (parts_at 32 text) 0 ≡ Some (codes "restart") → ⊥) → (slice_get (parts_at 32 text) 0 ≡ Some (codes "heap") → ⊥) → (slice_get (parts_at 32 text) 0 ≡ Some (codes "end") → ⊥) → IsAnswered h g most (IsRightLine g most) old new text (Ok false)
+heard_none h g most old new text t e r hp n = λ decided told follows told2 l. no_named t e r hp n (named g most told text _ told2 refl l)
 
 -- a word that was tested, where it is that one and where it isn't
 pub tested_word : (o : Option (List ℕ)) (w out word : List ℕ) (b : Bool) → Some w ≡ o → out ≡ word → b ≡ bytes_eq w out → b ≡ true → o ≡ Some word
@@ -147,5 +148,5 @@ other_tested o w out word b at is test denies also =
     let differ : true ≡ false = sym ((bytes_eq-Decides w out).1 (same ∙ sym is)) ∙ sym test ∙ denies in
     absurd cc
 
-pub none_heard : (g : Game) (most : ℕ) (old new : Checker) (text : List ℕ) → None ≡ slice_get (parts_at 32 text) 0 → IsHeard g most (IsRightLine g most) old new text (Ok false)
-none_heard g most old new text none = heard_none g most old new text (λ w. absurd cc) (λ w. absurd cc) (λ w. absurd cc) (λ w. absurd cc) (λ w. absurd cc)
+pub none_heard : {A H : Type 0} (h : A → Handler) (g : Game) (most : ℕ) (old new : Reader A H) (text : List ℕ) → None ≡ slice_get (parts_at 32 text) 0 → IsAnswered h g most (IsRightLine g most) old new text (Ok false)
+none_heard h g most old new text none = heard_none h g most old new text (λ w. absurd cc) (λ w. absurd cc) (λ w. absurd cc) (λ w. absurd cc) (λ w. absurd cc)

@@ -4,6 +4,7 @@ use Rattle.std.specs.declared.alloc.AllocError.{AllocError}
 use Rattle.ken_model.specs.declared.messages.Step.{Step}
 use Rattle.ken_model.specs.declared.reports.TurnLine.{TurnLine}
 use Rattle.ken_model.specs.Game.{Game}
+use Rattle.ken_model.specs.Handler.{Handler}
 use Rattle.ken_model.specs.Network.{outside, start}
 use Rattle.ken_model.specs.Report.{line, turn_words}
 use Rattle.ken_model.specs.Schedule.{play, turn_line}
@@ -11,8 +12,9 @@ use Rattle.ken_model.specs.Spelling.{IsPrintableTurn, parts_at}
 use Rattle.ken_model.proofs.Parts.{parts_at-join_with_byte}
 use Rattle.ken_model.proofs.WordsFree.{each_free, ink_turn_words}
 use Rattle.ken_check.specs.declared.checker.Checker.{Checker}
+use Rattle.ken_check.specs.declared.reader.Reader.{Reader}
 use Rattle.ken_check.specs.Kinds.{IsTurnLine, IsTurnOf}
-use Rattle.ken_check.specs.Knowing.{IsHeard, Knows}
+use Rattle.ken_check.specs.Knowing.{IsAnswered, Knows}
 use Rattle.ken_check.specs.Right.{Told}
 use Rattle.ken_check.specs.Words.{HasStepWords}
 use Rattle.ken_check.proofs.Naming.{text_of_line}
@@ -39,14 +41,14 @@ step_words g most c told text told2 knows l =
     }
 
 -- an answer about lines of the step that was read is one about turn lines
-pub heard_step : (g : Game) (most : ℕ) (old new : Checker) (text : List ℕ) (s : Step) (r : Result Bool AllocError) → ((x : Step) → HasStepWords text x → Some s ≡ Some x) → IsHeard g most (IsTurnOf g s) old new text r → IsHeard g most (IsTurnLine g) old new text r
-heard_step g most old new text s (Ok true) read heard = λ told knows. (let h = heard told knows in (h.0, h.1.0, h.2))
-heard_step g most old new text s (Ok false) read heard = λ told knows told2 l.
-    let same : Some s ≡ Some l.step = read l.step (step_words g most old told text told2 knows l) in
+pub heard_step : {A H : Type 0} (h : A → Handler) (g : Game) (most : ℕ) (old new : Reader A H) (text : List ℕ) (s : Step) (r : Result Bool AllocError) → ((x : Step) → HasStepWords text x → Some s ≡ Some x) → IsAnswered h g most (IsTurnOf g s) old new text r → IsAnswered h g most (IsTurnLine g) old new text r
+heard_step h g most old new text s (Ok true) read heard = λ told follows. (let next = heard told follows in (next.0, next.1.0, next.2))
+heard_step h g most old new text s (Ok false) read heard = λ decided told follows told2 l.
+    let same : Some s ≡ Some l.step = read l.step (step_words g most old.checker told text told2 follows.knows l) in
     let is : l.step ≡ s = cc in
-    heard told knows told2 (l, is)
-heard_step g most old new text s (Err e) read heard = tt
+    heard decided told follows told2 (l, is)
+heard_step h g most old new text s (Err e) read heard = tt
 
 -- where none was read no turn line is right
-pub heard_no_step : (g : Game) (most : ℕ) (old new : Checker) (text : List ℕ) (none : Option Step) → none ≡ None → ((x : Step) → HasStepWords text x → none ≡ Some x) → IsHeard g most (IsTurnLine g) old new text (Ok false)
-heard_no_step g most old new text none is read = λ told knows told2 l. (let some : none ≡ Some l.step = read l.step (step_words g most old told text told2 knows l) in absurd cc)
+pub heard_no_step : {A H : Type 0} (h : A → Handler) (g : Game) (most : ℕ) (old new : Reader A H) (text : List ℕ) (none : Option Step) → none ≡ None → ((x : Step) → HasStepWords text x → none ≡ Some x) → IsAnswered h g most (IsTurnLine g) old new text (Ok false)
+heard_no_step h g most old new text none is read = λ decided told follows told2 l. (let some : none ≡ Some l.step = read l.step (step_words g most old.checker told text told2 follows.knows l) in absurd cc)

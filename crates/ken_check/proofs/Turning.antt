@@ -6,7 +6,7 @@ use Rattle.ken_model.specs.declared.reports.RestartLine.{RestartLine}
 use Rattle.ken_model.specs.Emissions.{AreByNode, AreEmitted}
 use Rattle.ken_model.specs.Ending.{nodes_of, waiting_on}
 use Rattle.ken_model.specs.Restarts.{AreRestartsByNode}
-use Rattle.ken_model.specs.declared.facts.TheConstants.{MAX_INPUTS, MAX_NODES}
+use Rattle.ken_model.specs.declared.facts.TheConstants.{MAX_INPUTS}
 use Rattle.ken_model.specs.declared.messages.Done.{Done}
 use Rattle.ken_model.specs.declared.messages.Message.{Message}
 use Rattle.std.specs.List.{AllByRecursion}
@@ -18,21 +18,25 @@ use Rattle.ken_model.specs.Spelling.{IsWord}
 use Rattle.ken_model.specs.declared.messages.Out.{Out}
 use Rattle.ken_model.specs.declared.messages.Send.{Send}
 use Rattle.ken_model.specs.declared.messages.Step.{Step}
-use Rattle.ken_model.specs.Actors.{AreAlike, HasNoMessage, HasWrongDraws, IsCapped, IsStep, Playing, posted_after}
-use Rattle.ken_model.specs.Game.{Game, game_of}
-use Rattle.ken_model.specs.Held.{playing_of}
+use Rattle.ken_actors.specs.Actors.{AreAlike, HasNoMessage, HasWrongDraws, IsCapped, IsStep}
+use Rattle.ken_actors.specs.Decided.{IsDecided}
+use Rattle.ken_actors.specs.Playing.{Playing, game_for}
+use Rattle.ken_model.specs.Game.{Game}
+use Rattle.ken_model.specs.Handler.{Handler}
+use Rattle.ken_model.specs.Posted.{posted_after}
 use Rattle.ken_model.specs.Network.{Link, Network, Place, Turn, applied, applied_or_same, are_words, front, handled, link_after, numbered, outputs_from, outside, place_after, start, stepped, turn_at, turn_of}
 use Rattle.ken_model.specs.Schedule.{ComesBefore, IsLegalFrom, play, played}
-use Rattle.ken_model.specs.declared.faults.StepFault.{StepFault}
-use Rattle.ken_model.specs.declared.faults.StepFault.TheVariants.{Capped, Draws, Memory, NoMessage}
+use Rattle.ken_actors.specs.declared.faults.StepFault.{StepFault}
+use Rattle.ken_actors.specs.declared.faults.StepFault.TheVariants.{Capped, Draws, Memory, NoMessage}
 use Rattle.ken_model.specs.Effects.{Effect}
 use Rattle.ken_check.specs.declared.checker.Checker.{Checker}
 use Rattle.ken_check.specs.declared.known.Known.{Known}
 use Rattle.ken_check.specs.Counts.{HaveTurned}
 use Rattle.ken_check.specs.Kinds.{IsTurnOf}
-use Rattle.ken_check.specs.Knowing.{IsHeard, IsLegalTo, Knows, KnowsNode}
+use Rattle.ken_check.specs.declared.reader.Reader.{Reader}
+use Rattle.ken_check.specs.Knowing.{Follows, HasOnlyNodes, IsAnswered, IsLegalTo, Knows, KnowsNode}
 use Rattle.ken_check.specs.Right.{AreEmissionsSoFar, AreRestartsSoFar, Told}
-use Rattle.ken_check.proofs.Sends.{few_sends, length_posted, no_turn}
+use Rattle.ken_check.proofs.Beyond.{AreKnown, known_sent, only_after_step}
 
 -- a step that is defined
 pub stepped_is : (g : Game) (w : Network) (s : Step) (t : Turn) → turn_of g w s ≡ Some t → stepped g w s ≡ applied w s t
@@ -98,17 +102,15 @@ opened false f o y e = absurd cc
 pub turn_opened : (g : Game) (w : Network) (s : Step) (t : Turn) → turn_of g w s ≡ Some t → ((w.place s.node).turns < g.turns) × ((m : Message) × (front (w.link s.from s.node) ≡ Some m))
 turn_opened g w s t made = let o = opened (nat_lt (w.place s.node).turns g.turns) (turn_at g s.node (w.place s.node) s.draws) (front (w.link s.from s.node)) t made in (ltb-true (w.place s.node).turns g.turns o.0, o.1)
 
--- the actors' turn of a step is that of the schedule
-pub same_turn : (g : Game) (most : ℕ) (c : Checker) (told : Told) (s : Step) → Knows g most c told → turn_of (playing_of c.actors).game (playing_of c.actors).network s ≡ turn_of g (play g told.schedule) s
-same_turn g most c told s knows =
-    let game : game_of c.actors.facts ≡ g = ap game_of knows.facts ∙ knows.game in
-    ap (λ (h : Game). turn_of h (playing_of c.actors).network s) game ∙ alike_turn g (playing_of c.actors).network (play g told.schedule) s knows.alike
+-- a step that is defined took a message
+no_turn : (b : Bool) (f : Message → Option Turn) (o : Option Message) (t : Turn) → (if b then option_and_then f o else None) ≡ Some t → (m : Message) × (o ≡ Some m) × (f m ≡ Some t)
+no_turn true f (Some m) t e = (m, refl, e)
+no_turn true f None t e = absurd cc
+no_turn false f o t e = absurd cc
 
--- it sends at most one message to each node
-pub sends_few : (g : Game) (most : ℕ) (c : Checker) (told : Told) (s : Step) (now : Playing) (done : Done) → Knows g most c told → IsStep (playing_of c.actors) now s done → length done.sends ≤ g.nodes
-sends_few g most c told s now done knows made =
-    let is : turn_of g (play g told.schedule) s ≡ Some made.turn = sym (same_turn g most c told s knows) ∙ made.defined in
-    omega (arith, ap length made.sends, length_posted s.node made.turn.stamp (λ (w : ℕ). length ((playing_of c.actors).network.link s.node w).sent) made.turn.effect.sends, few_sends c.facts.now g (play g told.schedule) s made.turn knows.game knows.limits.some_node is)
+-- the actors' turn of a step is that of the schedule
+pub same_turn : (g : Game) (p : Playing) (w : Network) (s : Step) → p.game ≡ g → AreAlike p.network w → turn_of p.game p.network s ≡ turn_of g w s
+same_turn g p w s game alike = ap (λ (h : Game). turn_of h p.network s) game ∙ alike_turn g p.network w s alike
 
 -- a right turn line of a step, and what it says of the step
 pub record IsNext (g : Game) (c : Checker) (told : Told) (s : Step) (t : Turn) : Type 0 where
@@ -133,7 +135,7 @@ by_effect : (o : Option Effect) (f : Effect → Turn) (t : Turn) → o ≡ None 
 by_effect None f t none e = absurd cc
 by_effect (Some x) f t none e = absurd cc
 
-pub refused_turn : (p : Playing) (s : Step) (t : Turn) (r : Result Done StepFault) (fault : StepFault) → r ≡ Err fault → fault ≢ Memory → (IsErrOf r Capped ↔ IsCapped p s) → (IsErrOf r NoMessage ↔ HasNoMessage p s) → (IsErrOf r Draws ↔ HasWrongDraws p s) → turn_of p.game p.network s ≡ Some t → ⊥
+pub refused_turn : (p : Playing) (s : Step) (t : Turn) (r : Result Done StepFault) (fault : StepFault) → r ≡ Err fault → fault ≢ Memory → (IsErrOf r Capped ↔ IsCapped p s) → (IsErrOf r NoMessage ↔ HasNoMessage p s) → (IsErrOf r Draws → HasWrongDraws p s) → turn_of p.game p.network s ≡ Some t → ⊥
 unfolding turn_at
 refused_turn p s t r Capped is other capped no_message draws made =
     let past = capped.0 (subst (λ (x : Result Done StepFault). IsErrOf x Capped) (sym is) refl) in
@@ -144,7 +146,7 @@ refused_turn p s t r NoMessage is other capped no_message draws made =
     let some = (turn_opened p.game p.network s t made).1.1 in
     absurd cc
 refused_turn p s t r Draws is other capped no_message draws made =
-    let wrong = draws.0 (subst (λ (x : Result Done StepFault). IsErrOf x Draws) (sym is) refl) in
+    let wrong = draws (subst (λ (x : Result Done StepFault). IsErrOf x Draws) (sym is) refl) in
     let o = no_turn (nat_lt (p.network.place s.node).turns p.game.turns) (turn_at p.game s.node (p.network.place s.node) s.draws) (front (p.network.link s.from s.node)) t made in
     let one : o.0 ≡ wrong.message = (let waits = wrong.waits in let found = o.1 in cc) in
     let undefined = ap (λ (m : Message). handled p.game s.node (p.network.place s.node).value m s.draws) one ∙ wrong.undefined in
@@ -152,22 +154,21 @@ refused_turn p s t r Draws is other capped no_message draws made =
 refused_turn p s t r Memory is other capped no_message draws made = absurd (other refl)
 
 -- the turn that the actors made is the step's
-pub one_turn : (g : Game) (most : ℕ) (c : Checker) (told : Told) (s : Step) (now : Playing) (done : Done) (t : Turn) → Knows g most c told → (made : IsStep (playing_of c.actors) now s done) → turn_of g (play g told.schedule) s ≡ Some t → made.turn ≡ t
-one_turn g most c told s now done t knows made is = let same : Some made.turn ≡ Some t = sym made.defined ∙ same_turn g most c told s knows ∙ is in cc
+pub one_turn : (g : Game) (p now : Playing) (w : Network) (s : Step) (done : Done) (t : Turn) → p.game ≡ g → AreAlike p.network w → (made : IsStep p now s done) → turn_of g w s ≡ Some t → made.turn ≡ t
+one_turn g p now w s done t game alike made is = let same : Some made.turn ≡ Some t = sym made.defined ∙ same_turn g p w s game alike ∙ is in cc
 
 -- the answer where a step isn't made
-pub heard_refusal : (g : Game) (most : ℕ) (IsKind : Told → List ℕ → Told → Type 0) (P : Type 0) (old new : Checker) (text : List ℕ) (r : Result Bool AllocError)
-    → IfOk r (λ right. (right ≡ false) × P) → ((told : Told) → Knows g most old told → (told2 : Told) → IsKind told (text ++ 10 ∷ []) told2 → P → ⊥) → IsHeard g most IsKind old new text r
-heard_refusal g most IsKind P old new text (Ok true) (is, p) never = (let differ : true ≡ false = is in absurd cc)
-heard_refusal g most IsKind P old new text (Ok false) (is, p) never = λ told knows told2 line. never told knows told2 line p
-heard_refusal g most IsKind P old new text (Err e) ok never = tt
+pub heard_refusal : {A H : Type 0} (h : A → Handler) (g : Game) (most : ℕ) (IsKind : Told → List ℕ → Told → Type 0) (P : Type 0) (old new : Reader A H) (text : List ℕ) (r : Result Bool AllocError)
+    → IfOk r (λ right. (right ≡ false) × P) → (IsDecided g.handler → (told : Told) → Follows h g most old told → (told2 : Told) → IsKind told (text ++ 10 ∷ []) told2 → P → ⊥) → IsAnswered h g most IsKind old new text r
+heard_refusal h g most IsKind P old new text (Ok true) (is, p) never = (let differ : true ≡ false = is in absurd cc)
+heard_refusal h g most IsKind P old new text (Ok false) (is, p) never = λ decided told follows told2 line. never decided told follows told2 line p
+heard_refusal h g most IsKind P old new text (Err e) ok never = tt
 
 -- a checker after the turn of a step
-pub record IsAfterTurn (s : Step) (done : Done) (c c2 : Checker) : Type 0 where
+pub record IsAfterTurn (s : Step) (done : Done) (before now : Playing) (c c2 : Checker) : Type 0 where
   pub facts : c2.facts.now ≡ c.facts.now
   pub limit : c2.most ≡ c.most
-  pub actors_facts : c2.actors.facts ≡ c.actors.facts
-  pub actors : IsStep (playing_of c.actors) (playing_of c2.actors) s done
+  pub actors : IsStep before now s done
   pub nodes : HaveTurned s.node done c.nodes.items c2.nodes.items
   pub turns : c2.turns ≡ c.turns + 1
   pub stamp : c2.stamp ≡ done.stamp
@@ -354,7 +355,9 @@ came_by true false same old_turns turns came old_came more waits old_waits t c o
 came_by false true same old_turns turns came old_came more waits old_waits t c o e = absurd cc
 
 -- the schedule with the step, and what its network is
-module _ (g : Game) (most : ℕ) (c c2 : Checker) (told : Told) (s : Step) (done : Done) (knows : Knows g most c told) (after : IsAfterTurn s done c c2) (known : s.node < g.nodes) (before : ComesBefore c.stamp c.node after.actors.turn.stamp s.node) (no_emission : told.emissions ≡ []) (no_restart : told.restarts ≡ []) where
+module _ (g : Game) (most : ℕ) (p p2 : Playing) (c c2 : Checker) (told : Told) (s : Step) (done : Done) (knows : Knows g most c told) (game : p.game ≡ g) (alike : AreAlike p.network (play g told.schedule))
+    (after : IsAfterTurn s done p p2 c c2) (few_sent : length done.sends < 2 ^ 32) (known_sends : AllByRecursion (λ (m : Message). m.to < g.nodes) done.sends)
+    (known : s.node < g.nodes) (before : ComesBefore c.stamp c.node after.actors.turn.stamp s.node) (no_emission : told.emissions ≡ []) (no_restart : told.restarts ≡ []) where
   abbrev t : Turn
   t = after.actors.turn
 
@@ -365,15 +368,21 @@ module _ (g : Game) (most : ℕ) (c c2 : Checker) (told : Told) (s : Step) (done
   told2 = record told { schedule = told.schedule ++ s ∷ [] }
 
   turn_is : turn_of g w s ≡ Some t
-  turn_is = sym (same_turn g most c told s knows) ∙ after.actors.defined
+  turn_is = sym (same_turn g p w s game alike) ∙ after.actors.defined
 
   network_is : play g told2.schedule ≡ applied w s t
   network_is = played_push g (start g) told.schedule s ∙ stepped_is g w s t turn_is
 
-  alike_now : AreAlike (playing_of c2.actors).network (play g told2.schedule)
+  pub alike_now : AreAlike p2.network (play g told2.schedule)
   alike_now =
-      let first = alike_trans (playing_of c2.actors).network (applied (playing_of c.actors).network s t) (applied w s t) after.actors.network (alike_applied (playing_of c.actors).network w s t knows.alike) in
-      alike_same (playing_of c2.actors).network (applied w s t) (play g told2.schedule) first (sym network_is)
+      let first = alike_trans p2.network (applied p.network s t) (applied w s t) after.actors.network (alike_applied p.network w s t alike) in
+      alike_same p2.network (applied w s t) (play g told2.schedule) first (sym network_is)
+
+  sent_known : AreKnown g.nodes t.effect.sends
+  sent_known = known_sent g.nodes s.node t.stamp _ t.effect.sends (subst (λ (ms : List Message). AllByRecursion (λ (m : Message). m.to < g.nodes) ms) after.actors.sends known_sends)
+
+  only_now : HasOnlyNodes g (play g told2.schedule)
+  only_now = subst (HasOnlyNodes g) (sym network_is) (only_after_step g w s t knows.only sent_known known)
 
   legal_now : IsLegalTo g (start g) 0 0 told2.schedule c2.stamp c2.node
   legal_now =
@@ -401,15 +410,14 @@ module _ (g : Game) (most : ℕ) (c c2 : Checker) (told : Told) (s : Step) (done
       let here = came_by (s.node == v) (v == s.node) (eqb_turned s.node v) _ _ _ _ more waits old_waits moved.turns (moved.came ∙ ap (λ (n : ℕ). (get_or c.nodes.items v none).came + n) posted) old.came counts in
       here ∙ ap (λ (n : Network). (get_or c2.nodes.items v none).turns + sum_by (λ u. waiting_on (n.link u v)) (outside ∷ nodes_of g)) (sym network_is)
 
-  few_now : (v : ℕ) → v < g.nodes → (none : Known) → (get_or c2.nodes.items v none).came ≤ MAX_INPUTS + MAX_NODES * length told2.schedule
+  few_now : (v : ℕ) → v < g.nodes → (none : Known) → (get_or c2.nodes.items v none).came ≤ MAX_INPUTS + 2 ^ 32 * length told2.schedule
   few_now v of_game none =
       let old = knows.each v of_game none in
       let moved = after.nodes.each v (omega (arith, of_game, knows.width)) none in
-      let sent = sends_few g most c told s (playing_of c2.actors) done knows after.actors in
-      omega (arith, moved.came, old.few, sent, count_by-le-length (λ (m : Message). m.to == v) done.sends, length-append told.schedule (s ∷ []), knows.limits.few_nodes)
+      omega (arith, moved.came, old.few, few_sent, count_by-le-length (λ (m : Message). m.to == v) done.sends, length-append told.schedule (s ∷ []))
 
   outs_here : (v : ℕ) → (s.node == v) ≡ true → done.outs ≡ outputs_from (length (w.place v).outs) t.effect.outs
-  outs_here v here = after.actors.outs ∙ ap (λ (p : Place). outputs_from (length p.outs) t.effect.outs) (knows.alike.place s.node ∙ ap w.place (eqb-true s.node v here))
+  outs_here v here = after.actors.outs ∙ ap (λ (p : Place). outputs_from (length p.outs) t.effect.outs) (alike.place s.node ∙ ap w.place (eqb-true s.node v here))
 
   node_now : (v : ℕ) → v < g.nodes → (none : Known) → KnowsNode g told2 v (get_or c2.nodes.items v none)
   node_now v of_game none =
@@ -429,13 +437,12 @@ module _ (g : Game) (most : ℕ) (c c2 : Checker) (told : Told) (s : Step) (done
   pub turn_known : Knows g most c2 told2
   turn_known = record {
     limits = knows.limits;
-    game = ap game_of after.facts ∙ knows.game;
-    facts = after.actors_facts ∙ knows.facts ∙ sym after.facts;
+    game = ap (game_for g.handler) after.facts ∙ knows.game;
     limit = after.limit ∙ knows.limit;
-    alike = alike_now;
     width = after.nodes.width ∙ knows.width;
     each = node_now;
     turns = after.turns ∙ ap (λ (n : ℕ). n + 1) knows.turns ∙ sym (length-append told.schedule (s ∷ []));
+    only = only_now;
     legal = legal_now;
     no_emission = (λ is. knows.no_emission.0 (sym after.has_emissions ∙ is), λ is. after.has_emissions ∙ knows.no_emission.1 is);
     emitter = after.emitter ∙ knows.emitter;

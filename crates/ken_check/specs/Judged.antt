@@ -2,6 +2,7 @@
 use Rattle.std.specs.Prelude.{◌≡◌, ◌≢◌, ℕ, ◌+◌, List, [], ◌∷◌, ◌++◌, true, false}
 use Rattle.ken_model.specs.Game.{Game}
 use Rattle.ken_model.specs.Report.{IsOneLine}
+use Rattle.ken_actors.specs.Decided.{IsDecided}
 use Rattle.ken_check.specs.declared.verdict.Verdict.{Verdict}
 use Rattle.ken_check.specs.declared.verdict.Verdict.TheVariants.{Right, Wrong}
 use Rattle.ken_check.specs.Right.{IsRightLine, Told, nothing_told}
@@ -20,3 +21,8 @@ pub data IsJudgedFrom (g : Game) (most : ℕ) : ℕ → Told → List ℕ → Ve
 -- a report of a run of this game, whose nodes may be restarted so often; its lines count from 1
 abbrev pub IsJudged : Game → ℕ → List ℕ → Verdict → Type 0
 IsJudged g most bytes verdict = IsJudgedFrom g most 1 nothing_told bytes verdict
+
+-- the same as far as a player's run tells: that a line is wrong is said only where the game's handler decides its draws as they are drawn
+abbrev pub IsJudgedBy : Game → ℕ → List ℕ → Verdict → Type 0
+IsJudgedBy g most bytes Right = IsJudged g most bytes Right
+IsJudgedBy g most bytes (Wrong n) = IsDecided g.handler → IsJudged g most bytes (Wrong n)

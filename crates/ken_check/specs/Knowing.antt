@@ -1,21 +1,25 @@
 -- What a reader of a report keeps, and how it answers to a line.
-use Rattle.std.specs.Prelude.{◌≡◌, ◌↔◌, ℕ, ◌+◌, ◌*◌, ◌<◌, ◌≤◌, List, [], ◌∷◌, ◌++◌, length, sum_by, get_or, Bool, true, false, Some, Result, Ok, Err}
+use Rattle.std.specs.Prelude.{◌≡◌, ◌≢◌, ◌↔◌, ℕ, ◌+◌, ◌*◌, ◌<◌, ◌≤◌, ◌^◌, List, [], ◌∷◌, ◌++◌, length, sum_by, get_or, Bool, true, false, Some, Result, Ok, Err}
 use Rattle.std.specs.declared.alloc.AllocError.{AllocError}
-use Rattle.ken_model.specs.declared.facts.TheConstants.{MAX_INPUTS, MAX_NODES}
+use Rattle.ken_model.specs.declared.facts.TheConstants.{MAX_INPUTS}
 use Rattle.ken_model.specs.declared.messages.Step.{Step}
 use Rattle.ken_model.specs.declared.reports.Emission.{Emission}
 use Rattle.ken_model.specs.declared.reports.RestartLine.{RestartLine}
-use Rattle.ken_model.specs.Actors.{AreAlike}
+use Rattle.ken_actors.specs.Actors.{AreAlike}
+use Rattle.ken_actors.specs.Decided.{IsDecided}
+use Rattle.ken_actors.specs.Held.{playing_of}
+use Rattle.ken_actors.specs.Playing.{game_for}
 use Rattle.ken_model.specs.Emissions.{emitted_by, largest_of}
 use Rattle.ken_model.specs.Ending.{nodes_of, waiting_on}
-use Rattle.ken_model.specs.Game.{Game, game_of}
-use Rattle.ken_model.specs.Held.{playing_of}
+use Rattle.ken_model.specs.Game.{Game}
+use Rattle.ken_model.specs.Handler.{Handler}
 use Rattle.ken_model.specs.Limits.{IsWithinLimits}
 use Rattle.ken_model.specs.Network.{Network, Turn, applied, outputs_from, outside, start, turn_of}
 use Rattle.ken_model.specs.Restarts.{restarts_of}
 use Rattle.ken_model.specs.Schedule.{ComesBefore, play}
 use Rattle.ken_check.specs.declared.checker.Checker.{Checker}
 use Rattle.ken_check.specs.declared.known.Known.{Known}
+use Rattle.ken_check.specs.declared.reader.Reader.{Reader}
 use Rattle.ken_check.specs.Right.{AreEmissionsSoFar, AreRestartsSoFar, Told}
 
 -- a legal schedule whose last turn has that stamp and node
@@ -41,22 +45,26 @@ last_of last (x ∷ xs) = last_of x xs
 pub record KnowsNode (g : Game) (told : Told) (v : ℕ) (k : Known) : Type 0 where
   pub outs : k.outs.items ≡ outputs_from 0 ((play g told.schedule).place v).outs
   pub turns : k.turns ≡ ((play g told.schedule).place v).turns
-  pub few : k.came ≤ MAX_INPUTS + MAX_NODES * length told.schedule
+  pub few : k.came ≤ MAX_INPUTS + 2 ^ 32 * length told.schedule
   pub came : k.came ≡ k.turns + sum_by (λ u. waiting_on ((play g told.schedule).link u v)) (outside ∷ nodes_of g)
   pub emitted : k.emitted ≡ largest_of 0 (emitted_by v told.emissions)
   pub restarts : k.restarts ≡ length (restarts_of v told.restarts)
   pub recovered : k.recovered ≡ last_of 0 (restarts_of v told.restarts)
 
--- what a reader keeps of a run of this game after such lines
+-- no message was sent to a number past the nodes, nor from one
+pub record HasOnlyNodes (g : Game) (w : Network) : Type 0 where
+  pub nowhere : (u v : ℕ) → g.nodes ≤ v → (w.link u v).sent ≡ []
+  pub strangers : (u v : ℕ) → g.nodes ≤ u → u ≢ outside → (w.link u v).sent ≡ []
+
+-- what is kept of a run of this game after such lines
 pub record Knows (g : Game) (most : ℕ) (c : Checker) (told : Told) : Type 0 where
   pub limits : IsWithinLimits g
-  pub game : game_of c.facts.now ≡ g
-  pub facts : c.actors.facts ≡ c.facts.now
+  pub game : game_for g.handler c.facts.now ≡ g
   pub limit : c.most ≡ most
-  pub alike : AreAlike (playing_of c.actors).network (play g told.schedule)
   pub width : length c.nodes.items ≡ g.nodes
   pub each : (v : ℕ) → v < g.nodes → (none : Known) → KnowsNode g told v (get_or c.nodes.items v none)
   pub turns : c.turns ≡ length told.schedule
+  pub only : HasOnlyNodes g (play g told.schedule)
   pub legal : IsLegalTo g (start g) 0 0 told.schedule c.stamp c.node
   pub no_emission : (c.has_emissions ≡ false) ↔ (told.emissions ≡ [])
   pub emitter : c.emitter ≡ last_emitter 0 told.emissions
@@ -102,3 +110,26 @@ IsHeard g most IsRight old new text (Err _) = Unit {0}
 -- the same of any game that a reader may know
 abbrev pub Hears : ((g : Game) (most : ℕ) → Told → List ℕ → Told → Type 0) → Checker → Checker → List ℕ → Result Bool AllocError → Type 0
 Hears IsRight old new text answer = (g : Game) (most : ℕ) → IsHeard g most (IsRight g most) old new text answer
+
+-- ---- with the actors
+
+-- a reader's actors play the run that the lines told
+pub record Follows {P H : Type 0} (handler : P → Handler) (g : Game) (most : ℕ) (r : Reader P H) (told : Told) : Type 0 where
+  pub knows : Knows g most r.checker told
+  pub game : (playing_of handler r.actors).game ≡ g
+  pub alike : AreAlike (playing_of handler r.actors).network (play g told.schedule)
+
+pub record IsFollowing {P H : Type 0} (handler : P → Handler) (r : Reader P H) : Type 0 where
+  pub game : Game
+  pub most : ℕ
+  pub told : Told
+  pub follows : Follows handler game most r told
+
+-- a reader's answer to a line: as above, but that no such line is right is said only where the game's handler decides its draws as they are drawn
+abbrev pub IsAnswered : {P H : Type 0} → (P → Handler) → (g : Game) (most : ℕ) → (Told → List ℕ → Told → Type 0) → Reader P H → Reader P H → List ℕ → Result Bool AllocError → Type 0
+IsAnswered handler g most IsRight old new text (Ok true) = (told : Told) → Follows handler g most old told → (told2 : Told) × IsRight told (text ++ 10 ∷ []) told2 × Follows handler g most new told2
+IsAnswered handler g most IsRight old new text (Ok false) = IsDecided g.handler → (told : Told) → Follows handler g most old told → (told2 : Told) → IsRight told (text ++ 10 ∷ []) told2 → ⊥
+IsAnswered handler g most IsRight old new text (Err _) = Unit {0}
+
+abbrev pub Answers : {P H : Type 0} → (P → Handler) → ((g : Game) (most : ℕ) → Told → List ℕ → Told → Type 0) → Reader P H → Reader P H → List ℕ → Result Bool AllocError → Type 0
+Answers handler IsRight old new text answer = (g : Game) (most : ℕ) → IsAnswered handler g most (IsRight g most) old new text answer

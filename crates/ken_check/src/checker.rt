@@ -1,15 +1,14 @@
-// A report's lines, each held against the run that those before it told.
+// What the lines of a report told so far.
 ghost use Rattle.std.specs.Prelude.{◌≡◌, ◌∷◌, ◌++◌, [], IfOk};
 ghost use Rattle.std.specs.Bool.{Decides};
-ghost use Rattle.ken_model.specs.Game.{game_of};
+ghost use Rattle.ken_actors.specs.Playing.{game_for};
+ghost use Rattle.ken_model.specs.Handler.{Handler};
 ghost use Rattle.ken_model.specs.Limits.{IsWithinLimits};
-ghost use Rattle.ken_model.specs.Report.{IsOneLine};
-ghost use Rattle.ken_check.specs.Right.{IsRightLine, nothing_told};
-ghost use Rattle.ken_check.specs.Knowing.{Hears, IsReading, Knows};
+ghost use Rattle.ken_check.specs.Right.{nothing_told};
+ghost use Rattle.ken_check.specs.Knowing.{Knows};
 
 use crate::known::{Known, at_start};
-use crate::words::word;
-use ken_model::{Actors, Facts};
+use ken_model::Facts;
 use std::alloc::{AllocError, Global};
 
 /// A run as far as the lines of its report told it.
@@ -19,7 +18,6 @@ pub(crate) struct Checker<'a> {
     pub facts: &'a Facts,
     /// How often each node may be restarted.
     pub most: u64,
-    pub actors: Actors<'a>,
     pub nodes: Vec<Known>,
     /// How many turns were told, and the stamp and the node of the last, each 0 before the first.
     pub turns: u64,
@@ -41,14 +39,12 @@ pub(crate) struct Checker<'a> {
 impl<'a> Checker<'a> {
     /// Before the first line of a report.
     pub(crate) fn new(alloc: Global, facts: &'a Facts, most: u64) -> Result<Checker<'a>, AllocError>
-        requires limits { IsWithinLimits (game_of facts.now) }
-        ensures { IfOk result (λ checker. Knows (game_of facts.now) most checker nothing_told) }
+        ensures { IfOk result (λ checker. (h : Handler) → IsWithinLimits (game_for h facts.now) → Knows (game_for h facts.now) most checker nothing_told) }
     {
         Ok(Checker {
             alloc,
             facts,
             most,
-            actors: Actors::start(alloc, facts)?,
             nodes: at_start(alloc, facts)?,
             turns: 0,
             stamp: 0,
@@ -61,31 +57,6 @@ impl<'a> Checker<'a> {
             ended: false,
             buffer: Vec::new(alloc),
         })
-    }
-
-    /// Whether the next line, which is given without its line feed, is right. Where it isn't, nothing more is to be
-    /// asked.
-    pub(crate) fn line(&mut self, text: &[u8]) -> Result<bool, AllocError>
-        requires reading { IsReading self.old }
-        requires one_line { IsOneLine text.now }
-        ensures { Hears IsRightLine self.old self.new text.now result }
-    {
-        let Some(kind) = word(text, 0) else {
-            return Ok(false);
-        };
-        if kind == b"turn".as_slice() {
-            self.turn(text)
-        } else if kind == b"emit".as_slice() {
-            self.emission(text)
-        } else if kind == b"restart".as_slice() {
-            self.restart(text)
-        } else if kind == b"heap".as_slice() {
-            self.heap(text)
-        } else if kind == b"end".as_slice() {
-            self.end(text)
-        } else {
-            Ok(false)
-        }
     }
 }
 

@@ -1,32 +1,36 @@
 // Heap lines.
 ghost use Rattle.std.specs.Prelude.{◌≡◌};
 ghost use Rattle.ken_check.specs.Kinds.{IsHeapLine};
-ghost use Rattle.ken_check.specs.Knowing.{Hears, IsReading};
+ghost use Rattle.ken_check.specs.Knowing.{Answers, IsFollowing};
 
-use crate::checker::{Checker, is_line};
+use crate::checker::is_line;
+use crate::reader::Reader;
+use ken_actors::Player;
 use ken_report::put_heap;
 use std::alloc::AllocError;
 
-impl<'a> Checker<'a> {
+impl<'a, P: Player> Reader<'a, P> {
     /// Whether the next line is right as a heap line.
     pub(crate) fn heap(&mut self, text: &[u8]) -> Result<bool, AllocError>
-        requires reading { IsReading self.old }
-        ensures { Hears (λ g _. IsHeapLine g) self.old self.new text.now result }
+        requires following { IsFollowing P.handler self.old }
+        ensures { Answers P.handler (λ g _. IsHeapLine g) self.old self.new text.now result }
     {
-        if self.ended || self.heaps >= self.facts.nodes {
+        let checker = &mut self.checker;
+        if checker.ended || checker.heaps >= checker.facts.nodes {
             return Ok(false);
         }
-        self.buffer.clear();
+        let value = self.actors.value(checker.heaps)?;
+        checker.buffer.clear();
         put_heap(
-            self.alloc,
-            &mut self.buffer,
-            u64::from(self.heaps),
-            self.actors.value(self.heaps),
+            checker.alloc,
+            &mut checker.buffer,
+            u64::from(checker.heaps),
+            &value,
         )?;
-        if !is_line(self.buffer.as_slice(), text) {
+        if !is_line(checker.buffer.as_slice(), text) {
             return Ok(false);
         }
-        self.heaps += 1;
+        checker.heaps += 1;
         Ok(true)
     }
 }

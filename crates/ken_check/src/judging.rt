@@ -2,23 +2,25 @@
 ghost use Rattle.std.specs.Prelude.{◌≡◌, ◌<◌, ◌^◌, ◌==◌, ◌∷◌, ◌++◌, [], ℕ, List, length, IfOk, OnOk};
 ghost use Rattle.std.specs.Bool.{Decides};
 ghost use Rattle.std.specs.List.{position};
-ghost use Rattle.ken_model.specs.Game.{Game, game_of};
+ghost use Rattle.ken_model.specs.Game.{Game};
 ghost use Rattle.ken_model.specs.Limits.{IsWithinLimits};
-ghost use Rattle.ken_check.specs.Judged.{IsJudged};
-ghost use Rattle.ken_check.specs.Knowing.{Hears};
+ghost use Rattle.ken_actors.specs.Playing.{game_for};
+ghost use Rattle.ken_check.specs.Judged.{IsJudgedBy};
+ghost use Rattle.ken_check.specs.Knowing.{Answers};
 ghost use Rattle.ken_check.specs.Right.{IsRightLine};
 ghost use Rattle.ken_check.specs.Incoming.{EndsLine, HasRead, IsInLine, IsUnderWay, IsWhole};
 
-use crate::checker::Checker;
+use crate::reader::Reader;
 use crate::verdict::Verdict;
+use ken_actors::Player;
 use ken_model::Facts;
 use std::alloc::{AllocError, Global};
 
 /// A report that is judged while it comes in, in the memory of a played run and of a line that isn't whole yet.
-#[derive(Debug, Drop)]
-pub struct Judging<'a> {
+#[derive(Drop)]
+pub struct Judging<'a, P: Player> {
     alloc: Global,
-    checker: Checker<'a>,
+    reader: Reader<'a, P>,
     /// The number of the line that is read, counted from 1. It may stand at 2^64 - 1.
     line: u64,
     /// What earlier pieces had of that line.
@@ -27,16 +29,21 @@ pub struct Judging<'a> {
     wrong: bool,
 }
 
-impl<'a> Judging<'a> {
-    /// Before the first byte of a report of a run of these facts, whose nodes may be restarted at most `restarts` times
-    /// each.
-    pub fn new(alloc: Global, facts: &'a Facts, restarts: u64) -> Result<Judging<'a>, AllocError>
-        requires limits { IsWithinLimits (game_of facts.now) }
-        ensures { IfOk result (HasRead (game_of facts.now) restarts []) }
+impl<'a, P: Player> Judging<'a, P> {
+    /// Before the first byte of a report of a run of these facts, whose turns this player makes, and whose nodes may be
+    /// restarted at most `restarts` times each.
+    pub fn new(
+        alloc: Global,
+        player: &'a P,
+        facts: &'a Facts,
+        restarts: u64,
+    ) -> Result<Judging<'a, P>, AllocError>
+        requires limits { IsWithinLimits (game_for (P.handler player.now) facts.now) }
+        ensures { IfOk result (HasRead P.handler (game_for (P.handler player.now) facts.now) restarts []) }
     {
         Ok(Judging {
             alloc,
-            checker: Checker::new(alloc, facts, restarts)?,
+            reader: Reader::new(alloc, player, facts, restarts)?,
             line: 1,
             begun: Vec::new(alloc),
             wrong: false,
@@ -45,9 +52,9 @@ impl<'a> Judging<'a> {
 
     /// Reads on. After an error nothing is known of it.
     pub fn read(&mut self, bytes: &[u8]) -> Result<(), AllocError>
-        requires under_way { IsUnderWay self.old }
-        ensures { (g : Game) (most : ℕ) (seen : List ℕ) → HasRead g most seen self.old
-            → OnOk result (HasRead g most (seen ++ bytes.now) self.new) }
+        requires under_way { IsUnderWay P.handler self.old }
+        ensures { (g : Game) (most : ℕ) (seen : List ℕ) → HasRead P.handler g most seen self.old
+            → OnOk result (HasRead P.handler g most (seen ++ bytes.now) self.new) }
     {
         let mut rest = bytes;
         while !self.wrong {
@@ -60,10 +67,11 @@ impl<'a> Judging<'a> {
         Ok(())
     }
 
-    /// What the report is judged as, if it ends here. A line past the 2^64 - 1st would be told as that one.
+    /// What the report is judged as, if it ends here. That a line is wrong is said where the player's handler decides its draws
+    /// as they are drawn, as each kind does. A line past the 2^64 - 1st would be told as that one.
     pub fn verdict(&self) -> Verdict
-        ensures { (g : Game) (most : ℕ) (seen : List ℕ) → HasRead g most seen self.now
-            → length seen < 2 ^ 63 → IsJudged g most seen result }
+        ensures { (g : Game) (most : ℕ) (seen : List ℕ) → HasRead P.handler g most seen self.now
+            → length seen < 2 ^ 63 → IsJudgedBy g most seen result }
     {
         if self.is_whole() {
             Verdict::Right
@@ -76,23 +84,23 @@ impl<'a> Judging<'a> {
     fn is_whole(&self) -> bool
         ensures { Decides result (IsWhole self.now) }
     {
-        !self.wrong && self.checker.ended && self.begun.is_empty()
+        !self.wrong && self.reader.checker.ended && self.begun.is_empty()
     }
 
     /// Keeps a part of the line that is read, of which more may come.
     fn keep(&mut self, part: &[u8]) -> Result<(), AllocError>
         requires open_yet { IsInLine part.now self.old }
-        ensures { (g : Game) (most : ℕ) (seen : List ℕ) → HasRead g most seen self.old
-            → OnOk result (HasRead g most (seen ++ part.now) self.new) }
+        ensures { (g : Game) (most : ℕ) (seen : List ℕ) → HasRead P.handler g most seen self.old
+            → OnOk result (HasRead P.handler g most (seen ++ part.now) self.new) }
     {
         self.begun.extend_from_slice(part)
     }
 
     /// Judges the line that is read, whose last part this is, without the line feed behind it.
     fn end_line(&mut self, part: &[u8]) -> Result<(), AllocError>
-        requires open_yet { EndsLine part.now self.old }
-        ensures { (g : Game) (most : ℕ) (seen : List ℕ) → HasRead g most seen self.old
-            → OnOk result (HasRead g most (seen ++ (part.now ++ 10 ∷ [])) self.new) }
+        requires open_yet { EndsLine P.handler part.now self.old }
+        ensures { (g : Game) (most : ℕ) (seen : List ℕ) → HasRead P.handler g most seen self.old
+            → OnOk result (HasRead P.handler g most (seen ++ (part.now ++ 10 ∷ [])) self.new) }
     {
         if self.is_right(part)? {
             self.line = self.line.saturating_add(1);
@@ -106,16 +114,16 @@ impl<'a> Judging<'a> {
 
     /// Whether it is right. A line that lies in one piece is not copied.
     fn is_right(&mut self, part: &[u8]) -> Result<bool, AllocError>
-        requires open_yet { EndsLine part.now self.old }
-        ensures heard { Hears IsRightLine self.old.checker self.new.checker (self.old.begun.items ++ part.now) result }
+        requires open_yet { EndsLine P.handler part.now self.old }
+        ensures heard { Answers P.handler IsRightLine self.old.reader self.new.reader (self.old.begun.items ++ part.now) result }
         ensures line { self.new.line ≡ self.old.line }
         ensures wrong { self.new.wrong ≡ self.old.wrong }
     {
         if self.begun.is_empty() {
-            return self.checker.line(part);
+            return self.reader.line(part);
         }
         self.begun.extend_from_slice(part)?;
-        self.checker.line(self.begun.as_slice())
+        self.reader.line(self.begun.as_slice())
     }
 }
 

@@ -8,6 +8,7 @@ mod heaps;
 mod judging;
 mod known;
 mod laws;
+mod reader;
 mod restarts;
 mod turns;
 mod verdict;

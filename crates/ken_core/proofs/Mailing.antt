@@ -6,7 +6,7 @@ use Rattle.std.proofs.lemmas.List.{drop_more, map-set, get_or-map, length-map, g
 use Rattle.ken_model.specs.declared.messages.Message.{Message}
 use Rattle.ken_model.specs.declared.messages.Send.{Send}
 use Rattle.ken_model.specs.Network.{numbered}
-use Rattle.ken_model.specs.Actors.{posted_after}
+use Rattle.ken_model.specs.Posted.{posted_after}
 use Rattle.ken_model.proofs.Posting.{posted_after-cong, items_of}
 use Rattle.ken_record.specs.declared.sent.Sent.{Sent}
 use Rattle.ken_core.specs.Turns.{mail_of, sent_of}

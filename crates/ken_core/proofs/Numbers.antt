@@ -9,7 +9,7 @@ use Rattle.ken_model.specs.declared.messages.Send.{Send}
 use Rattle.ken_model.specs.declared.messages.Out.{Out}
 use Rattle.ken_model.specs.Game.{Game}
 use Rattle.ken_model.specs.Network.{Place, Turn, numbered, outputs_from, first_place, place_after}
-use Rattle.ken_model.specs.Actors.{posted_after}
+use Rattle.ken_model.specs.Posted.{posted_after}
 use Rattle.ken_model.specs.History.{places, place_of, consumed, sent_by, line_at}
 use Rattle.ken_record.specs.declared.sent.Sent.{Sent}
 use Rattle.ken_record.specs.declared.effects.Effects.{Effects}

@@ -13,7 +13,7 @@ use Rattle.ken_record.specs.declared.page.Page.{Page}
 use Rattle.ken_cover.specs.Overlay.{overlay}
 use Rattle.ken_model.specs.declared.messages.Send.{Send}
 use Rattle.ken_model.specs.Network.{outputs_from}
-use Rattle.ken_model.specs.Actors.{posted_after}
+use Rattle.ken_model.specs.Posted.{posted_after}
 use Rattle.ken_record.specs.declared.effects.Effects.{Effects}
 use Rattle.ken_core.specs.declared.machine.Machine.{Machine}
 use Rattle.ken_core.specs.declared.sealing.Sealing.{Sealing}

@@ -8,7 +8,7 @@ use Rattle.ken_model.specs.declared.messages.Message.{Message}
 use Rattle.ken_model.specs.declared.values.Value.{Value}
 use Rattle.ken_model.specs.Game.{Game}
 use Rattle.ken_model.specs.Network.{Turn, turn_at, outputs_from}
-use Rattle.ken_model.specs.Actors.{posted_after}
+use Rattle.ken_model.specs.Posted.{posted_after}
 use Rattle.ken_model.specs.Reading.{read_value}
 use Rattle.ken_record.specs.declared.page.Page.{Page}
 use Rattle.ken_cover.specs.Overlay.{overlay}

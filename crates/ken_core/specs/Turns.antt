@@ -5,7 +5,7 @@ use Rattle.ken_model.specs.declared.messages.Message.{Message}
 use Rattle.ken_model.specs.declared.messages.Out.{Out}
 use Rattle.ken_model.specs.declared.reports.TurnLine.{TurnLine}
 use Rattle.ken_model.specs.Network.{Place, Turn, outputs_from}
-use Rattle.ken_model.specs.Actors.{posted_after}
+use Rattle.ken_model.specs.Posted.{posted_after}
 use Rattle.ken_record.specs.declared.sent.Sent.{Sent}
 use Rattle.ken_record.specs.declared.effects.Effects.{Effects}
 

@@ -1,7 +1,7 @@
 // A turn that can be sealed.
 ghost use Rattle.std.specs.Prelude.{◌≡◌, ◌+◌, ◌^◌, ◌<◌, ◌↔◌, max, ℕ, length, map, slice_index, IfOk, IfSome, IfNone, IsTrue};
 ghost use Rattle.std.specs.List.{All, AllByRecursion};
-ghost use Rattle.ken_model.specs.Actors.{posted_after};
+ghost use Rattle.ken_model.specs.Posted.{posted_after};
 ghost use Rattle.ken_model.specs.Network.{Turn, outputs_from};
 ghost use Rattle.ken_model.specs.Game.{game_of};
 ghost use Rattle.ken_model.specs.Limits.{IsWithinLimits};

@@ -31,6 +31,6 @@ clocks_told a = told a.readings (range_with_len 1 a.readings)
 abbrev pub words_told : Answered → Option (List ℕ)
 words_told a = told a.words (answers a.words (start_of a.origin))
 
--- what it tells
+-- what it tells: not the order between readings and words
 abbrev pub telling_of_memory : Telling Answered
-telling_of_memory = record { clocks = clocks_told; words = words_told; origin = λ a. Some a.origin; always = true }
+telling_of_memory = record { clocks = clocks_told; words = words_told; answers = λ a. None; origin = λ a. Some a.origin; always = true }

@@ -6,7 +6,7 @@ use Rattle.ken_model.specs.declared.messages.Message.{Message}
 use Rattle.ken_model.specs.declared.messages.TheConstants.{OUTSIDE}
 use Rattle.ken_model.specs.declared.messages.Out.{Out}
 use Rattle.ken_model.specs.declared.messages.Send.{Send}
-use Rattle.ken_model.specs.Actors.{posted_after}
+use Rattle.ken_model.specs.Posted.{posted_after}
 use Rattle.ken_model.specs.Effects.{Effect}
 use Rattle.ken_model.specs.Game.{Game}
 use Rattle.ken_model.specs.History.{AreTurns}

@@ -73,7 +73,7 @@ act_short zero puts few = tt
 act_short (suc zero) puts few = tt
 act_short (suc (suc n)) puts few = few
 
-act_at_short : (x : ℕ) → IsShortAct (act_at x)
+pub act_at_short : (x : ℕ) → IsShortAct (act_at x)
 unfolding act_at
 act_at_short x =
     let held : drawn 4 (past x) < 4 = drawn_below 4 (past x) (lit< tt) in

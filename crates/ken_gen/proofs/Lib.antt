@@ -1,5 +1,7 @@
 pub mod Keeps
 pub mod Steps
+pub mod Drawn
+pub mod Tormented
 pub mod Sums
 pub mod Links
 pub mod Paths

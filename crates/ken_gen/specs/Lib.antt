@@ -2,6 +2,8 @@ pub mod Draws
 pub mod Generated
 pub mod Inputs
 pub mod Mishaps
+pub mod Torments
+pub mod TormentLaws
 pub mod Shares
 pub mod ShareLaws
 pub mod Summary

@@ -7,8 +7,10 @@ mod inputs;
 mod laws;
 mod mishaps;
 mod soaks;
+mod torments;
 mod walks;
 
 pub use generated::script_of;
-pub use laws::{shares_add_up, shares_come_out, soaks_come_out};
+pub use laws::{shares_add_up, shares_come_out, soaks_come_out, torment_adds_few};
 pub use soaks::{NodeTotal, summary, summary_of};
+pub use torments::torment;

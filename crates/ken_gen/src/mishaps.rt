@@ -19,7 +19,7 @@ const FIRST_CALL: u64 = 40;
 const CALLS: u64 = 400;
 
 /// The picks are below this.
-const PICKS: u64 = 10;
+pub(crate) const PICKS: u64 = 10;
 
 /// Among how many puts of a link an act is, from the first.
 const PUTS: u64 = 100;
@@ -44,7 +44,7 @@ fn draw_cut(generator: &mut Lcg, nodes: u8) -> DiskCut
 
 /// What becomes of a packet: its loss, its repeat, or with one further answer for how many puts it is held.
 #[tactic(auto, unfolding(crate::specs::Mishaps::act_at, crate::specs::Mishaps::past_act))]
-fn draw_act(generator: &mut Lcg) -> Act
+pub(crate) fn draw_act(generator: &mut Lcg) -> Act
     ensures act { result ≡ act_at generator.old }
     ensures state { generator.new ≡ past_act generator.old }
 {
@@ -71,7 +71,7 @@ fn draw_link_act(generator: &mut Lcg, nodes: u8) -> LinkAct
 }
 
 /// Whether one of the cuts is at the call of `cut`.
-fn has_call_of(cuts: &[DiskCut], cut: &DiskCut) -> bool
+pub(crate) fn has_call_of(cuts: &[DiskCut], cut: &DiskCut) -> bool
     ensures { result ≡ list_any (is_same_call cut.now) cuts.now }
 {
     cuts.iter().any(|earlier| {
@@ -80,7 +80,7 @@ fn has_call_of(cuts: &[DiskCut], cut: &DiskCut) -> bool
 }
 
 /// Whether one of the acts is on the put of `act`.
-fn has_put_of(acts: &[LinkAct], act: &LinkAct) -> bool
+pub(crate) fn has_put_of(acts: &[LinkAct], act: &LinkAct) -> bool
     ensures { result ≡ list_any (is_same_put act.now) acts.now }
 {
     acts.iter().any(|earlier| act.from == earlier.from

@@ -4,3 +4,4 @@ pub mod BytesRead
 pub mod Changes
 pub mod Decisions
 pub mod Terms
+pub mod Decided

@@ -8,5 +8,5 @@ mod laws;
 mod leases;
 mod texts;
 
-pub use laws::leases_never_overlap;
+pub use laws::{leases_are_decided, leases_never_overlap};
 pub use leases::Leases;

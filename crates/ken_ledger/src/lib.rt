@@ -4,5 +4,5 @@
 mod laws;
 mod ledger;
 
-pub use laws::no_payment_is_lost;
+pub use laws::{ledger_is_decided, no_payment_is_lost};
 pub use ledger::Ledger;

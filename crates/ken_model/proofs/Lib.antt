@@ -10,13 +10,10 @@ pub mod Handled
 pub mod Shows
 pub mod Agreement
 pub mod Posting
-pub mod Started
 pub mod Tasks
 pub mod Heaps
 pub mod Edits
 pub mod Gaps
-pub mod Moved
-pub mod Prepared
 pub mod Others
 pub mod Choices
 pub mod Heads

@@ -5,8 +5,8 @@ use Rattle.std.proofs.lemmas.List.{length_push, map-set, get_or-map, get_or-set_
 use Rattle.ken_model.specs.declared.messages.Message.{Message}
 use Rattle.ken_model.specs.declared.messages.Send.{Send}
 use Rattle.ken_model.specs.Network.{numbered}
-use Rattle.ken_model.specs.Actors.{posted_after}
-use Rattle.ken_model.specs.Letters.{count_at}
+use Rattle.ken_model.specs.Posted.{posted_after}
+use Rattle.ken_model.specs.Posted.{count_at}
 
 -- equal counts give equal numbers
 pub posted_after-cong : (v stamp : ℕ) (c d : ℕ → ℕ) (ss : List Send) → ((w : ℕ) → c w ≡ d w) → posted_after v stamp c ss ≡ posted_after v stamp d ss

@@ -14,13 +14,9 @@ pub mod Reading
 pub mod Checks
 pub mod Broken
 pub mod LayoutLaws
-pub mod Actors
+pub mod Posted
 pub mod Tasks
 pub mod Answers
-pub mod Held
-pub mod Nodes
-pub mod Letters
-pub mod Planned
 pub mod Schedule
 pub mod Limits
 pub mod History

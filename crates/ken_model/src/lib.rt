@@ -2,13 +2,11 @@
 //! report. The definitions themselves are in `specs/`; `docs/DEFINITIONS.md` tells them in plain words.
 #![tactic(auto)]
 
-mod actors;
 mod bank;
 mod cells;
 mod clones;
 mod commands;
 mod facts;
-mod faults;
 mod handler;
 mod header;
 mod key_value;
@@ -17,8 +15,6 @@ mod laws;
 mod layout_laws;
 mod lists;
 mod messages;
-mod network;
-mod node;
 mod octets;
 mod orders;
 mod reactions;
@@ -27,12 +23,10 @@ mod reports;
 mod states;
 mod values;
 
-pub use actors::Actors;
 pub use cells::{CELLS, HEAD, Head};
 pub use clones::{TryClone, copies_of};
 pub use commands::{Command, is_pair_of};
 pub use facts::{Facts, Input, MAX_INPUTS, MAX_NODES, MAX_PAGES, MAX_TEXT, MAX_TURNS, PAGE};
-pub use faults::StepFault;
 pub use header::{empty_header, wrong_header};
 pub use kinds::Kind;
 pub use laws::{agreement_is_legal, first_gap_is_least, report_spells_its_run};

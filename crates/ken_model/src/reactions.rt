@@ -1,13 +1,13 @@
 // What a handler makes of a message, for those who have no network.
-ghost use Rattle.std.specs.Prelude.{◌≡◌, ◌<◌, ◌^◌, option_map, IfOk, IfSome};
+ghost use Rattle.std.specs.Prelude.{◌≡◌, ◌<◌, ◌^◌, option_map, IfOk, IfSome, OnOk, OnErr};
 ghost use Rattle.std.specs.List.{All, AllByRecursion};
+ghost use Rattle.ken_model.specs.Answers.{changed};
 ghost use Rattle.ken_model.specs.Heap.{IsHeap};
 ghost use Rattle.ken_model.specs.Kinds.{handler_of};
 ghost use Rattle.ken_model.specs.Reactions.{effect_in};
 
-use crate::handler::{Answer, Task};
-use crate::node::change;
-use crate::{Items, Kind, Message, Octets, Send, Value};
+use crate::handler::{Answer, BlockChange, Task};
+use crate::{Block, Items, Kind, Message, Octets, Send, Value};
 use std::alloc::{AllocError, Global};
 
 /// What a turn changes, sends and outputs.
@@ -54,4 +54,23 @@ impl Kind {
             outs: Items::new(outs),
         }))
     }
+}
+
+/// Changes the blocks of a heap. After an error nothing has changed.
+fn change(value: &mut Value, blocks: BlockChange) -> Result<(), AllocError>
+    ensures ok { OnOk result (value.new ≡ record value.old { blocks = changed blocks value.old.blocks }) }
+    ensures err { OnErr result (value.new ≡ value.old) }
+{
+    match blocks {
+        BlockChange::Keep => {}
+        BlockChange::Put { place, bytes, old } => {
+            value.put(Block { place, bytes })?;
+            if let Some(old) = old {
+                value.remove(old);
+            }
+        }
+        BlockChange::Delete { place } => value.remove(place),
+        BlockChange::Rewrite { place, bytes } => value.rewrite(place, bytes),
+    }
+    Ok(())
 }

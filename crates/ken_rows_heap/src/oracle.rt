@@ -11,7 +11,7 @@ pub(crate) struct Fixed {
 }
 
 impl Oracle for Fixed {
-    ghost telling = { record { clocks = λ _. None; words = λ _. None; origin = λ _. None; always = false } };
+    ghost telling = { record { clocks = λ _. None; words = λ _. None; answers = λ _. None; origin = λ _. None; always = false } };
 
     fn clock(&mut self) -> u64 {
         self.reading

@@ -2,19 +2,20 @@
 ghost use Rattle.std.specs.Prelude.{◌≡◌};
 
 use crate::row::{Answered, Row};
-use ken_model::{Actors, Facts, Input, Items, Kind, MAX_TEXT, Step};
+use ken_actors::{Actors, KindPlayer};
+use ken_model::{Facts, Input, Items, Kind, MAX_TEXT, Step};
 use ken_rows::RowFault;
 
 /// A run with heaps of one page and one input, for node 0.
 #[derive(Drop)]
 pub(crate) struct Run {
     nodes: u8,
-    actors: Actors<'static>,
+    actors: Actors<'static, KindPlayer>,
     ghost known: { actors.facts.nodes ≡ nodes },
 }
 
 impl Run {
-    /// KIND NODES TURNS TEXT. The facts are never given back, since the actors borrow them.
+    /// KIND NODES TURNS TEXT. The facts and the player are never given back, since the actors borrow them.
     pub(crate) fn start(row: &mut Row<'_, '_>) -> Result<Run, RowFault> {
         let kind = Kind::of(row.words.word()?).ok_or(RowFault::Usage)?;
         let nodes = row.words.within(1, 8)? as u8;
@@ -30,7 +31,9 @@ impl Run {
             turns,
             inputs: Items::new(vec![in row.alloc; Input { node: 0, text }]?),
         };
-        let actors = Actors::start(row.alloc, Box::leak(Box::new(row.alloc, facts)?))?;
+        let facts = Box::leak(Box::new(row.alloc, facts)?);
+        let player = Box::leak(Box::new(row.alloc, KindPlayer(kind))?);
+        let actors = Actors::start(row.alloc, facts, player)?;
         Ok(Run { nodes, actors })
     }
 
@@ -54,7 +57,7 @@ impl Run {
             row.put_text("out", &out.text)?;
         }
         if node < self.nodes {
-            row.put_value(self.actors.value(node))?;
+            row.put_value(&self.actors.value(node)?)?;
         }
         Ok(())
     }

@@ -11,20 +11,31 @@ use std::str::from_utf8;
 use std::sync::Wait;
 use std::thread::Threads;
 
-/// What is called.
-#[derive(Drop)]
-pub(crate) enum Work {
-    /// The program, with these words.
-    Program(Vec<String>),
-    /// A service.
+/// Which program is called.
+#[derive(Clone, Copy)]
+pub(crate) enum Program {
+    Ken,
     Ledger,
     Leases,
 }
 
-/// A call that is to be made, over a world in memory.
+impl Program {
+    /// The program of a name.
+    pub(crate) fn of(name: &[u8]) -> Option<Program> {
+        match name {
+            b"ken" => Some(Program::Ken),
+            b"ledger" => Some(Program::Ledger),
+            b"leases" => Some(Program::Leases),
+            _ => None,
+        }
+    }
+}
+
+/// A call that is to be made, with these words, over a world in memory.
 #[derive(Drop)]
 pub(crate) struct Asked {
-    pub(crate) work: Work,
+    pub(crate) program: Program,
+    pub(crate) words: Vec<String>,
     pub(crate) source: MemSource,
     pub(crate) sink: MemSink,
 }
@@ -41,15 +52,17 @@ pub(crate) struct Ran {
 /// Makes a call.
 pub(crate) fn make<R: Threads + Wait + Sync>(rt: &R, alloc: Global, asked: Asked) -> Ran {
     let Asked {
-        work,
+        program,
+        words,
         mut source,
         mut sink,
     } = asked;
     let mut world = MemWorld::new(alloc);
-    let status = match work {
-        Work::Program(words) => ken(rt, alloc, &words, &mut source, &mut sink, &mut world),
-        Work::Ledger => serve(rt, alloc, Ledger, &mut source, &mut sink, &mut world),
-        Work::Leases => serve(rt, alloc, Leases, &mut source, &mut sink, &mut world),
+    let (source_of, sink_of, over) = (&mut source, &mut sink, &mut world);
+    let status = match program {
+        Program::Ken => ken(rt, alloc, &words, source_of, sink_of, over),
+        Program::Ledger => serve(rt, alloc, Ledger, &words, source_of, sink_of, over),
+        Program::Leases => serve(rt, alloc, Leases, &words, source_of, sink_of, over),
     };
     Ran {
         status,

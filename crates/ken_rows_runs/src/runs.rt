@@ -1,6 +1,6 @@
 // What rows speak to.
-use crate::calls::{Asked, Ran, Work, push_words};
-use crate::scripts::{tell_command, tell_drawn, tell_list, tell_read};
+use crate::calls::{Asked, Program, Ran, push_words};
+use crate::scripts::{tell_command, tell_drawn, tell_list, tell_read, tell_tormented};
 use crate::streams::{Input, Stream};
 use ken_rows::{Answer, Layer, RowFault, Words};
 use ken_script::Script;
@@ -12,6 +12,7 @@ pub(crate) struct Runs {
     alloc: Global,
     // Makes calls. It holds the handle that they need.
     make: Box<dyn Fn(Asked) -> Ran + Drop>,
+    program: Program,
     input: Input,
     output: Stream,
     last: Option<Ran>,
@@ -28,6 +29,7 @@ impl Runs {
         Runs {
             alloc,
             make,
+            program: Program::Ken,
             input: Input::new(alloc),
             output: Stream::new(alloc),
             last: None,
@@ -35,28 +37,28 @@ impl Runs {
         }
     }
 
-    // Makes a call over the input.
-    fn make(&mut self, work: Work) -> Result<Ran, RowFault> {
-        let source = self.input.source()?;
-        let sink = self.output.sink(self.alloc)?;
-        let mut ran = (self.make)(Asked { work, source, sink });
-        self.input.keep(ran.source.take());
-        Ok(ran)
-    }
-
-    // Calls the program with the words of a row behind its name.
+    // Calls the program over the input, with the words of a row behind its name.
     fn call(&mut self, words: &mut Words<'_>) -> Result<Ran, RowFault> {
         let mut list = Vec::new(self.alloc);
         list.push(String::from_str(self.alloc, "ken")?)?;
         push_words(self.alloc, &mut list, words)?;
-        self.make(Work::Program(list))
+        let source = self.input.source()?;
+        let sink = self.output.sink(self.alloc)?;
+        let mut ran = (self.make)(Asked {
+            program: self.program,
+            words: list,
+            source,
+            sink,
+        });
+        self.input.keep(ran.source.take());
+        Ok(ran)
     }
 
-    // Runs a script, and checks the report.
-    fn run_and_check(&mut self) -> Result<Ran, RowFault> {
+    // Runs a script by these words, and checks the report.
+    fn run_and_check(&mut self, words: &[u8]) -> Result<Ran, RowFault> {
         let mut text = self.input.take();
         self.input.set(text.clone()?);
-        let ran = self.call(&mut Words::new(b"run"))?;
+        let ran = self.call(&mut Words::new(words))?;
         let words = format!(in self.alloc; "check {}", text.len())?;
         text.extend_from_slice(ran.sink.bytes())?;
         self.input.set(text);
@@ -70,15 +72,22 @@ impl Runs {
         words: &mut Words<'_>,
         answer: &mut Answer,
     ) -> Result<(), RowFault> {
-        if command != b"ken".as_slice() {
-            self.input.put(b"line", words)?;
-        }
         let ran = match command {
             b"ken" => self.call(words)?,
-            b"run" => self.call(&mut Words::new(command))?,
-            b"right" => self.run_and_check()?,
-            b"ledger" => self.make(Work::Ledger)?,
-            b"leases" => self.make(Work::Leases)?,
+            b"run" => {
+                self.input.put(b"line", words)?;
+                self.call(&mut Words::new(command))?
+            }
+            b"right" => {
+                self.input.put(b"line", words)?;
+                self.run_and_check(b"run")?
+            }
+            b"torment" => {
+                let seed = words.number()?;
+                self.input.put(b"line", words)?;
+                let words = format!(in self.alloc; "torment {seed}")?;
+                self.run_and_check(words.as_bytes())?
+            }
             _ => return Err(RowFault::Usage),
         };
         ran.tell(self.alloc, answer)?;
@@ -96,8 +105,12 @@ impl Layer for Runs {
     ) -> Result<(), RowFault> {
         match command {
             b"new" => {
+                self.program = Program::Ken;
                 self.input = Input::new(self.alloc);
                 self.output = Stream::new(self.alloc);
+            }
+            b"program" => {
+                self.program = Program::of(words.word()?).ok_or(RowFault::Usage)?;
             }
             b"text" | b"line" | b"bytes" | b"items" => self.input.put(command, words)?,
             b"source" => self.input.stream.set(self.alloc, words)?,
@@ -114,6 +127,7 @@ impl Layer for Runs {
                 self.script = tell_read(self.alloc, &self.input.take(), answer)?;
             }
             b"drawn" => self.script = Some(tell_drawn(self.alloc, words, answer)?),
+            b"tormented" => self.script = Some(tell_tormented(self.alloc, words, answer)?),
             b"list" => {
                 let script = self.script.as_ref().ok_or(RowFault::Usage)?;
                 tell_list(script, words, answer)?;

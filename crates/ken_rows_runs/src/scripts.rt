@@ -1,6 +1,6 @@
 // What scripts say, what numbers make, and what words ask for.
 use crate::calls::push_words;
-use ken_gen::{script_of, summary};
+use ken_gen::{script_of, summary, torment};
 use ken_model::{MAX_INPUTS, MAX_NODES, PAGE};
 use ken_net::{Act, LinkAct};
 use ken_rows::{Answer, RowFault, Words};
@@ -65,6 +65,12 @@ pub(crate) fn tell_list(
                 answer.end()?;
             }
         }
+        b"outlets" => {
+            for fail in script.outlets.as_slice() {
+                answer.numbers(&[u64::from(fail.node), fail.call])?;
+                answer.end()?;
+            }
+        }
         b"mail" => tell_acts(script.mail.as_slice(), answer)?,
         b"acks" => tell_acts(script.acks.as_slice(), answer)?,
         _ => return Err(RowFault::Usage),
@@ -98,6 +104,22 @@ pub(crate) fn tell_drawn(
     let script = script_of(alloc, seed, nodes, inputs, rounds)?;
     tell_script(&script, answer)?;
     answer.lines(summary(alloc, seed, nodes, inputs)?.as_slice())?;
+    Ok(script)
+}
+
+/// The script of the rest of a row with the faults of a seed. Answers what it says.
+pub(crate) fn tell_tormented(
+    alloc: Global,
+    words: &mut Words<'_>,
+    answer: &mut Answer,
+) -> Result<Script, RowFault> {
+    let seed = words.number()?;
+    let script = match read(alloc, words.rest()?) {
+        Ok(script) => torment(seed, script)?,
+        Err(ScriptFault::Memory) => return Err(RowFault::Memory),
+        Err(ScriptFault::Rule { .. }) => return Err(RowFault::Usage),
+    };
+    tell_script(&script, answer)?;
     Ok(script)
 }
 

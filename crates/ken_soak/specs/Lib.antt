@@ -1,2 +1,3 @@
 pub mod Totals
 pub mod Soaking
+pub mod Tormenting

@@ -8,21 +8,18 @@ use Rattle.std.proofs.KnownBytes.{Consumes-trans}
 use Rattle.ken_io.specs.Transfers.{TakesAtMost}
 use Rattle.ken_io.specs.declared.faults.ReadFault.{ReadFault}
 use Rattle.ken_io.specs.declared.faults.ReadFault.TheVariants as reading
-use Rattle.ken_model.specs.Game.{game_of}
 use Rattle.ken_script.specs.declared.scripts.Script.{Script}
 use Rattle.ken_script.specs.declared.faults.ScriptFault.{ScriptFault}
 use Rattle.ken_script.specs.declared.faults.ScriptFault.TheVariants as script
-use Rattle.ken_script.specs.Faults.{IsFaultOf}
-use Rattle.ken_script.specs.Says.{Says}
 use Rattle.ken_check.specs.declared.verdict.Verdict.{Verdict}
 use Rattle.ken_check.specs.declared.verdict.Verdict.TheVariants.{Right}
-use Rattle.ken_check.specs.Judged.{IsJudged}
 use Rattle.ken_top.specs.declared.checking.TheConstants.{MOST_INPUT}
 use Rattle.ken_top.specs.declared.status.Status.{Status}
 use Rattle.ken_top.specs.declared.status.Status.TheVariants as status
-use Rattle.ken_top.specs.Checked.{Checks, IsAffirmed, IsJudgedOf, IsRefused}
+use Rattle.ken_top.specs.Checked.{Checks, IsAffirmed, IsJudgedOf, IsJudgedTo, IsRefused}
 use Rattle.ken_top.specs.Headline.{AreTold}
 use Rattle.ken_top.specs.Pieces.{HasGivenThese, IsLong, IsReportJudged, IsReportRefused, IsRoomBehind, IsScriptRefused}
+use Rattle.ken_top.specs.Programs.{Program, SaysTo, IsFaultTo}
 use Rattle.ken_top.specs.Statuses.{of_reading, of_script}
 
 -- some bytes that a source may have given
@@ -31,12 +28,12 @@ some_told None = ([], tt)
 some_told (Some xs) = (xs, refl)
 
 -- nothing is said of what couldn't be read, nor where memory was short
-pub memory_refused : (size : ℕ) (left : Option (List ℕ)) → IsRefused size left status.Memory
-memory_refused size left = let b = some_told left in (b.0, b.1, refl)
+pub memory_refused : (program : Program) (size : ℕ) (left : Option (List ℕ)) → IsRefused program size left status.Memory
+memory_refused program size left = let b = some_told left in (b.0, b.1, refl)
 
-pub reading_refused : (size : ℕ) (left : Option (List ℕ)) (fault : ReadFault) → IsRefused size left (of_reading fault)
-reading_refused size left reading.Failed = let b = some_told left in (b.0, b.1, refl)
-reading_refused size left reading.Memory = memory_refused size left
+pub reading_refused : (program : Program) (size : ℕ) (left : Option (List ℕ)) (fault : ReadFault) → IsRefused program size left (of_reading fault)
+reading_refused program size left reading.Failed = let b = some_told left in (b.0, b.1, refl)
+reading_refused program size left reading.Memory = memory_refused program size left
 
 -- a source gave a script of at most so many bytes
 pub record HasGivenScript (size : ℕ) (old new : Option (List ℕ)) (text : List ℕ) : Type 0 where
@@ -114,7 +111,7 @@ long_told size (Some xs) (Some ys) (Some zs) text room parted long =
     let then : ys ≡ long.bytes ++ zs = long.given.given in
     (xs, refl, omega (arith, too_many size (Some xs) (Some ys) text room long.bytes parted long.some long.long, ap length given, ap length then, length-append text ys, length-append long.bytes zs, length-append text long.bytes))
 
-module _ (size : ℕ) (old mid new : Option (List ℕ)) (text : List ℕ) (room : ℕ) (parted : IsParted size old mid text room) where
+module _ (program : Program) (size : ℕ) (old mid new : Option (List ℕ)) (text : List ℕ) (room : ℕ) (parted : IsParted size old mid text room) where
   few_in_all : (rest : List ℕ) → length rest ≤ room - 1 → length (text ++ rest) ≤ MOST_INPUT
   few_in_all rest few = ⊎_elim
       (λ (short : length text < min size MOST_INPUT). omega (arith, few, parted.behind.ended short, length-append text rest))
@@ -122,7 +119,7 @@ module _ (size : ℕ) (old mid new : Option (List ℕ)) (text : List ℕ) (room 
       (cases_lt (length text) (min size MOST_INPUT))
 
   -- a report that was judged
-  pub judged_of : (s : Script) (verdict : Verdict) → Says text s → IsReportJudged s room mid new verdict → IsJudgedOf size old verdict
+  pub judged_of : (s : Script) (verdict : Verdict) → SaysTo program text s → IsReportJudged program s room mid new verdict → IsJudgedOf program size old verdict
   judged_of s verdict says is =
       let parts = script_of size old mid text room is.report parted is.few in
       record {
@@ -131,15 +128,15 @@ module _ (size : ℕ) (old mid new : Option (List ℕ)) (text : List ℕ) (room 
         judged = record {
           few = few_in_all is.report is.few;
           script = s;
-          says = subst (λ (b : List ℕ). Says b s) (sym parts.0) says;
-          judged = subst (λ (b : List ℕ). IsJudged (game_of s.facts) s.restarts b verdict) (sym parts.1) is.judged;
+          says = subst (λ (b : List ℕ). SaysTo program b s) (sym parts.0) says;
+          judged = subst (λ (b : List ℕ). IsJudgedTo program s b verdict) (sym parts.1) is.judged;
         };
       }
 
   -- one that wasn't
-  pub report_refused : (answer : Status) → IsReportRefused room mid new answer → IsRefused size old answer
-  report_refused status.Read is = reading_refused size old reading.Failed
-  report_refused status.Memory is = memory_refused size old
+  pub report_refused : (answer : Status) → IsReportRefused room mid new answer → IsRefused program size old answer
+  report_refused status.Read is = reading_refused program size old reading.Failed
+  report_refused status.Memory is = memory_refused program size old
   report_refused status.Long is = (let b = long_told size old mid new text room parted is in (b.0, b.1, (refl, b.2)))
   report_refused status.Settled is = absurd is
   report_refused status.Cut is = absurd is
@@ -151,24 +148,24 @@ module _ (size : ℕ) (old mid new : Option (List ℕ)) (text : List ℕ) (room 
   report_refused status.Checked is = absurd is
   report_refused (status.Wrong line) is = absurd is
 
-  by_fault : (fault : ScriptFault) (rest : List ℕ) → IsFaultOf text fault → HasGivenThese room mid new rest → length rest ≤ room - 1 → IsRefused size old (of_script fault)
+  by_fault : (fault : ScriptFault) (rest : List ℕ) → IsFaultTo program text fault → HasGivenThese room mid new rest → length rest ≤ room - 1 → IsRefused program size old (of_script fault)
   by_fault (script.Rule rule index) rest breaks given few =
       let parts = script_of size old mid text room rest parted few in
-      (text ++ rest, told_all size old mid new text room rest parted given few, (refl, few_in_all rest few, subst (λ (b : List ℕ). IsFaultOf b (script.Rule rule index)) (sym parts.0) breaks))
-  by_fault script.Memory rest breaks given few = memory_refused size old
+      (text ++ rest, told_all size old mid new text room rest parted given few, (refl, few_in_all rest few, subst (λ (b : List ℕ). IsFaultTo program b (script.Rule rule index)) (sym parts.0) breaks))
+  by_fault script.Memory rest breaks given few = memory_refused program size old
 
   -- and a script that breaks a rule
-  pub script_refused : (fault : ScriptFault) (answer : Status) → IsFaultOf text fault → IsScriptRefused fault room mid new answer → IsRefused size old answer
-  script_refused fault _ breaks IsScriptRefused.unread = reading_refused size old reading.Failed
+  pub script_refused : (fault : ScriptFault) (answer : Status) → IsFaultTo program text fault → IsScriptRefused fault room mid new answer → IsRefused program size old answer
+  script_refused fault _ breaks IsScriptRefused.unread = reading_refused program size old reading.Failed
   script_refused fault _ breaks (IsScriptRefused.long is) = report_refused status.Long is
   script_refused fault _ breaks (IsScriptRefused.faulty bytes given few) = by_fault fault bytes breaks given few
 
   -- what a judge of the report answers
-  pub judged_in : (s : Script) (r : Result Verdict Status) → Says text s → IfOk r (IsReportJudged s room mid new) → IfOk r (IsJudgedOf size old)
+  pub judged_in : (s : Script) (r : Result Verdict Status) → SaysTo program text s → IfOk r (IsReportJudged program s room mid new) → IfOk r (IsJudgedOf program size old)
   judged_in s (Ok verdict) says is = judged_of s verdict says is
   judged_in s (Err answer) says is = tt
 
-  pub refused_in : (r : Result Verdict Status) → IfErr r (IsReportRefused room mid new) → IfErr r (IsRefused size old)
+  pub refused_in : (r : Result Verdict Status) → IfErr r (IsReportRefused room mid new) → IfErr r (IsRefused program size old)
   refused_in (Ok verdict) is = tt
   refused_in (Err answer) is = report_refused answer is
 
@@ -184,16 +181,16 @@ module _ (size : ℕ) (old mid new : Option (List ℕ)) (text : List ℕ) (room 
   }
 
 -- a report that is right is told so
-pub checks_right : (size : ℕ) (left old new : Option (List ℕ)) (answer : Status) → IsJudgedOf size left Right → IsAffirmed old new answer → Checks size left old new answer
-checks_right size left old new status.Checked judged out = record { read = judged.read; written = _; told = judged.told; out = out; answers = (refl, judged.judged) }
-checks_right size left old new status.Write judged out = record { read = judged.read; written = out.front; told = judged.told; out = out.out; answers = ((out.rest, sym out.parts), judged.judged) }
-checks_right size left old new status.Settled judged out = absurd out
-checks_right size left old new status.Cut judged out = absurd out
-checks_right size left old new status.Usage judged out = absurd out
-checks_right size left old new (status.Script rule index) judged out = absurd out
-checks_right size left old new (status.Damaged v disk place) judged out = absurd out
-checks_right size left old new (status.Down v) judged out = absurd out
-checks_right size left old new status.Read judged out = absurd out
-checks_right size left old new status.Memory judged out = absurd out
-checks_right size left old new (status.Wrong line) judged out = absurd out
-checks_right size left old new status.Long judged out = absurd out
+pub checks_right : (program : Program) (size : ℕ) (left old new : Option (List ℕ)) (answer : Status) → IsJudgedOf program size left Right → IsAffirmed old new answer → Checks program size left old new answer
+checks_right program size left old new status.Checked judged out = record { read = judged.read; written = _; told = judged.told; out = out; answers = (refl, judged.judged) }
+checks_right program size left old new status.Write judged out = record { read = judged.read; written = out.front; told = judged.told; out = out.out; answers = ((out.rest, sym out.parts), judged.judged) }
+checks_right program size left old new status.Settled judged out = absurd out
+checks_right program size left old new status.Cut judged out = absurd out
+checks_right program size left old new status.Usage judged out = absurd out
+checks_right program size left old new (status.Script rule index) judged out = absurd out
+checks_right program size left old new (status.Damaged v disk place) judged out = absurd out
+checks_right program size left old new (status.Down v) judged out = absurd out
+checks_right program size left old new status.Read judged out = absurd out
+checks_right program size left old new status.Memory judged out = absurd out
+checks_right program size left old new (status.Wrong line) judged out = absurd out
+checks_right program size left old new status.Long judged out = absurd out

@@ -1,5 +1,6 @@
 mod Reported
 mod Complete
+mod Plain
 mod Texts
 mod Judging
 mod Coming

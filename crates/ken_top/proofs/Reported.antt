@@ -1,5 +1,5 @@
 -- The text of a run's lines is a report.
-use Rattle.std.proofs.Common.{◌≡◌, inl, inr, ℕ, ◌+◌, List, [], Option, Some, None, Err, IfSome, take, refl, sym, ap, subst, arith}
+use Rattle.std.proofs.Common.{◌≡◌, ◌∙◌, inl, inr, ℕ, ◌+◌, List, [], Option, Some, None, Err, IfSome, take, refl, sym, ap, subst, arith}
 use Rattle.std.proofs.KnownBytes.{Appends-nil}
 use Rattle.ken_io.specs.Transfers.{AppendsFront}
 use Rattle.ken_model.specs.declared.reports.Ending.{Ending}
@@ -23,6 +23,7 @@ use Rattle.ken_script.specs.Service.{IsServiceFaultOf}
 use Rattle.ken_script.specs.declared.faults.ScriptFault.{ScriptFault}
 use Rattle.ken_script.specs.declared.faults.ScriptFault.TheVariants as script
 use Rattle.ken_script.proofs.Told.{kinds_language, service_language}
+use Rattle.ken_gen.specs.Torments.{tormented}
 use Rattle.ken_check.specs.declared.verdict.Verdict.TheVariants.{Right}
 use Rattle.ken_check.specs.Judged.{IsJudged}
 use Rattle.ken_check.specs.Right.{AreRestartsSoFar}
@@ -39,29 +40,35 @@ use Rattle.ken_drive.specs.Worlds.{HasKeptNothing}
 use Rattle.ken_top.specs.declared.status.Status.{Status}
 use Rattle.ken_top.specs.declared.status.Status.TheVariants as status
 use Rattle.ken_top.specs.Statuses.{of_running, of_script}
-use Rattle.ken_top.specs.Headline.{AreTold, IsReport, IsFront, IsLet, IsQuiet, IsRunOfSource, IsRefusal, IsOut, Wrote, Ran}
+use Rattle.ken_top.specs.Headline.{AreTold, IsReport, IsFront, IsLet, IsQuiet, IsRunOfSource, IsRefusal, IsScriptOf, IsUnsaid, IsOut, Wrote, Ran}
 use Rattle.ken_model.specs.Handler.{Handler}
 use Rattle.ken_model.specs.Restarts.{AreRestartsByNode}
-use Rattle.ken_top.specs.Programs.{Program, SaysTo, BreaksTo, handler_in, game_in}
-use Rattle.ken_top.specs.Programs.{kinds, service}
+use Rattle.ken_model.specs.Kinds.{handler_of}
+use Rattle.ken_top.specs.Programs.{Program, IsTormented, SaysTo, BreaksTo, IsFaultTo, by_seed, drawn_by, handler_in, game_in}
+use Rattle.ken_top.specs.Programs.{kinds, service, torment}
+
+-- drawn faults leave a language one
+tormented_language : (Said : List ℕ → Script → Type 0) (breaks : List ℕ → ℕ → ℕ → Type 0) (seed : ℕ) → IsLanguage Said breaks → IsLanguage (IsTormented Said seed) breaks
+tormented_language Said breaks seed own = record {
+  breaks_by_front = own.breaks_by_front;
+  says_by_front = λ b s h. record { plain = h.plain; says = own.says_by_front b h.plain h.says; drawn = h.drawn };
+  says_or_breaks = λ b s rule index h broken. own.says_or_breaks b h.plain rule index h.says broken;
+  breaks_once = own.breaks_once;
+  says_once = λ b s s' h h'. h.drawn ∙ ap (tormented seed) (own.says_once b h.plain h'.plain h.says h'.says) ∙ sym h'.drawn;
+}
 
 -- what a text says to a program and which rule it breaks is a language
 pub language : (program : Program) → IsLanguage (SaysTo program) (BreaksTo program)
 language kinds = kinds_language
 language (service h) = service_language
+language (torment seed program) = tormented_language (SaysTo program) (BreaksTo program) seed (language program)
 
 -- the rule that a fault names is the one that the text breaks
-pub IsFaultTo : Program → List ℕ → ScriptFault → Type 0
-IsFaultTo program b (script.Rule rule index) = BreaksTo program b rule index
-IsFaultTo program b script.Memory = Unit {0}
-
 pub fault_of_kinds : (b : List ℕ) (fault : ScriptFault) → IsFaultOf b fault → IsFaultTo kinds b fault
-unfolding IsFaultTo
 fault_of_kinds b (script.Rule rule index) breaks = breaks
 fault_of_kinds b script.Memory breaks = tt
 
 pub fault_of_service : (h : Handler) (b : List ℕ) (fault : ScriptFault) → IsServiceFaultOf b fault → IsFaultTo (service h) b fault
-unfolding IsFaultTo
 fault_of_service h b (script.Rule rule index) breaks = breaks
 fault_of_service h b script.Memory breaks = tt
 
@@ -168,26 +175,82 @@ module _ {D O U : Type 0} (program : Program) (views : Views D O U) (kept : ℕ 
   ran_written left old new l status.Long run out = absurd out
 
   -- a refused script, as a refusal of what the source gives
-  pub refusal_by : (left : Option (List ℕ)) (read : List ℕ) (fault : ScriptFault) → IsTold program left read → IsFaultTo program read fault → HasKeptNothing kept → IsRefusal program views kept left (of_script fault)
-  unfolding IsFaultTo
-  refusal_by left read (script.Rule rule index) told broken none = (told.whole, told.told, told.breaks rule index broken, none)
-  refusal_by left read script.Memory told broken none = none
+  pub refusal_by : (left : Option (List ℕ)) (s : Status) → IsUnsaid program left s → HasKeptNothing kept → IsRefusal program views kept left s
+  refusal_by left (status.Script rule index) unsaid none = (unsaid.0, unsaid.1, unsaid.2, none)
+  refusal_by left status.Read unsaid none = none
+  refusal_by left status.Memory unsaid none = none
+  refusal_by left status.Settled unsaid none = absurd unsaid
+  refusal_by left status.Cut unsaid none = absurd unsaid
+  refusal_by left status.Usage unsaid none = absurd unsaid
+  refusal_by left status.Write unsaid none = absurd unsaid
+  refusal_by left (status.Damaged v disk place) unsaid none = absurd unsaid
+  refusal_by left (status.Down v) unsaid none = absurd unsaid
+  refusal_by left status.Checked unsaid none = absurd unsaid
+  refusal_by left (status.Wrong line) unsaid none = absurd unsaid
+  refusal_by left status.Long unsaid none = absurd unsaid
 
   -- a run that didn't go on, as a refusal of what the source gives
-  pub refusal_of-run : (left : Option (List ℕ)) (read : List ℕ) (s : Script) (fault : RunFault) → IsTold program left read → SaysTo program read s → DrivesBy views (handler_in program s) s kept (Err fault) → IsRefusal program views kept left (of_running fault)
-  refusal_of-run left read s (running.Damaged v disk place) told says driven = absurd driven
-  refusal_of-run left read s (running.Down v) told says down = (told.whole, told.told, record { script = s; says = told.says s says; down = down })
-  refusal_of-run left read s running.Memory told says none = none
+  down_of-run : (left : Option (List ℕ)) (s : Script) (fault : RunFault) → IsScriptOf program left s → DrivesBy views (handler_in program s) s kept (Err fault) → IsRefusal program views kept left (of_running fault)
+  down_of-run left s (running.Damaged v disk place) said driven = absurd driven
+  down_of-run left s (running.Down v) said down = (said.read, said.told, record { script = s; says = said.says; down = down })
+  down_of-run left s running.Memory said none = none
+
+  pub refusal_of-run : (left : Option (List ℕ)) (s : Script) (fault : RunFault) (h : Handler) → handler_in program s ≡ h → IsScriptOf program left s → DrivesBy views h s kept (Err fault) → IsRefusal program views kept left (of_running fault)
+  refusal_of-run left s fault h same said driven = down_of-run left s fault said (subst (λ (own : Handler). DrivesBy views own s kept (Err fault)) (sym same) driven)
 
   -- a script that was run, as what the source gives
-  pub run_by : (left : Option (List ℕ)) (read : List ℕ) (s : Script) (l : Lines) → IsTold program left read → SaysTo program read s → HasDriven views (handler_in program s) s kept l → IsRunOfSource program views kept left l
-  run_by left read s l told says driven = record { read = told.whole; told = told.told; script = s; says = told.says s says; driven = driven }
+  pub run_by : (left : Option (List ℕ)) (s : Script) (l : Lines) (h : Handler) → handler_in program s ≡ h → IsScriptOf program left s → HasDriven views h s kept l → IsRunOfSource program views kept left l
+  run_by left s l h same said driven = record { read = said.read; told = said.told; script = s; says = said.says; driven = subst (λ (own : Handler). HasDriven views own s kept l) (sym same) driven }
 
 -- the node that is down in a run is one that what the source gives lets go down
-pub let_of-run : (program : Program) (left : Option (List ℕ)) (read : List ℕ) (s : Script) (fault : RunFault) → IsTold program left read → SaysTo program read s → IsLetBy s fault → IsLet program left (of_running fault)
-let_of-run program left read s (running.Damaged v disk place) told says lets = absurd lets
-let_of-run program left read s (running.Down v) told says lets = record { read = told.whole; told = told.told; script = s; says = told.says s says; lets = lets }
-let_of-run program left read s running.Memory told says lets = tt
+pub let_of-run : (program : Program) (left : Option (List ℕ)) (s : Script) (fault : RunFault) → IsScriptOf program left s → IsLetBy s fault → IsLet program left (of_running fault)
+let_of-run program left s (running.Damaged v disk place) said lets = absurd lets
+let_of-run program left s (running.Down v) said lets = record { read = said.read; told = said.told; script = s; says = said.says; lets = lets }
+let_of-run program left s running.Memory said lets = tt
+
+-- where there is no script no node is told as down
+pub let_unsaid : (program : Program) (left : Option (List ℕ)) (s : Status) → IsUnsaid program left s → IsLet program left s
+let_unsaid program left (status.Down v) unsaid = absurd unsaid
+let_unsaid program left (status.Script rule index) unsaid = tt
+let_unsaid program left status.Read unsaid = tt
+let_unsaid program left status.Memory unsaid = tt
+let_unsaid program left status.Settled unsaid = tt
+let_unsaid program left status.Cut unsaid = tt
+let_unsaid program left status.Usage unsaid = tt
+let_unsaid program left status.Write unsaid = tt
+let_unsaid program left (status.Damaged v disk place) unsaid = tt
+let_unsaid program left status.Checked unsaid = tt
+let_unsaid program left (status.Wrong line) unsaid = tt
+let_unsaid program left status.Long unsaid = tt
+
+-- a seed breaks no rule
+breaks_by : (seed : Option ℕ) (program : Program) (b : List ℕ) (rule index : ℕ) → BreaksTo program b rule index → BreaksTo (by_seed seed program) b rule index
+breaks_by None program b rule index broken = broken
+breaks_by (Some n) program b rule index broken = broken
+
+pub unsaid_by : (seed : Option ℕ) (program : Program) (left : Option (List ℕ)) (read : List ℕ) (fault : ScriptFault) → IfSome left (λ xs. read ≡ take (LIMIT + 1) xs) → IsFaultTo program read fault → IsUnsaid (by_seed seed program) left (of_script fault)
+unsaid_by seed program left read (script.Rule rule index) front broken =
+    let told = told_by program left read front in
+    (told.whole, told.told, breaks_by seed program told.whole rule index (told.breaks rule index broken))
+unsaid_by seed program left read script.Memory front broken = tt
+
+-- a script, as what the source gives, with the faults of a seed where there is one
+pub script_by : (seed : Option ℕ) (program : Program) (left : Option (List ℕ)) (read : List ℕ) (plain script : Script) → IfSome left (λ xs. read ≡ take (LIMIT + 1) xs) → SaysTo program read plain → script ≡ drawn_by seed plain → IsScriptOf (by_seed seed program) left script
+script_by None program left read plain script front says drawn =
+    let told = told_by program left read front in
+    record { read = told.whole; told = told.told; says = subst (SaysTo program told.whole) (sym drawn) (told.says plain says) }
+script_by (Some n) program left read plain script front says drawn =
+    let told = told_by program left read front in
+    record { read = told.whole; told = told.told; says = record { plain = plain; says = told.says plain says; drawn = drawn } }
+
+-- the handler of the kinds under a seed, and of a service
+pub handler_of_kinds : (seed : Option ℕ) (s : Script) → handler_in (by_seed seed kinds) s ≡ handler_of s.facts.kind
+handler_of_kinds None s = refl
+handler_of_kinds (Some n) s = refl
+
+pub handler_of_service : (seed : Option ℕ) (h : Handler) (s : Script) → handler_in (by_seed seed (service h)) s ≡ h
+handler_of_service None h s = refl
+handler_of_service (Some n) h s = refl
 
 -- a status with which nothing is written tells of no report
 pub out_is_told : (old new : Option (List ℕ)) (l : Lines) (s : Status) → IsOut old new l s → IsQuiet s → ⊥

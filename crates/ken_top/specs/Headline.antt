@@ -104,6 +104,21 @@ module _ {D O U : Type 0} (program : Program) (views : Views D O U) (kept : ℕ 
   IsRefusal left (status.Wrong line) = ⊥
   IsRefusal left status.Long = ⊥
 
+-- ---- on the way to it
+
+-- the script that the bytes of a source say
+pub record IsScriptOf (program : Program) (left : Option (List ℕ)) (script : Script) : Type 0 where
+  pub read : List ℕ
+  pub told : AreTold left read
+  pub says : SaysTo program read script
+
+-- why there is none
+abbrev pub IsUnsaid : Program → Option (List ℕ) → Status → Type 0
+IsUnsaid program left (status.Script rule index) = (b : List ℕ) × AreTold left b × BreaksTo program b rule index
+IsUnsaid program left status.Read = ⊤
+IsUnsaid program left status.Memory = ⊤
+IsUnsaid program left _ = ⊥
+
 -- what was read says a script that lets node v go down
 pub record IsLetDown (program : Program) (left : Option (List ℕ)) (v : ℕ) : Type 0 where
   pub read : List ℕ

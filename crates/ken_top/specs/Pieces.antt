@@ -1,13 +1,15 @@
 -- What is read of the input of a check, piece by piece, and what is answered of it.
 use Rattle.std.specs.Prelude.{◌≡◌, ℕ, ◌+◌, ◌-◌, ◌<◌, ◌≤◌, List, ◌++◌, length, Option, ⊤}
 use Rattle.std.specs.Io.KnownBytes.{Consumes, IsAtEnd}
-use Rattle.ken_model.specs.Game.{Game, game_of}
+use Rattle.ken_model.specs.Game.{Game}
+use Rattle.ken_model.specs.Handler.{Handler}
 use Rattle.ken_script.specs.declared.faults.ScriptFault.{ScriptFault}
 use Rattle.ken_script.specs.declared.scripts.Script.{Script}
 use Rattle.ken_check.specs.declared.judging.Judging.{Judging}
 use Rattle.ken_check.specs.declared.verdict.Verdict.{Verdict}
 use Rattle.ken_check.specs.Incoming.{HasRead}
-use Rattle.ken_check.specs.Judged.{IsJudged}
+use Rattle.ken_top.specs.Checked.{IsJudgedTo}
+use Rattle.ken_top.specs.Programs.{Program}
 use Rattle.ken_top.specs.Statuses.{of_script}
 use Rattle.ken_top.specs.declared.checking.TheConstants.{MOST_INPUT}
 use Rattle.ken_top.specs.declared.status.Status.{Status}
@@ -25,11 +27,11 @@ pub record HasCome (old new : Option (List ℕ)) (count : ℕ) : Type 0 where
   pub counted : length bytes ≡ count
 
 -- and they were judged
-pub record HasJudged (old new : Option (List ℕ)) (before now : Judging) (count : ℕ) : Type 0 where
+pub record HasJudged {P H : Type 0} (handler : P → Handler) (old new : Option (List ℕ)) (before now : Judging P H) (count : ℕ) : Type 0 where
   pub bytes : List ℕ
   pub given : Consumes old new bytes
   pub counted : length bytes ≡ count
-  pub judged : (g : Game) (most : ℕ) (seen : List ℕ) → HasRead g most seen before → HasRead g most (seen ++ bytes) now
+  pub judged : (g : Game) (most : ℕ) (seen : List ℕ) → HasRead handler g most seen before → HasRead handler g most (seen ++ bytes) now
 
 -- how many bytes are to be read behind a script of so many, where `size` were asked for: none where the input has ended, and else all that
 -- may be checked, and one
@@ -38,11 +40,11 @@ pub record IsRoomBehind (count size room : ℕ) : Type 0 where
   pub open_yet : size ≤ count → room + count ≡ MOST_INPUT + 1
 
 -- what was left is a report of a run of this script, which is judged so, and doesn't take all the room
-pub record IsReportJudged (script : Script) (room : ℕ) (old new : Option (List ℕ)) (verdict : Verdict) : Type 0 where
+pub record IsReportJudged (program : Program) (script : Script) (room : ℕ) (old new : Option (List ℕ)) (verdict : Verdict) : Type 0 where
   pub report : List ℕ
   pub given : HasGivenThese room old new report
   pub few : length report ≤ room - 1
-  pub judged : IsJudged (game_of script.facts) script.restarts report verdict
+  pub judged : IsJudgedTo program script report verdict
 
 -- it takes all the room
 pub record IsLong (room : ℕ) (old new : Option (List ℕ)) : Type 0 where

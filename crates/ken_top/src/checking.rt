@@ -3,14 +3,15 @@ ghost use Rattle.std.specs.Prelude.{◌≡◌, ◌≢◌, ◌+◌, ◌<◌, ◌�
 ghost use Rattle.std.specs.Bool.{Decides};
 ghost use Rattle.ken_io.specs.Causes.{Rose};
 ghost use Rattle.ken_io.specs.Transfers.{TakesAtMost};
-ghost use Rattle.ken_model.specs.Game.{game_of};
-ghost use Rattle.ken_model.specs.Limits.{IsWithinLimits};
+ghost use Rattle.ken_script.specs.Within.{KeepsRules};
 ghost use Rattle.ken_top.specs.Checked.{Checks, IsAffirmed, IsJudgedOf, IsRefused};
 ghost use Rattle.ken_top.specs.Headline.{HasCauses, IsQuiet};
 ghost use Rattle.ken_top.specs.Pieces.{IsReportJudged, IsReportRefused, IsRoomBehind, IsScriptRefused};
 
+use crate::cast::Cast;
 use crate::incoming::{let_go, read_front, read_report};
 use crate::status::Status;
+use ken_actors::kinds_are_decided;
 use ken_check::{Judging, Verdict};
 use ken_io::{Sink, Source, write_all};
 use ken_script::{Script, ScriptFault};
@@ -21,18 +22,19 @@ pub const MOST_INPUT: usize = 268_435_456;
 
 /// Reads a script of `length` bytes, fewer where the source ends sooner, and a report behind it, and says whether each line of the report
 /// is right for the script. The report is held against the script's run as it comes in, and let go.
-pub(crate) fn checked<S: Source, K: Sink>(
+pub(crate) fn checked<C: Cast + Drop, S: Source, K: Sink>(
+    cast: C,
     alloc: Global,
     length: usize,
     source: &mut S,
     sink: &mut K,
 ) -> Status
-    ensures checks { Checks length (S.left source.old) (K.took sink.old) (K.took sink.new) result }
+    ensures checks { Checks (C.program cast) length (S.left source.old) (K.took sink.old) (K.took sink.new) result }
     ensures causes { HasCauses (S.faults source.old) (S.faults source.new) (K.faults sink.old) (K.faults sink.new) result }
     ensures taken { TakesAtMost (MOST_INPUT + 1) (S.left source.old) (S.left source.new) }
     ensures unwritten { IsQuiet result → sink.new ≡ sink.old }
 {
-    match judged(alloc, length, source) {
+    match judged(cast, alloc, length, source) {
         Ok(Verdict::Right) => affirmed(sink),
         Ok(Verdict::Wrong { line }) => Status::Wrong { line },
         Err(status) => status,
@@ -40,9 +42,14 @@ pub(crate) fn checked<S: Source, K: Sink>(
 }
 
 /// Reads a script and a report, and judges the report.
-fn judged<S: Source>(alloc: Global, length: usize, source: &mut S) -> Result<Verdict, Status>
-    ensures judged { IfOk result (IsJudgedOf length (S.left source.old)) }
-    ensures refused { IfErr result (IsRefused length (S.left source.old)) }
+fn judged<C: Cast + Drop, S: Source>(
+    cast: C,
+    alloc: Global,
+    length: usize,
+    source: &mut S,
+) -> Result<Verdict, Status>
+    ensures judged { IfOk result (IsJudgedOf (C.program cast) length (S.left source.old)) }
+    ensures refused { IfErr result (IsRefused (C.program cast) length (S.left source.old)) }
     ensures unwritten { IsErrOf result Status.Write → ⊥ }
     ensures read { IsErrOf result Status.Read → Rose (S.faults source.old) (S.faults source.new) }
     ensures no_failed_read { (IsErrOf result Status.Read → ⊥) → S.faults source.new ≡ S.faults source.old }
@@ -52,8 +59,8 @@ fn judged<S: Source>(alloc: Global, length: usize, source: &mut S) -> Result<Ver
     let size = length.min(MOST_INPUT);
     let text = read_front(alloc, source, size)?;
     let room = room_behind(text.len(), size);
-    match ken_script::read(alloc, text.as_slice()) {
-        Ok(script) => report_judged(alloc, &script, source, room),
+    match cast.read(alloc, text.as_slice()) {
+        Ok(script) => report_judged(cast, alloc, &script, source, room),
         Err(fault) => Err(refused(source, room, fault)),
     }
 }
@@ -72,22 +79,25 @@ fn room_behind(count: usize, size: usize) -> usize
 }
 
 /// Judges the report that is left, for a script that keeps its rules. One that takes all the room is too long.
-fn report_judged<S: Source>(
+fn report_judged<C: Cast + Drop, S: Source>(
+    cast: C,
     alloc: Global,
     script: &Script,
     source: &mut S,
     room: usize,
 ) -> Result<Verdict, Status>
-    requires limits { IsWithinLimits (game_of script.now.facts) }
+    requires rules { KeepsRules script.now }
     requires few { room ≤ MOST_INPUT + 1 }
-    ensures judged { IfOk result (IsReportJudged script.now room (S.left source.old) (S.left source.new)) }
+    ensures judged { IfOk result (IsReportJudged (C.program cast) script.now room (S.left source.old) (S.left source.new)) }
     ensures refused { IfErr result (IsReportRefused room (S.left source.old) (S.left source.new)) }
     ensures read { IsErrOf result Status.Read → Rose (S.faults source.old) (S.faults source.new) }
     ensures no_failed_read { (IsErrOf result Status.Read → ⊥) → S.faults source.new ≡ S.faults source.old }
     ensures taken { TakesAtMost room (S.left source.old) (S.left source.new) }
     ensures faults { S.faults source.old ≤ S.faults source.new }
 {
-    let mut judging = Judging::new(alloc, &script.facts, script.restarts)?;
+    kinds_are_decided();
+    let player = cast.player(script);
+    let mut judging = Judging::new(alloc, &player, &script.facts, script.restarts)?;
     let count = read_report(source, room, &mut judging)?;
     if is_long(count, room) {
         return Err(Status::Long);

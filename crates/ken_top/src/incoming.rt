@@ -6,6 +6,7 @@ ghost use Rattle.ken_io.specs.Causes.{HasCause, HasReadCause};
 ghost use Rattle.ken_io.specs.Transfers.{TakesAtMost};
 ghost use Rattle.ken_top.specs.Pieces.{HasCome, HasJudged};
 
+use ken_actors::Player;
 use ken_check::Judging;
 use ken_io::{Failed, ReadFault, Source, read_all};
 use ken_model::Octets;
@@ -33,13 +34,13 @@ pub(crate) fn read_front<S: Source>(
 }
 
 /// Reads a report to its end, or `room` bytes of it where there are more, and has them judged. Answers how many came.
-pub(crate) fn read_report<S: Source>(
+pub(crate) fn read_report<P: Player, S: Source>(
     source: &mut S,
     room: usize,
-    judging: &mut Judging,
+    judging: &mut Judging<'_, P>,
 ) -> Result<usize, ReadFault>
-    requires under_way { IsUnderWay judging.old }
-    ensures judged { IfOk result (HasJudged (S.left source.old) (S.left source.new) judging.old judging.new) }
+    requires under_way { IsUnderWay P.handler judging.old }
+    ensures judged { IfOk result (HasJudged P.handler (S.left source.old) (S.left source.new) judging.old judging.new) }
     ensures ended { IfOk result (λ count. count < room → IsAtEnd (S.left source.new)) }
     ensures few { IfOk result (λ count. count ≤ room) }
     ensures taken { TakesAtMost room (S.left source.old) (S.left source.new) }
@@ -59,15 +60,15 @@ pub(crate) fn read_report<S: Source>(
 }
 
 /// Reads a piece of a report, and has it judged. Answers how many bytes came: none only at the end.
-fn judge_piece<S: Source>(
+fn judge_piece<P: Player, S: Source>(
     source: &mut S,
     piece: &mut [u8],
-    judging: &mut Judging,
+    judging: &mut Judging<'_, P>,
 ) -> Result<usize, ReadFault>
     requires some { 0 < length piece.old }
-    requires under_way { IsUnderWay judging.old }
-    ensures judged { IfOk result (HasJudged (S.left source.old) (S.left source.new) judging.old judging.new) }
-    ensures under_way { OnOk result (IsUnderWay judging.new) }
+    requires under_way { IsUnderWay P.handler judging.old }
+    ensures judged { IfOk result (HasJudged P.handler (S.left source.old) (S.left source.new) judging.old judging.new) }
+    ensures under_way { OnOk result (IsUnderWay P.handler judging.new) }
     ensures ended { result ≡ Ok 0 → IsAtEnd (S.left source.new) }
     ensures few { IfOk result (λ count. count ≤ length piece.old) }
     ensures taken { TakesAtMost (length piece.old) (S.left source.old) (S.left source.new) }

@@ -2,8 +2,11 @@
 //! its report written; or a report is checked; or a script is made of a seed, and its run summed up.
 #![tactic(auto)]
 
+mod cast;
 mod checking;
 mod incoming;
+mod kinds;
+mod running;
 mod service;
 mod soaking;
 mod status;

@@ -1,4 +1,4 @@
-//! Runs of the program over worlds of the tests' own, and streams of the tests' own as its source and sink.
+//! Runs of the program over worlds of the tests' own, and streams of the tests' own as its source and sink; and services on trial.
 #![tactic(auto)]
 
 #[cfg(test)]
@@ -9,3 +9,5 @@ mod meeting;
 mod own_world;
 #[cfg(test)]
 mod streams;
+#[cfg(test)]
+mod trials;

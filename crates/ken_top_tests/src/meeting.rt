@@ -81,7 +81,7 @@ struct MeetingLuck {
 impl Oracle for MeetingLuck {
     ghost use Rattle.std.specs.Prelude.{None, false};
 
-    ghost telling = { record { clocks = λ o. None; words = λ o. None; origin = λ o. None; always = false } };
+    ghost telling = { record { clocks = λ o. None; words = λ o. None; answers = λ o. None; origin = λ o. None; always = false } };
 
     fn clock(&mut self) -> u64 {
         if let Some(place) = self.place.take() {

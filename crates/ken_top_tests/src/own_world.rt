@@ -92,7 +92,7 @@ struct OwnLuck {
 impl Oracle for OwnLuck {
     ghost use Rattle.std.specs.Prelude.{None, false};
 
-    ghost telling = { record { clocks = λ o. None; words = λ o. None; origin = λ o. None; always = false } };
+    ghost telling = { record { clocks = λ o. None; words = λ o. None; answers = λ o. None; origin = λ o. None; always = false } };
 
     fn clock(&mut self) -> u64 {
         self.reading

@@ -137,7 +137,8 @@ no_name (x ∷ xs) digits =
     let run : (114 == x) ≡ false = ne_eqb 114 x (λ e. omega (arith, high, e)) in
     let check : (99 == x) ≡ false = ne_eqb 99 x (λ e. omega (arith, high, e)) in
     let soak : (115 == x) ≡ false = ne_eqb 115 x (λ e. omega (arith, high, e)) in
-    rw (run, check, soak) refl
+    let torment : (116 == x) ≡ false = ne_eqb 116 x (λ e. omega (arith, high, e)) in
+    rw (run, check, torment, soak) refl
 
 no_names : (words : List Text) → AreDigits words → AllByRecursion (λ word. met word ≡ None) words
 no_names [] digits = tt

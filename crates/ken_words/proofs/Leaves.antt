@@ -1,4 +1,4 @@
--- The three subcommands as a parse has them, and what `clap` makes of words of digits after `run` and `check`.
+-- The four subcommands as a parse has them, and what `clap` makes of words of digits after `run`, `check` and `torment`.
 use Rattle.std.proofs.Common.{◌≡◌, ◌∙◌, false, refl, ap, ap₂, List, [], ◌∷◌, Some, codes}
 use Rattle.std.specs.List.{fold}
 use Rattle.clap.specs.Words.{App, Kinds, Shape, Text, first_of}
@@ -7,11 +7,11 @@ use Rattle.clap.specs.Simple.{built_leaf, inherited, marked_built, with_leaf_not
 use Rattle.clap.specs.Faults.{check_fault, defaults_fault, level_fault, settle_fault, walk_fault}
 use Rattle.clap.specs.Kinds.{or_else}
 use Rattle.clap.specs.declared.error.kind.ErrorKind.TheVariants.{MissingRequiredArgument, UnknownArgument}
-use Rattle.ken_words.specs.Parser.{check, ken, run, soak}
+use Rattle.ken_words.specs.Parser.{check, ken, run, soak, torment}
 use Rattle.ken_words.proofs.Digits.{IsDigits}
 use Rattle.ken_words.proofs.Walks.{at, digits_fault, digits_fold, next}
 
--- ---- the three subcommands, as a parse has them
+-- ---- the four subcommands, as a parse has them
 
 abbrev leaf : App → Shape
 leaf a = built_leaf (inherited (with_leaf_noted (marked_built ken.top)) a.top)
@@ -21,6 +21,9 @@ run_leaf = leaf run
 
 abbrev pub check_leaf : Shape
 check_leaf = leaf check
+
+abbrev pub torment_leaf : Shape
+torment_leaf = leaf torment
 
 abbrev pub soak_leaf : Shape
 soak_leaf = leaf soak
@@ -45,13 +48,13 @@ run_more a rest p = ap (ended run_leaf (fold (walked [] []) (at nothing_held 1) 
 
 -- ---- `check`
 
-abbrev one : Text → Walk
-one a = next check_leaf (at nothing_held 1) a
+abbrev length_walk : Text → Walk
+length_walk a = next check_leaf (at nothing_held 1) a
 
-check_walk : (a : Text) (rest : List Text) → IsDigits a → fold (walked check_leaf.rules []) (at nothing_held 1) (a ∷ rest) ≡ fold (walked check_leaf.rules []) (one a) rest
+check_walk : (a : Text) (rest : List Text) → IsDigits a → fold (walked check_leaf.rules []) (at nothing_held 1) (a ∷ rest) ≡ fold (walked check_leaf.rules []) (length_walk a) rest
 check_walk a rest p = digits_fold check_leaf nothing_held 1 a rest p
 
-check_way : (a : Text) (rest : List Text) → IsDigits a → walk_fault check_leaf [] (at nothing_held 1) (a ∷ rest) ≡ walk_fault check_leaf [] (one a) rest
+check_way : (a : Text) (rest : List Text) → IsDigits a → walk_fault check_leaf [] (at nothing_held 1) (a ∷ rest) ≡ walk_fault check_leaf [] (length_walk a) rest
 check_way a rest p = digits_fault check_leaf nothing_held 1 a rest p
 
 pub check_0 : faults check_leaf [] ≡ MissingRequiredArgument ∷ []
@@ -68,4 +71,31 @@ check_rows a p = ap (λ (w : Walk). first_of (codes "LENGTH") (finished check_le
 pub check_more : (a b : Text) (rest : List Text) → IsDigits a → IsDigits b → faults check_leaf (a ∷ b ∷ rest) ≡ UnknownArgument ∷ []
 check_more a b rest p q =
     ap (ended check_leaf (fold (walked check_leaf.rules []) (at nothing_held 1) (a ∷ b ∷ rest)))
-    (check_way a (b ∷ rest) p ∙ digits_fault check_leaf (one a).held 2 b rest q)
+    (check_way a (b ∷ rest) p ∙ digits_fault check_leaf (length_walk a).held 2 b rest q)
+
+-- ---- `torment`
+
+abbrev seed_walk : Text → Walk
+seed_walk a = next torment_leaf (at nothing_held 1) a
+
+torment_walk : (a : Text) (rest : List Text) → IsDigits a → fold (walked torment_leaf.rules []) (at nothing_held 1) (a ∷ rest) ≡ fold (walked torment_leaf.rules []) (seed_walk a) rest
+torment_walk a rest p = digits_fold torment_leaf nothing_held 1 a rest p
+
+torment_way : (a : Text) (rest : List Text) → IsDigits a → walk_fault torment_leaf [] (at nothing_held 1) (a ∷ rest) ≡ walk_fault torment_leaf [] (seed_walk a) rest
+torment_way a rest p = digits_fault torment_leaf nothing_held 1 a rest p
+
+pub torment_0 : faults torment_leaf [] ≡ MissingRequiredArgument ∷ []
+unfolding walk_fault defaults_fault
+torment_0 = refl
+
+pub torment_1 : (a : Text) → IsDigits a → faults torment_leaf (a ∷ []) ≡ []
+unfolding walk_fault defaults_fault
+torment_1 a p = ap₂ (ended torment_leaf) (torment_walk a [] p) (torment_way a [] p)
+
+pub torment_rows : (a : Text) → IsDigits a → first_of (codes "SEED") (rows_after torment_leaf.rules [] (a ∷ [])) ≡ Some a
+torment_rows a p = ap (λ (w : Walk). first_of (codes "SEED") (finished torment_leaf.rules w.held)) (torment_walk a [] p)
+
+pub torment_more : (a b : Text) (rest : List Text) → IsDigits a → IsDigits b → faults torment_leaf (a ∷ b ∷ rest) ≡ UnknownArgument ∷ []
+torment_more a b rest p q =
+    ap (ended torment_leaf (fold (walked torment_leaf.rules []) (at nothing_held 1) (a ∷ b ∷ rest)))
+    (torment_way a (b ∷ rest) p ∙ digits_fault torment_leaf (seed_walk a).held 2 b rest q)

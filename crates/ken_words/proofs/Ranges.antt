@@ -1,5 +1,5 @@
 -- The numbers of each command that words ask for are in range.
-use Rattle.std.proofs.Common.{◌≡◌, ◌≤◌, ◌&&◌, ℕ, Bool, cond, true, false, refl, List, [], ◌∷◌, Option, Some, None, option_map, nat_le, leb-true}
+use Rattle.std.proofs.Common.{◌≡◌, ◌≤◌, ◌-◌, ◌^◌, ◌&&◌, ℕ, Bool, cond, true, false, refl, List, [], ◌∷◌, Option, Some, None, option_map, nat_le, leb-true, arith}
 use Rattle.std.specs.Prelude.{IfSome, codes}
 use Rattle.std.specs.Str.{bytes_eq}
 use Rattle.clap.proofs.WalkLemmas.{both}
@@ -7,7 +7,7 @@ use Rattle.ken_num.specs.Numbers.{value_from}
 use Rattle.ken_model.specs.declared.facts.TheConstants.{MAX_INPUTS, MAX_NODES}
 use Rattle.ken_script.specs.declared.scripts.TheConstants.{LIMIT, MAX_ROUNDS}
 use Rattle.ken_words.specs.declared.commands.Command.{Command}
-use Rattle.ken_words.specs.declared.commands.Command.TheVariants.{Run, Check}
+use Rattle.ken_words.specs.declared.commands.Command.TheVariants.{Run, Check, Torment}
 use Rattle.ken_words.specs.Commands.{inputs_in, length_in, nodes_in, rounds_in, seed_in, soak_of}
 use Rattle.ken_words.specs.Fits.{CommandsFit, Fits}
 use Rattle.ken_words.specs.Numbers.{is_number, number_in}
@@ -32,6 +32,10 @@ check_fits : (o : Option ℕ) → InRange 0 LIMIT o → IfSome (option_map Check
 check_fits None h = tt
 check_fits (Some n) h = h.1
 
+torment_fits : (o : Option ℕ) → InRange 0 (2 ^ 64 - 1) o → IfSome (option_map Torment o) Fits
+torment_fits None h = tt
+torment_fits (Some n) h = omega (arith, h.1)
+
 soak_fits : (a b c d : Option ℕ) → InRange 1 MAX_NODES b → InRange 0 MAX_INPUTS c → InRange 0 MAX_ROUNDS d → IfSome (soak_of a b c d) Fits
 soak_fits None b c d h k l = tt
 soak_fits (Some seed) None c d h k l = tt
@@ -39,16 +43,23 @@ soak_fits (Some seed) (Some nodes) None d h k l = tt
 soak_fits (Some seed) (Some nodes) (Some inputs) None h k l = tt
 soak_fits (Some seed) (Some nodes) (Some inputs) (Some rounds) h k l = (h.0, h.1, k.1, l.1)
 
+if_named_else : (b : Bool) (o other : Option Command) → IfSome o Fits → IfSome other Fits → IfSome (cond b o other) Fits
+if_named_else true o other h k = h
+if_named_else false o other h k = k
+
 if_named : (b : Bool) (o : Option Command) → IfSome o Fits → IfSome (cond b o None) Fits
-if_named true o h = h
-if_named false o h = tt
+if_named b o h = if_named_else b o None h tt
 
 pub commands_fit : CommandsFit
 commands_fit [] = tt
 commands_fit (name ∷ []) = tt
 commands_fit (name ∷ word ∷ []) = if_named (bytes_eq word (codes "run")) (Some Run) tt
 commands_fit (name ∷ word ∷ number ∷ []) =
-    if_named (bytes_eq word (codes "check")) (option_map Check (length_in number)) (check_fits (length_in number) (in_range 0 LIMIT number))
+    let seed = seed_in number in
+    let or_torment : Option Command = cond (bytes_eq word (codes "torment")) (option_map Torment seed) None in
+    if_named_else (bytes_eq word (codes "check")) (option_map Check (length_in number)) or_torment
+    (check_fits (length_in number) (in_range 0 LIMIT number))
+    (if_named (bytes_eq word (codes "torment")) (option_map Torment seed) (torment_fits seed (in_range 0 (2 ^ 64 - 1) number)))
 commands_fit (name ∷ word ∷ a ∷ b ∷ []) = tt
 commands_fit (name ∷ word ∷ a ∷ b ∷ c ∷ []) = tt
 commands_fit (name ∷ word ∷ a ∷ b ∷ c ∷ d ∷ []) =

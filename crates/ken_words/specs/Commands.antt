@@ -4,7 +4,7 @@ use Rattle.std.specs.Str.{bytes_eq}
 use Rattle.ken_model.specs.declared.facts.TheConstants.{MAX_INPUTS, MAX_NODES}
 use Rattle.ken_script.specs.declared.scripts.TheConstants.{LIMIT, MAX_ROUNDS}
 use Rattle.ken_words.specs.declared.commands.Command.{Command}
-use Rattle.ken_words.specs.declared.commands.Command.TheVariants.{Run, Check, Soak}
+use Rattle.ken_words.specs.declared.commands.Command.TheVariants.{Run, Check, Soak, Torment}
 use Rattle.ken_words.specs.Numbers.{number_in}
 
 -- the length of a script
@@ -32,7 +32,8 @@ soak_of _ _ _ _ = None
 abbrev pub command_of : List (List ℕ) → Option Command
 command_of (name ∷ word ∷ []) = if bytes_eq word (codes "run") then Some Run else None
 command_of (name ∷ word ∷ number ∷ []) =
-    if bytes_eq word (codes "check") then option_map Check (length_in number) else None
+    if bytes_eq word (codes "check") then option_map Check (length_in number)
+    else (if bytes_eq word (codes "torment") then option_map Torment (seed_in number) else None)
 command_of (name ∷ word ∷ seed ∷ nodes ∷ inputs ∷ rounds ∷ []) =
     if bytes_eq word (codes "soak")
     then soak_of (seed_in seed) (nodes_in nodes) (inputs_in inputs) (rounds_in rounds) else None

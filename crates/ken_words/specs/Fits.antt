@@ -1,15 +1,16 @@
 -- What holds of each command that words ask for.
-use Rattle.std.specs.Prelude.{ℕ, ◌<◌, ◌≤◌, ⊤, List, IfSome}
+use Rattle.std.specs.Prelude.{ℕ, ◌^◌, ◌<◌, ◌≤◌, ⊤, List, IfSome}
 use Rattle.ken_model.specs.declared.facts.TheConstants.{MAX_INPUTS, MAX_NODES}
 use Rattle.ken_script.specs.declared.scripts.TheConstants.{LIMIT, MAX_ROUNDS}
 use Rattle.ken_words.specs.declared.commands.Command.{Command}
-use Rattle.ken_words.specs.declared.commands.Command.TheVariants.{Run, Check, Soak}
+use Rattle.ken_words.specs.declared.commands.Command.TheVariants.{Run, Check, Soak, Torment}
 use Rattle.ken_words.specs.Commands.{command_of}
 
 -- its numbers are in range
 abbrev pub Fits : Command → Type 0
 Fits Run = ⊤
 Fits (Check length) = length ≤ LIMIT
+Fits (Torment seed) = seed < 2 ^ 64
 Fits (Soak seed nodes inputs rounds) = (0 < nodes) × (nodes ≤ MAX_NODES) × (inputs ≤ MAX_INPUTS) × (rounds ≤ MAX_ROUNDS)
 
 abbrev pub CommandsFit : Type 0

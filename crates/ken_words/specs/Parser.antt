@@ -4,7 +4,7 @@ use Rattle.std.specs.Str.{bytes_eq}
 use Rattle.clap.specs.Words.{App, Row, Rule, Text, first_of, new_app, new_rule, with_rule, with_subcommand}
 use Rattle.clap.specs.Simple.{on_top}
 use Rattle.ken_words.specs.declared.commands.Command.{Command}
-use Rattle.ken_words.specs.declared.commands.Command.TheVariants.{Run, Check}
+use Rattle.ken_words.specs.declared.commands.Command.TheVariants.{Run, Check, Torment}
 use Rattle.ken_words.specs.Commands.{length_in, seed_in, nodes_in, inputs_in, rounds_in, soak_of}
 
 -- a value that has to be given, by its place
@@ -17,6 +17,9 @@ run = new_app (codes "run")
 abbrev pub check : App
 check = with_rule (new_app (codes "check")) (value (codes "LENGTH"))
 
+abbrev pub torment : App
+torment = with_rule (new_app (codes "torment")) (value (codes "SEED"))
+
 abbrev pub soak : App
 soak = with_rule (with_rule (with_rule (with_rule (new_app (codes "soak"))
     (value (codes "SEED"))) (value (codes "NODES"))) (value (codes "INPUTS"))) (value (codes "ROUNDS"))
@@ -27,7 +30,8 @@ bare = on_top (λ s. record s { disable_help_flag = true; disable_help_subcomman
 
 -- the program
 abbrev pub ken : App
-ken = with_subcommand (with_subcommand (with_subcommand (bare (new_app (codes "ken"))) run.top) check.top) soak.top
+ken = with_subcommand (with_subcommand (with_subcommand (with_subcommand (bare (new_app (codes "ken")))
+    run.top) check.top) torment.top) soak.top
 
 -- a value of a subcommand, read as a number
 abbrev pub read_at : (Text → Option ℕ) → Text → List Row → Option ℕ
@@ -42,7 +46,8 @@ abbrev pub asked_by : Text → List Row → Option Command
 asked_by name rows =
     if bytes_eq name (codes "run") then Some Run
     else (if bytes_eq name (codes "check") then option_map Check (read_at length_in (codes "LENGTH") rows)
-    else (if bytes_eq name (codes "soak") then soak_in rows else None))
+    else (if bytes_eq name (codes "torment") then option_map Torment (read_at seed_in (codes "SEED") rows)
+    else (if bytes_eq name (codes "soak") then soak_in rows else None)))
 
 -- and what a parse asks for that met a subcommand, or none
 abbrev pub asked : Option (Text × List Row) → Option Command

@@ -1,10 +1,10 @@
 // What words ask for.
 ghost use Rattle.std.specs.Prelude.{◌≡◌, ◌≤◌, map, option_map, string_bytes, codes, IfOk, IfSome};
 ghost use Rattle.clap.specs.Words.{found_of, rows_of, subcommand_rows_of};
-ghost use Rattle.ken_words.specs.Commands.{command_of, length_in};
+ghost use Rattle.ken_words.specs.Commands.{command_of, length_in, seed_in};
 ghost use Rattle.ken_words.specs.Numbers.{number_in};
 ghost use Rattle.ken_words.specs.Parser.{asked, read_at, soak_in};
-ghost use Rattle.ken_words.specs.declared.commands.Command.TheVariants.{Check};
+ghost use Rattle.ken_words.specs.declared.commands.Command.TheVariants.{Check, Torment};
 
 use crate::numbers::{have_digits, number_in};
 use crate::parser::parser;
@@ -23,6 +23,10 @@ pub enum Command {
     Check {
         length: usize,
     },
+    /// Run a script with faults of this seed beside its own.
+    Torment {
+        seed: u64,
+    },
     /// Run the script that is made of these numbers, and sum it up.
     Soak {
         seed: u64,
@@ -32,8 +36,8 @@ pub enum Command {
     },
 }
 
-/// The command that plain words ask for: the program's name, and then `run`, or `check` and a length, or `soak` and a
-/// seed, nodes, inputs and rounds. `None` for any others. The only error is want of memory.
+/// The command that plain words ask for: the program's name, and then `run`, or `check` and a length, or `torment` and a
+/// seed, or `soak` and a seed, nodes, inputs and rounds. `None` for any others. The only error is want of memory.
 pub fn command_in(alloc: Global, words: &[String]) -> Result<Option<Command>, AllocError>
     ensures { IfOk result (λ command. command ≡ command_of (map string_bytes words.now)) }
 {
@@ -59,6 +63,8 @@ fn asked(matches: &ArgMatches) -> Option<Command>
         Some(Command::Run)
     } else if name == "check" {
         asked_check(given)
+    } else if name == "torment" {
+        asked_torment(given)
     } else if name == "soak" {
         asked_soak(given)
     } else {
@@ -74,6 +80,14 @@ fn asked_check(given: &ArgMatches) -> Option<Command>
     Some(Command::Check {
         length: length as usize,
     })
+}
+
+// What the matches of `torment` ask for.
+fn asked_torment(given: &ArgMatches) -> Option<Command>
+    ensures { result ≡ option_map Torment (read_at seed_in (codes "SEED") (rows_of (found_of given.now))) }
+{
+    let seed = value_at(0, u64::MAX, given, "SEED")?;
+    Some(Command::Torment { seed })
 }
 
 // What the matches of `soak` ask for.

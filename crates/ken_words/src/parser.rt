@@ -1,20 +1,29 @@
 // The command line as `clap` has it.
-ghost use Rattle.std.specs.Prelude.{◌≡◌, IfOk, false};
-ghost use Rattle.clap.specs.Words.{app_of, new_app, rule_of};
+ghost use Rattle.std.specs.Prelude.{◌≡◌, IfOk, codes, false};
+ghost use Rattle.clap.specs.Words.{app_of, new_app, rule_of, with_subcommand};
 ghost use Rattle.clap.specs.declared.builder.command.Command.TheViews.{out-Command};
-ghost use Rattle.ken_words.specs.Parser.{bare, check, ken, soak, value};
+ghost use Rattle.ken_words.specs.Parser.{bare, check, ken, run, soak, torment, value};
 
 use clap::{Arg, Command};
 use std::alloc::{AllocError, Global};
 
-/// The program's command line: `run`, `check` with a length, and `soak` with four numbers.
+/// The program's command line: `run`, `check` with a length, `torment` with a seed, and `soak` with four numbers.
 pub(crate) fn parser<'a>(alloc: Global) -> Result<Command<'a>, AllocError>
     ensures { IfOk result (λ command. app_of command ≡ ken) }
 {
+    judging(alloc)?
+        .subcommand(torment(alloc)?)?
+        .subcommand(soak(alloc)?)
+}
+
+/// The command line as far as `run` and `check`.
+fn judging<'a>(alloc: Global) -> Result<Command<'a>, AllocError>
+    ensures app { IfOk result (λ command. app_of command ≡ with_subcommand (with_subcommand (bare (new_app (codes "ken"))) run.top) check.top) }
+    ensures local { IfOk result (λ command. (out-Command command).has_globals ≡ false) }
+{
     bare(alloc, "ken")
         .subcommand(Command::new(alloc, "run"))?
-        .subcommand(check(alloc)?)?
-        .subcommand(soak(alloc)?)
+        .subcommand(check(alloc)?)
 }
 
 /// A command with no help and no version.
@@ -33,6 +42,13 @@ fn check<'a>(alloc: Global) -> Result<Command<'a>, AllocError>
     ensures local { IfOk result (λ command. (out-Command command).has_globals ≡ false) }
 {
     Command::new(alloc, "check").arg(value(alloc, "LENGTH"))
+}
+
+fn torment<'a>(alloc: Global) -> Result<Command<'a>, AllocError>
+    ensures app { IfOk result (λ command. app_of command ≡ torment) }
+    ensures local { IfOk result (λ command. (out-Command command).has_globals ≡ false) }
+{
+    Command::new(alloc, "torment").arg(value(alloc, "SEED"))
 }
 
 fn soak<'a>(alloc: Global) -> Result<Command<'a>, AllocError>

@@ -5,7 +5,7 @@ use Rattle.std.specs.List.{AllByRecursion}
 use Rattle.ken_app.specs.Turning.{IsShortText}
 use Rattle.ken_core.proofs.Mailing.{count_at_most, posted_more}
 use Rattle.ken_core.specs.Turns.{sent_of}
-use Rattle.ken_model.specs.Actors.{posted_after}
+use Rattle.ken_model.specs.Posted.{posted_after}
 use Rattle.ken_model.specs.Network.{outputs_from}
 use Rattle.ken_model.specs.declared.messages.Message.{Message}
 use Rattle.ken_model.specs.declared.messages.Send.{Send}

@@ -1,7 +1,7 @@
 // What is kept of a turn, and what is handed to the externaliser.
 ghost use Rattle.std.specs.Prelude.{◌≡◌, ℕ, ◌+◌, ◌<◌, ◌≤◌, ◌^◌, length, map, slice_index, IfOk};
 ghost use Rattle.std.specs.List.{AllByRecursion};
-ghost use Rattle.ken_model.specs.Actors.{posted_after};
+ghost use Rattle.ken_model.specs.Posted.{posted_after};
 ghost use Rattle.ken_model.specs.Network.{outputs_from};
 ghost use Rattle.ken_core.specs.Turns.{sent_of};
 ghost use Rattle.ken_record.specs.Grammar.{AtMost, IsWord};

@@ -3,7 +3,7 @@ use Rattle.std.proofs.lemmas.List.{length-set, get_or_default}
 use Rattle.std.proofs.lemmas.List.Elements.{All-from_recursion}
 use Rattle.ken_model.specs.declared.messages.Message.{Message}
 use Rattle.ken_model.specs.declared.messages.Send.{Send}
-use Rattle.ken_model.specs.Actors.{posted_after}
+use Rattle.ken_model.specs.Posted.{posted_after}
 use Rattle.ken_core.proofs.Mailing.{posted_more, count_at_most}
 use Rattle.ken_core.proofs.sealing.mails.Goals as goal
 

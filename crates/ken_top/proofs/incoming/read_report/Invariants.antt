@@ -7,8 +7,8 @@ use Rattle.ken_top.proofs.incoming.read_report.Given as goal
 abbrev pub invariant-loop-taken : goal.invariant-loop-taken
 invariant-loop-taken g l = record {
   few : l.taken ≤ l.room;
-  under_way : IsUnderWay l.judging;
-  judged : HasJudged (g.S.Source.left l.initial.source) (g.S.Source.left l.source) l.initial.judging l.judging l.taken;
+  under_way : IsUnderWay g.P.Player.handler l.judging;
+  judged : HasJudged g.P.Player.handler (g.S.Source.left l.initial.source) (g.S.Source.left l.source) l.initial.judging l.judging l.taken;
   faults : g.S.Source.faults l.source ≡ g.S.Source.faults l.initial.source;
 }
 

@@ -1,39 +1,35 @@
--- What is written of a service's run.
-use Rattle.std.proofs.Common.{Err, sym, ap, subst}
+use Rattle.std.proofs.Common.{ℕ, List, [], Option, Some, None, refl}
+use Rattle.std.proofs.KnownBytes.{Appends-nil}
+use Rattle.ken_top.specs.Headline.{AreTold}
+use Rattle.ken_top.specs.declared.status.Status.TheVariants.{Memory}
 use Rattle.ken_app.specs.Limited.{limited}
-use Rattle.ken_top.specs.Headline.{IsQuiet}
-use Rattle.ken_top.proofs.Complete.{complete_written, complete_refused, let_written}
-use Rattle.ken_top.proofs.Reported.{ran_refused, ran_written, out_is_told}
 use Rattle.ken_top.specs.Programs.{service}
+use Rattle.ken_top.proofs.Plain.{plain_complete, plain_let}
+use Rattle.ken_top.proofs.Reported.{ran_refused}
 use Rattle.ken_top.proofs.service.serve.Goals as goal
 
-pub returns-in-Ok-clause-runs : goal.returns-in-Ok-clause-runs
-returns-in-Ok-clause-runs g c =
-    ran_written _ _ _ (g.S.Source.left c.args.source.now) (g.K.Sink.took c.args.sink.now) (g.K.Sink.took c.written.new.sink) c.in-Ok.lines c.written.result c.in-Ok.ensures.ran c.written.ensures.out
+-- some bytes that a source may have given
+any_told : (left : Option (List ℕ)) → (b : List ℕ) × AreTold left b
+any_told None = ([], tt)
+any_told (Some xs) = (xs, refl)
 
-pub returns-in-Ok-clause-down : goal.returns-in-Ok-clause-down
-returns-in-Ok-clause-down g c = λ scripted. let_written (service (limited (g.A.Service.handler c.args.app))) (g.S.Source.left c.args.source.now) (g.K.Sink.took c.args.sink.now) (g.K.Sink.took c.written.new.sink) c.in-Ok.lines c.written.result c.written.ensures.out
-
-pub returns-in-Ok-clause-complete : goal.returns-in-Ok-clause-complete
-returns-in-Ok-clause-complete g c = λ scripted unread unwritten. complete_written (service (limited (g.A.Service.handler c.args.app))) (g.S.Source.left c.args.source.now) (g.K.Sink.took c.args.sink.now) (g.K.Sink.took c.written.new.sink) c.in-Ok.lines c.written.result _ c.written.ensures.out c.written.ensures.write unwritten
-
-pub returns-in-Ok-clause-causes : goal.returns-in-Ok-clause-causes
-returns-in-Ok-clause-causes g c = record {
-  read = λ is. absurd (out_is_told (g.K.Sink.took c.args.sink.now) (g.K.Sink.took c.written.new.sink) c.in-Ok.lines c.written.result c.written.ensures.out (subst IsQuiet (sym is) tt));
-  write = c.written.ensures.write;
-  source_rises = c.in-Ok.ensures.faults;
-  sink_rises = c.written.ensures.faults;
-  no_failed_read = λ other. c.in-Ok.ensures.no_failed_read (λ is. let was = c.in-Ok.is in let no = is in absurd (cc));
-  no_failed_write = c.written.ensures.no_failed_write;
-}
-
-pub returns-in-Ok-clause-unwritten : goal.returns-in-Ok-clause-unwritten
-returns-in-Ok-clause-unwritten g c = λ quiet. absurd (out_is_told (g.K.Sink.took c.args.sink.now) (g.K.Sink.took c.written.new.sink) c.in-Ok.lines c.written.result c.written.ensures.out quiet)
-
+-- memory was short for the words: nothing was read, written or kept
 pub returns-in-Err-clause-runs : goal.returns-in-Err-clause-runs
-returns-in-Err-clause-runs g c =
-    ran_refused _ _ _ (g.S.Source.left c.args.source.now) (g.K.Sink.took c.args.sink.now) c.in-Err.status c.in-Err.ensures.refused
+returns-in-Err-clause-runs g c = λ is. ran_refused _ _ _ (g.S.Source.left c.args.source.now) (g.K.Sink.took c.args.sink.now) Memory c.requires
 
-pub returns-in-Err-clause-complete : goal.returns-in-Err-clause-complete
-returns-in-Err-clause-complete g c = λ scripted unread unwritten.
-    complete_refused _ _ _ (g.S.Source.left c.args.source.now) c.in-Err.status _ c.in-Err.ensures.refused (c.in-Err.ensures.lets scripted) (λ is. c.in-Err.ensures.read (ap Err is)) unread
+pub returns-in-Err-clause-checks : goal.returns-in-Err-clause-checks
+returns-in-Err-clause-checks g c = λ size is.
+    let read = any_told (g.S.Source.left c.args.source.now) in
+    record { read = read.0; written = []; told = read.1; out = Appends-nil (g.K.Sink.took c.args.sink.now); answers = refl }
+
+-- the faults of a seed bring no node down that the script wouldn't
+pub returns-in-Ok-Some-Torment-clause-down : goal.returns-in-Ok-Some-Torment-clause-down
+returns-in-Ok-Some-Torment-clause-down g c = λ scripted.
+    plain_let c.torment_spares.ensures c.in-Ok-Some-Torment.seed (service (limited (g.A.Service.handler c.args.app))) (g.S.Source.left c.args.source.now) _ (c.ran-in-Ok-Some-Torment.ensures.down scripted)
+
+pub returns-in-Ok-Some-Torment-clause-complete : goal.returns-in-Ok-Some-Torment-clause-complete
+returns-in-Ok-Some-Torment-clause-complete g c = λ running scripted unread unwritten.
+    plain_complete c.torment_spares.ensures c.in-Ok-Some-Torment.seed (service (limited (g.A.Service.handler c.args.app))) (g.S.Source.left c.args.source.now) _ (c.ran-in-Ok-Some-Torment.ensures.complete scripted unread unwritten)
+
+pub returns-in-Err-clause-torments : goal.returns-in-Err-clause-torments
+returns-in-Err-clause-torments g c = λ seed is. ran_refused _ _ _ (g.S.Source.left c.args.source.now) (g.K.Sink.took c.args.sink.now) Memory c.requires

@@ -2,7 +2,7 @@ use Rattle.std.proofs.Common.{Err, sym, ap, subst}
 use Rattle.ken_top.specs.Headline.{IsQuiet}
 use Rattle.ken_top.proofs.Complete.{complete_written, complete_refused, let_written}
 use Rattle.ken_top.proofs.Reported.{ran_refused, ran_written, out_is_told}
-use Rattle.ken_top.specs.Programs.{kinds}
+use Rattle.ken_top.specs.Programs.{kinds, by_seed}
 use Rattle.ken_top.proofs.top.ran.Goals as goal
 
 pub returns-in-Ok-clause-runs : goal.returns-in-Ok-clause-runs
@@ -10,10 +10,10 @@ returns-in-Ok-clause-runs g c =
     ran_written _ _ _ (g.S.Source.left c.args.source.now) (g.K.Sink.took c.args.sink.now) (g.K.Sink.took c.written.new.sink) c.in-Ok.lines c.written.result c.in-Ok.ensures.ran c.written.ensures.out
 
 pub returns-in-Ok-clause-down : goal.returns-in-Ok-clause-down
-returns-in-Ok-clause-down g c = λ scripted. let_written kinds (g.S.Source.left c.args.source.now) (g.K.Sink.took c.args.sink.now) (g.K.Sink.took c.written.new.sink) c.in-Ok.lines c.written.result c.written.ensures.out
+returns-in-Ok-clause-down g c = λ scripted. let_written (by_seed c.args.seed kinds) (g.S.Source.left c.args.source.now) (g.K.Sink.took c.args.sink.now) (g.K.Sink.took c.written.new.sink) c.in-Ok.lines c.written.result c.written.ensures.out
 
 pub returns-in-Ok-clause-complete : goal.returns-in-Ok-clause-complete
-returns-in-Ok-clause-complete g c = λ scripted unread unwritten. complete_written kinds (g.S.Source.left c.args.source.now) (g.K.Sink.took c.args.sink.now) (g.K.Sink.took c.written.new.sink) c.in-Ok.lines c.written.result _ c.written.ensures.out c.written.ensures.write unwritten
+returns-in-Ok-clause-complete g c = λ scripted unread unwritten. complete_written (by_seed c.args.seed kinds) (g.S.Source.left c.args.source.now) (g.K.Sink.took c.args.sink.now) (g.K.Sink.took c.written.new.sink) c.in-Ok.lines c.written.result _ c.written.ensures.out c.written.ensures.write unwritten
 
 pub returns-in-Ok-clause-causes : goal.returns-in-Ok-clause-causes
 returns-in-Ok-clause-causes g c = record {

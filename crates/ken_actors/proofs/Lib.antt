@@ -1,0 +1,6 @@
+mod Started
+mod Waiting
+mod Moved
+mod Stepped
+mod Deciding
+mod Sending

@@ -1,0 +1,62 @@
+// A script is read, and the report of its run written.
+ghost use Rattle.std.specs.Prelude.{◌≡◌, ◌≢◌, ◌+◌, ◌≤◌, IfOk, IfErr, IsErrOf};
+ghost use Rattle.ken_io.specs.Causes.{Rose};
+ghost use Rattle.ken_io.specs.Transfers.{TakesAtMost};
+ghost use Rattle.ken_script.specs.Within.{KeepsRules};
+ghost use Rattle.ken_top.specs.Headline.{IsOut, IsScriptOf, IsUnsaid};
+ghost use Rattle.ken_top.specs.Programs.{by_seed, drawn_by};
+
+use crate::cast::Cast;
+use crate::status::Status;
+use ken_gen::torment;
+use ken_io::{Sink, Source, read_all};
+use ken_model::Lines;
+use ken_report::print;
+use ken_script::{LIMIT, Script};
+use std::alloc::{AllocError, Global};
+
+/// Reads a script of a program, and puts the faults of a seed behind its own, where there is a seed.
+pub(crate) fn said<C: Cast, S: Source>(
+    cast: &C,
+    seed: Option<u64>,
+    alloc: Global,
+    source: &mut S,
+) -> Result<Script, Status>
+    ensures said { IfOk result (IsScriptOf (by_seed seed (C.program cast.now)) (S.left source.old)) }
+    ensures rules { IfOk result KeepsRules }
+    ensures unsaid { IfErr result (IsUnsaid (by_seed seed (C.program cast.now)) (S.left source.old)) }
+    ensures read { IsErrOf result Status.Read → Rose (S.faults source.old) (S.faults source.new) }
+    ensures no_failed_read { (IsErrOf result Status.Read → ⊥) → S.faults source.new ≡ S.faults source.old }
+    ensures taken { TakesAtMost (LIMIT + 1) (S.left source.old) (S.left source.new) }
+    ensures faults { S.faults source.old ≤ S.faults source.new }
+{
+    let bytes = read_all(alloc, source, LIMIT)?;
+    let plain = cast.read(alloc, bytes.as_slice())?;
+    let script = with_faults(seed, plain)?;
+    Ok(script)
+}
+
+/// A script with the faults of a seed behind its own, where there is a seed.
+fn with_faults(seed: Option<u64>, script: Script) -> Result<Script, AllocError>
+    requires { KeepsRules script }
+    ensures drawn { IfOk result (λ s. s ≡ drawn_by seed script) }
+    ensures rules { IfOk result KeepsRules }
+{
+    match seed {
+        Some(seed) => torment(seed, script),
+        None => Ok(script),
+    }
+}
+
+/// Writes a report, and answers how its run ended.
+pub(crate) fn written<K: Sink>(alloc: Global, sink: &mut K, lines: &Lines) -> Status
+    ensures out { IsOut (K.took sink.old) (K.took sink.new) lines.now result }
+    ensures write { result ≡ Status.Write → Rose (K.faults sink.old) (K.faults sink.new) }
+    ensures no_failed_write { result ≢ Status.Write → K.faults sink.new ≡ K.faults sink.old }
+    ensures faults { K.faults sink.old ≤ K.faults sink.new }
+{
+    match print(alloc, sink, lines) {
+        Ok(()) => Status::from(lines.ending),
+        Err(fault) => Status::from(fault),
+    }
+}
