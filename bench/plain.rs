@@ -161,6 +161,9 @@ enum Kind {
     Share,
     Mix,
     Kv,
+    /// The services of `ken_own`, which are no kinds of Ken's.
+    Ledger,
+    Leases,
 }
 
 #[derive(Clone, Copy)]
@@ -190,6 +193,8 @@ impl Script {
             b"share" => Kind::Share,
             b"mix" => Kind::Mix,
             b"kv" => Kind::Kv,
+            b"ledger" => Kind::Ledger,
+            b"leases" => Kind::Leases,
             _ => panic!("a kind that there is"),
         };
         Script {
@@ -526,6 +531,30 @@ fn count_in(text: &[u8]) -> Option<u64> {
         text.iter()
             .fold(0, |count, digit| 10 * count + u64::from(digit - b'0'))
     })
+}
+
+/// What is asked about a lease.
+enum Action {
+    Acquire(u64),
+    Renew(u64),
+    Release,
+}
+
+/// `acquire NAME TERM`, `renew NAME TERM` or `release NAME`. A name has 1 to 32 bytes and no space.
+fn lease_command(text: &[u8]) -> Option<(&[u8], Action)> {
+    let mut words = text.splitn(3, |letter| *letter == b' ');
+    let (word, name) = (words.next()?, words.next()?);
+    let term = words.next();
+    if !(1..=32).contains(&name.len()) {
+        return None;
+    }
+    let count = term.and_then(count_in).filter(|count| *count > 0);
+    match (word, term, count) {
+        (b"acquire", _, Some(count)) => Some((name, Action::Acquire(count))),
+        (b"renew", _, Some(count)) => Some((name, Action::Renew(count))),
+        (b"release", None, _) => Some((name, Action::Release)),
+        _ => None,
+    }
 }
 
 // ---- the node
@@ -1053,7 +1082,7 @@ impl Node {
     }
 
     fn output_kept(&mut self, text: Text) {
-        let number = self.numbers.outputs + 1;
+        let number = self.numbers.outputs + self.effects.outs.len() as u64 + 1;
         self.effects.outs.push(Out { number, text });
     }
 
@@ -1086,8 +1115,11 @@ impl Node {
         self.effects.draw_count = 0;
         self.effects.sends.clear();
         self.effects.outs.clear();
-        if let Kind::Kv = self.kind {
-            return self.command(text);
+        match self.kind {
+            Kind::Kv => return self.command(text),
+            Kind::Ledger => return self.account(from, text),
+            Kind::Leases => return self.keep_lease(from, text),
+            _ => (),
         }
         let Some(count) = count_in(text) else {
             return self.output(b"bad");
@@ -1120,10 +1152,9 @@ impl Node {
                 }
                 self.output_count(count);
             }
-            Kind::Mix | Kind::Kv => {
-                self.clock += 1;
+            Kind::Mix | Kind::Kv | Kind::Ledger | Kind::Leases => {
+                self.read_clock();
                 let word = self.words.next();
-                self.draw(self.clock);
                 self.draw(word);
                 self.heap.set_root(self.clock);
                 if count > 0 {
@@ -1131,6 +1162,104 @@ impl Node {
                 }
                 self.output_count(word % 1000);
             }
+        }
+    }
+
+    /// A reading of the clock, which is drawn.
+    fn read_clock(&mut self) -> u64 {
+        self.clock += 1;
+        self.draw(self.clock);
+        self.clock
+    }
+
+    /// The ledger: a deposit, a payment to another node, or one of another node.
+    fn account(&mut self, from: u8, text: &[u8]) {
+        let root = self.heap.root();
+        let payment = match text {
+            [digit @ b'0'..=b'9', b' ', amount @ ..] if from == OUTSIDE => {
+                count_in(amount).map(|amount| (digit - b'0', amount))
+            }
+            _ => None,
+        };
+        let after = match (payment, count_in(text)) {
+            (Some((to, amount)), _) if to >= self.nodes || amount > root => {
+                return self.output(b"refused");
+            }
+            (Some((_, amount)), _) => root - amount,
+            (None, None) => return self.output(b"bad"),
+            (None, Some(amount)) => match root.checked_add(amount) {
+                Some(after) => after,
+                None => return self.output(b"full"),
+            },
+        };
+        let reading = self.read_clock();
+        self.heap.set_root(after);
+        self.output_count(after);
+        self.output_count(reading);
+        if let Some((to, amount)) = payment {
+            self.send_count(to, amount);
+        }
+    }
+
+    /// Leases: what is asked goes to the keeper of its name, whose answer is output by the node that asked.
+    fn keep_lease(&mut self, from: u8, text: &[u8]) {
+        let asked = lease_command(text);
+        if from == OUTSIDE {
+            let Some((name, _)) = asked else {
+                return self.output(b"bad");
+            };
+            let (keeper, text) = (name[0] % self.nodes, self.keep(text));
+            return self.send(keeper, text);
+        }
+        let Some((name, action)) = asked else {
+            let words: [&[u8]; 5] = [b"granted ", b"held ", b"lost ", b"released ", b"full "];
+            let is_answer = words.iter().any(|word| text.starts_with(word));
+            return self.output(if is_answer { text } else { b"bad" });
+        };
+        let reading = self.read_clock();
+        let answer = self.decide(from, reading, name, action);
+        let text = self.keep(&answer);
+        self.send(from, text);
+    }
+
+    /// What the keeper of a name answers.
+    fn decide(&mut self, node: u8, reading: u64, name: &[u8], action: Action) -> Vec<u8> {
+        let old = self.heap.pair(name).map(|(head, rest)| {
+            let place = head + HEAD + name.len() + 1;
+            (place, rest[0], number_at(rest, 1), number_at(rest, 9))
+        });
+        let is_held = matches!(old, Some((_, holder, start, end)) if holder == node && start <= reading && reading < end);
+        let name_text = String::from_utf8_lossy(name);
+        let told = |word: &str| format!("{word} {name_text}").into_bytes();
+        let granted = |start, end| format!("granted {name_text} {start} {end}").into_bytes();
+        match (action, old) {
+            (Action::Acquire(_), Some((.., end))) if reading < end => {
+                format!("held {name_text} {end}").into_bytes()
+            }
+            (Action::Acquire(term), old) => {
+                let Some(end) = reading.checked_add(term) else {
+                    return told("full");
+                };
+                let fields = [&[node][..], &reading.to_be_bytes(), &end.to_be_bytes()].concat();
+                match old {
+                    Some((place, ..)) => self.heap.write(place, &fields),
+                    None if !self.heap.add([name, b" ", &fields]) => return told("full"),
+                    None => (),
+                }
+                granted(reading, end)
+            }
+            (Action::Renew(term), Some((place, _, start, end))) if is_held => {
+                let Some(later) = reading.checked_add(term) else {
+                    return told("full");
+                };
+                self.heap.write(place + 9, &later.max(end).to_be_bytes());
+                granted(start, later.max(end))
+            }
+            (Action::Release, Some((place, ..))) if is_held => {
+                self.heap.write(place + 9, &reading.to_be_bytes());
+                told("released")
+            }
+            _ => told("lost"),
         }
     }
 
@@ -1404,6 +1533,7 @@ fn print(out: &mut impl Write, nodes: &[Node], waiting: u64) -> io::Result<()> {
         }
         match turn.draw_count {
             0 => write!(line, " -")?,
+            1 => write!(line, " {}", turn.draws[0])?,
             _ => write!(line, " {},{}", turn.draws[0], turn.draws[1])?,
         }
         end(&mut line)?;
