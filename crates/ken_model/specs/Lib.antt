@@ -1,6 +1,7 @@
 pub mod Effects
 pub mod Heap
 pub mod Text
+pub mod Sharing
 pub mod KeyValue
 pub mod Commands
 pub mod Bank

@@ -11,6 +11,12 @@ pub trait TryClone: Drop + Sized {
         ensures { IfOk result (λ copy. copy ≡ self.now) };
 }
 
+impl TryClone for u64 {
+    fn try_clone(&self, _alloc: Global) -> Result<Self, AllocError> {
+        Ok(*self)
+    }
+}
+
 impl TryClone for Message {
     fn try_clone(&self, alloc: Global) -> Result<Self, AllocError> {
         Ok(Message {

@@ -20,6 +20,7 @@ mod orders;
 mod reactions;
 mod reading;
 mod reports;
+mod shared;
 mod states;
 mod values;
 
@@ -37,5 +38,6 @@ pub use octets::Octets;
 pub use orders::{MAX_NAME, Order};
 pub use reactions::Reaction;
 pub use reports::{Emission, Ending, Lines, RestartLine, TurnLine};
+pub use shared::{Listing, Shared, Single};
 pub use states::State;
 pub use values::{Block, Value, rounded};

@@ -1,4 +1,4 @@
-use crate::{Items, Octets};
+use crate::{Items, Octets, Single};
 
 /// The sender of a script's inputs, which is no node.
 pub const OUTSIDE: u8 = 255;
@@ -36,6 +36,12 @@ pub struct Out {
     /// Its place among the node's outputs, from 1.
     pub number: u64,
     pub text: Octets,
+}
+
+impl Single for Out {
+    fn alone(&self) -> &[Out] {
+        std::slice::from_ref(self)
+    }
 }
 
 /// What a step did.

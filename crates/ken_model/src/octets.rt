@@ -124,7 +124,12 @@ impl TryClone for Octets {
                 kept: Kept::Shared(Arc::try_clone(bytes)?),
             }),
             Kept::Own(bytes) => Ok(Octets::new(Vec::from_slice(alloc, bytes.as_slice())?)),
-            Kept::Short { .. } => Octets::copied(alloc, self.as_slice()),
+            Kept::Short { len, bytes } => Ok(Octets {
+                kept: Kept::Short {
+                    len: *len,
+                    bytes: *bytes,
+                },
+            }),
         }
     }
 }
