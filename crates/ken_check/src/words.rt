@@ -6,7 +6,7 @@ ghost use Rattle.ken_model.specs.Report.{sender_word};
 ghost use Rattle.ken_model.specs.Spelling.{parts_at};
 ghost use Rattle.ken_check.specs.Words.{HasStepWords, ReadsDraws};
 
-use ken_model::{Items, OUTSIDE, Step};
+use ken_model::{OUTSIDE, Shared, Step};
 use ken_num::decimal;
 use std::alloc::{AllocError, Global};
 
@@ -71,6 +71,6 @@ pub(crate) fn step_in(alloc: Global, text: &[u8]) -> Result<Option<Step>, AllocE
     let Some(draws) = draws_in(alloc, word)? else {
         return Ok(None);
     };
-    let draws = Items::new(draws);
+    let draws = Shared::new(alloc, draws)?;
     Ok(Some(Step { node, from, draws }))
 }

@@ -4,14 +4,14 @@ ghost use Rattle.ken_cover.specs.Sides.{changes_at, recounted};
 ghost use Rattle.ken_core.specs.Turns.{effects_line};
 
 use ken_cover::{Change, Layer};
-use ken_model::{Items, Step, TryClone, TurnLine};
+use ken_model::{Items, Shared, Step, TryClone, TurnLine};
 use ken_record::{Effects, Page};
 use std::alloc::{AllocError, Global};
 
-pub(crate) fn draws(alloc: Global, draws: &[u64]) -> Result<Items<u64>, AllocError>
+pub(crate) fn draws(alloc: Global, draws: &[u64]) -> Result<Shared<u64>, AllocError>
     ensures { IfOk result (λ x. x ≡ draws.now) }
 {
-    Ok(Items::new(Vec::from_slice(alloc, draws)?))
+    Shared::new(alloc, Vec::from_slice(alloc, draws)?)
 }
 
 /// The pages that a turn changed, as the layer of its record.
@@ -57,7 +57,7 @@ pub(crate) fn line(alloc: Global, node: u8, effects: &Effects) -> Result<TurnLin
         step: Step {
             node,
             from: effects.from,
-            draws: draws(alloc, effects.draws.as_slice())?,
+            draws: effects.draws.try_clone(alloc)?,
         },
         number: effects.number,
     })

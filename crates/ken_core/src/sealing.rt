@@ -12,7 +12,7 @@ use crate::bytes::are_changed;
 use crate::copies;
 use crate::machine::Machine;
 use ken_cover::Layer;
-use ken_model::{Block, Facts, Items, Message, Octets, Out, Send, TryClone, Value, copies_of};
+use ken_model::{Block, Facts, Message, Octets, Out, Send, Shared, TryClone, Value, copies_of};
 use ken_record::{Effects, Page, Sent};
 use std::alloc::{AllocError, Global};
 
@@ -115,7 +115,7 @@ impl Sealing {
             stamp,
             draws: copies::draws(alloc, draws)?,
             sends: sents(alloc, mails.as_slice())?,
-            outs: copies_of(alloc, outs.as_slice())?,
+            outs: Shared::new(alloc, copies_of(alloc, outs.as_slice())?.into_vec())?,
         };
         Ok(Sealing {
             value,
@@ -196,7 +196,7 @@ fn mails(
 }
 
 /// Messages, as their sender's turn keeps them.
-fn sents(alloc: Global, mails: &[Message]) -> Result<Items<Sent>, AllocError>
+fn sents(alloc: Global, mails: &[Message]) -> Result<Shared<Sent>, AllocError>
     ensures { IfOk result (λ sends. sends ≡ map sent_of mails.now) }
 {
     let mut sends = Vec::with_capacity(alloc, mails.len())?;
@@ -207,7 +207,7 @@ fn sents(alloc: Global, mails: &[Message]) -> Result<Items<Sent>, AllocError>
             bytes: mail.bytes.try_clone(alloc)?,
         })?;
     }
-    Ok(Items::new(sends))
+    Shared::new(alloc, sends)
 }
 
 /// Outputs, numbered on from `before`.

@@ -2,7 +2,7 @@ ghost use Rattle.std.specs.Prelude.{◌≡◌, ◌≤◌, IfOk};
 ghost use Rattle.ken_links.specs.Rings.{free, IsRing};
 
 use ken_links::{PopEnd, PushEnd, ring};
-use ken_model::{Items, Octets, Out};
+use ken_model::{Octets, Out, Shared};
 use ken_ship::{Sealed, SendWorker, Told};
 use std::alloc::{AllocError, Global};
 
@@ -31,7 +31,7 @@ pub(crate) fn new_desk(alloc: Global, nodes: u8) -> Result<Desk, AllocError>
 }
 
 // Outputs with the numbers from `first` up to `end`, without that.
-pub(crate) fn outs(alloc: Global, first: u64, end: u64) -> Result<Items<Out>, AllocError> {
+pub(crate) fn outs(alloc: Global, first: u64, end: u64) -> Result<Shared<Out>, AllocError> {
     let mut outs = Vec::new(alloc);
     for number in first..end {
         outs.push(Out {
@@ -39,7 +39,7 @@ pub(crate) fn outs(alloc: Global, first: u64, end: u64) -> Result<Items<Out>, Al
             text: Octets::new(Vec::from_slice(alloc, b"o")?),
         })?;
     }
-    Ok(Items::new(outs))
+    Shared::new(alloc, outs)
 }
 
 // A turn that outputs two.
@@ -47,7 +47,7 @@ pub(crate) fn emitting(alloc: Global) -> Result<Sealed, AllocError> {
     Ok(Sealed {
         turn: 1,
         stamp: 1,
-        sends: Items::new(Vec::new(alloc)),
+        sends: Shared::empty(),
         outs: outs(alloc, 1, 3)?,
     })
 }

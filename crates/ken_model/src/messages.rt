@@ -1,4 +1,4 @@
-use crate::{Items, Octets, Single};
+use crate::{Items, Octets, Shared, Single};
 
 /// The sender of a script's inputs, which is no node.
 pub const OUTSIDE: u8 = 255;
@@ -27,7 +27,7 @@ pub struct Send {
 pub struct Step {
     pub node: u8,
     pub from: u8,
-    pub draws: Items<u64>,
+    pub draws: Shared<u64>,
 }
 
 /// An output of a node.

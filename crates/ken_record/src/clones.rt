@@ -1,6 +1,6 @@
 // Copies of the parts of a record.
 use crate::{Due, Page, Record, Sent};
-use ken_model::{Items, TryClone, copies_of};
+use ken_model::{TryClone, copies_of};
 use std::alloc::{AllocError, Global};
 
 impl TryClone for Sent {
@@ -40,9 +40,9 @@ impl TryClone for Record {
             stamp: self.stamp,
             from: self.from,
             number: self.number,
-            draws: Items::new(Vec::from_slice(alloc, self.draws.as_slice())?),
-            sends: copies_of(alloc, self.sends.as_slice())?,
-            outs: copies_of(alloc, self.outs.as_slice())?,
+            draws: self.draws.try_clone(alloc)?,
+            sends: self.sends.try_clone(alloc)?,
+            outs: self.outs.try_clone(alloc)?,
             pages: copies_of(alloc, self.pages.as_slice())?,
         })
     }

@@ -1,5 +1,5 @@
 use crate::sent::Sent;
-use ken_model::{Items, Out};
+use ken_model::{Out, Shared};
 
 /// What a sealed turn did, but for its place among the turns of its node and the pages that it changed.
 #[derive(Debug, Drop)]
@@ -10,9 +10,9 @@ pub struct Effects {
     pub number: u64,
     /// Its stamp, from 1.
     pub stamp: u64,
-    pub draws: Items<u64>,
+    pub draws: Shared<u64>,
     /// What it sent, in order.
-    pub sends: Items<Sent>,
+    pub sends: Shared<Sent>,
     /// What it output, in order.
-    pub outs: Items<Out>,
+    pub outs: Shared<Out>,
 }

@@ -8,7 +8,7 @@ ghost use Rattle.ken_record.specs.Reading.{Gives, number_at, items_at, sized};
 
 use crate::RecordFault;
 use crate::bytes::{put_1, put_2, put_4, put_8, u8_front, u16_front, u32_front, u64_front};
-use ken_model::Items;
+use ken_model::{Items, Shared};
 use std::alloc::{AllocError, Global};
 
 // An item of a list.
@@ -153,7 +153,7 @@ pub(crate) fn few_front<T: Field>(
     alloc: Global,
     most: usize,
     bytes: &[u8],
-) -> Result<(Items<T>, &[u8]), RecordFault>
+) -> Result<(Shared<T>, &[u8]), RecordFault>
     ensures { Gives (λ x. (x.0, x.1.now)) result (sized 1 most (items_at T.reads) bytes.now) }
 {
     let (count, rest) = u8_front(bytes)?;
@@ -161,7 +161,8 @@ pub(crate) fn few_front<T: Field>(
     if count > most {
         return Err(RecordFault::Bad);
     }
-    some(alloc, count, rest)
+    let (items, rest) = some(alloc, count, rest)?;
+    Ok((Shared::new(alloc, items.into_vec())?, rest))
 }
 
 // A count of two bytes, at most `most`, and the items.

@@ -12,7 +12,7 @@ use crate::out::{are_numbered, are_short};
 use crate::page::Page;
 use crate::rising::rise;
 use crate::sent::Sent;
-use ken_model::{Items, MAX_NODES, MAX_PAGES, OUTSIDE, Out};
+use ken_model::{Items, MAX_NODES, MAX_PAGES, OUTSIDE, Out, Shared};
 use std::alloc::{AllocError, Global};
 
 /// The most draws of a turn.
@@ -41,9 +41,9 @@ pub struct Record {
     pub from: u8,
     /// The number of that message, from 1.
     pub number: u64,
-    pub draws: Items<u64>,
-    pub sends: Items<Sent>,
-    pub outs: Items<Out>,
+    pub draws: Shared<u64>,
+    pub sends: Shared<Sent>,
+    pub outs: Shared<Out>,
     /// The pages that it changed, rising strictly.
     pub pages: Items<Page>,
 }
@@ -158,7 +158,7 @@ fn origin_front(bytes: &[u8]) -> Result<((u64, (u64, (u8, u64))), &[u8]), Record
     Ok(((turn, (stamp, (from, number))), rest))
 }
 
-type Lists = (Items<u64>, (Items<Sent>, (Items<Out>, Items<Page>)));
+type Lists = (Shared<u64>, (Shared<Sent>, (Shared<Out>, Items<Page>)));
 
 #[tactic(auto, unfolding(crate::specs::Reading::lists_at))]
 fn lists_front(alloc: Global, bytes: &[u8]) -> Result<(Lists, &[u8]), RecordFault>

@@ -6,7 +6,7 @@ ghost use Rattle.ken_record.specs.Reading.{sent_at};
 use crate::RecordFault;
 use crate::bytes::{put_1, put_8, put_text, text_front, u8_front, u64_front};
 use crate::field::Field;
-use ken_model::{MAX_NODES, MAX_TEXT, Octets};
+use ken_model::{MAX_NODES, MAX_TEXT, Octets, Single};
 use std::alloc::{AllocError, Global};
 
 /// A message that a turn sent. Its stamp is its record's.
@@ -16,6 +16,12 @@ pub struct Sent {
     /// Its place on its link, from 1.
     pub number: u64,
     pub bytes: Octets,
+}
+
+impl Single for Sent {
+    fn alone(&self) -> &[Sent] {
+        std::slice::from_ref(self)
+    }
 }
 
 impl Field for Sent {

@@ -3,7 +3,7 @@ ghost use Rattle.std.specs.Prelude.{◌≡◌};
 
 use crate::row::{Answered, Row};
 use ken_actors::{Actors, KindPlayer};
-use ken_model::{Facts, Input, Items, Kind, MAX_TEXT, Step};
+use ken_model::{Facts, Input, Items, Kind, MAX_TEXT, Shared, Step};
 use ken_rows::RowFault;
 
 /// A run with heaps of one page and one input, for node 0.
@@ -41,7 +41,7 @@ impl Run {
     pub(crate) fn step(&mut self, row: &mut Row<'_, '_>) -> Answered {
         let node = row.words.within(0, 255)? as u8;
         let from = row.words.within(0, 255)? as u8;
-        let draws = Items::new(row.words.numbers(row.alloc)?);
+        let draws = Shared::new(row.alloc, row.words.numbers(row.alloc)?)?;
         let done = match self.actors.step(&Step { node, from, draws }) {
             Ok(done) => done,
             Err(fault) => return row.put(format!(in row.alloc; "{fault}")?),

@@ -7,7 +7,7 @@ use crate::outboxes::mail;
 use crate::packets::tell;
 use crate::row::Row;
 use ken_links::{PopEnd, PushEnd, ring};
-use ken_model::{Items, Octets};
+use ken_model::{Octets, Shared};
 use ken_net::{Act, Handed, Inboxes, LinkAct, Links, Lossy, Net, PlainNet};
 use ken_packet::{Packet, encode, encode_mail};
 use ken_record::Sent;
@@ -107,8 +107,8 @@ impl Ship {
         self.sealed.push(Sealed {
             turn: number,
             stamp: number,
-            sends: Items::new(vec![in row.alloc; sent]?),
-            outs: Items::new(Vec::new(row.alloc)),
+            sends: Shared::new(row.alloc, vec![in row.alloc; sent]?)?,
+            outs: Shared::empty(),
         });
         Ok(())
     }

@@ -6,7 +6,7 @@ use crate::disks::Kept;
 use crate::stores::Stage;
 use ken_alloc::Objects;
 use ken_disk::MAX_LEN;
-use ken_model::{Items, MAX_PAGES, OUTSIDE, Octets, Out, PAGE};
+use ken_model::{MAX_PAGES, OUTSIDE, Octets, Out, PAGE, Shared};
 use ken_record::{Effects, Sent};
 use ken_store::StoreFault;
 use std::alloc::{AllocError, Global};
@@ -182,19 +182,19 @@ fn effects(alloc: Global, store: &Kept, told: &[u64]) -> Result<Effects, AllocEr
         from: OUTSIDE,
         number: store.consumed_from(OUTSIDE).saturating_add(1),
         stamp: store.stamp().saturating_add(2),
-        draws: Items::new(Vec::new(alloc)),
-        sends: Items::new(Vec::new(alloc)),
-        outs: Items::new(vec![in alloc; out]?),
+        draws: Shared::empty(),
+        sends: Shared::empty(),
+        outs: Shared::new(alloc, vec![in alloc; out]?)?,
     };
     if let [stamp, from, number, to, draws @ ..] = told {
         effects.stamp = *stamp;
         effects.from = (*from % 256) as u8;
         effects.number = *number;
-        effects.draws = Items::new(Vec::from_slice(alloc, draws)?);
+        effects.draws = Shared::new(alloc, Vec::from_slice(alloc, draws)?)?;
         let to = (*to % 8) as u8;
         let number = store.sent_to(to).saturating_add(1);
         let bytes = Octets::copied(alloc, b"0")?;
-        effects.sends = Items::new(vec![in alloc; Sent { to, number, bytes }]?);
+        effects.sends = Shared::new(alloc, vec![in alloc; Sent { to, number, bytes }]?)?;
     }
     Ok(effects)
 }

@@ -1,6 +1,6 @@
 ghost use Rattle.ken_ship.specs.Fits.{AreSent};
 
-use ken_model::{Items, MAX_NODES, Out};
+use ken_model::{MAX_NODES, Out, Shared};
 use ken_record::Sent;
 
 /// What a node's handler hands to its externaliser: what a sealed turn sent and output.
@@ -11,9 +11,9 @@ pub struct Sealed {
     /// Its stamp, from 1.
     pub stamp: u64,
     /// What it sent, in order. Each can be spelled as mail.
-    pub sends: Items<Sent>,
+    pub sends: Shared<Sent>,
     /// What it output, in order.
-    pub outs: Items<Out>,
+    pub outs: Shared<Out>,
     ghost fits: { AreSent stamp sends },
 }
 

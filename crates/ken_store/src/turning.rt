@@ -32,7 +32,7 @@ use ken_alloc::Objects;
 use ken_disk::Disk;
 use ken_frame::Frame;
 use ken_log::{Log, SealFault};
-use ken_model::{Items, Octets, copies_of};
+use ken_model::{Items, Octets, TryClone};
 use ken_record::{Effects, Page, Record};
 use std::alloc::{AllocError, Global};
 use std::sync::Arc;
@@ -193,9 +193,9 @@ fn record_of(
         stamp: effects.stamp,
         from: effects.from,
         number: effects.number,
-        draws: Items::new(Vec::from_slice(alloc, effects.draws.as_slice())?),
-        sends: copies_of(alloc, effects.sends.as_slice())?,
-        outs: copies_of(alloc, effects.outs.as_slice())?,
+        draws: effects.draws.try_clone(alloc)?,
+        sends: effects.sends.try_clone(alloc)?,
+        outs: effects.outs.try_clone(alloc)?,
         pages: pages_in(alloc, frames)?,
     })
 }

@@ -9,7 +9,7 @@ ghost use Rattle.ken_ship.specs.Fits.{AreSent};
 ghost use Rattle.ken_work.specs.Making.{IsHanded};
 ghost use Rattle.ken_work.specs.Parts.{effects_in};
 
-use ken_model::{Items, MAX_NODES, Octets, Out, Send, copies_of};
+use ken_model::{Listing, MAX_NODES, Octets, Out, Send, Shared, TryClone};
 use ken_record::{Effects, Record, Sent};
 use ken_ship::Sealed;
 use std::alloc::{AllocError, Global};
@@ -18,12 +18,12 @@ use std::alloc::{AllocError, Global};
 pub(crate) const NODES: usize = MAX_NODES as usize;
 
 // What a turn drew.
-pub(crate) fn draws_of(alloc: Global, draws: &[u64]) -> Result<Items<u64>, AllocError>
+pub(crate) fn draws_of(alloc: Global, draws: &[u64]) -> Result<Shared<u64>, AllocError>
     requires { length draws.now ≤ 16 }
     ensures same { IfOk result (λ items. items ≡ draws.now) }
     ensures words { IfOk result (λ items. AtMost 16 IsWord items) }
 {
-    Ok(Items::new(Vec::from_slice(alloc, draws)?))
+    Shared::new(alloc, Vec::from_slice(alloc, draws)?)
 }
 
 // Messages of a turn, each numbered after the last one to its node.
@@ -31,12 +31,12 @@ pub(crate) fn sends_of(
     alloc: Global,
     mut sent: [u64; NODES],
     sends: Vec<Send>,
-) -> Result<Items<Sent>, AllocError>
+) -> Result<Shared<Sent>, AllocError>
     requires known { AllByRecursion (λ s. s.to < 8) sends.items }
     requires room { (w : ℕ) → slice_index sent w + length sends.items < 2 ^ 64 }
     ensures { (v stamp : ℕ) → IfOk result (λ items. items ≡ map sent_of (posted_after v stamp (λ w. slice_index sent w) sends.items)) }
 {
-    let mut numbered = Vec::with_capacity(alloc, sends.len())?;
+    let mut numbered = Listing::new(alloc);
     for send in sends {
         let to = usize::from(send.to);
         let number = sent[to] + 1;
@@ -47,7 +47,7 @@ pub(crate) fn sends_of(
             bytes: send.bytes,
         })?;
     }
-    Ok(Items::new(numbered))
+    numbered.finish(alloc)
 }
 
 // Outputs of a turn, numbered after the last one.
@@ -56,16 +56,16 @@ pub(crate) fn outs_of(
     alloc: Global,
     mut last: u64,
     texts: Vec<Octets>,
-) -> Result<Items<Out>, AllocError>
+) -> Result<Shared<Out>, AllocError>
     requires { last + length texts.items < 2 ^ 64 }
     ensures { IfOk result (λ outs. outs ≡ outputs_from last texts.items) }
 {
-    let mut outs = Vec::with_capacity(alloc, texts.len())?;
+    let mut outs = Listing::new(alloc);
     for text in texts {
         last += 1;
         outs.push(Out { number: last, text })?;
     }
-    Ok(Items::new(outs))
+    outs.finish(alloc)
 }
 
 // What the externaliser is handed of a turn.
@@ -76,8 +76,8 @@ pub(crate) fn handed(alloc: Global, turn: u64, effects: &Effects) -> Result<Seal
     Ok(Sealed {
         turn,
         stamp: effects.stamp,
-        sends: copies_of(alloc, effects.sends.as_slice())?,
-        outs: copies_of(alloc, effects.outs.as_slice())?,
+        sends: effects.sends.try_clone(alloc)?,
+        outs: effects.outs.try_clone(alloc)?,
     })
 }
 
@@ -89,8 +89,8 @@ pub(crate) fn effects_of(alloc: Global, last: &Record) -> Result<Effects, AllocE
         from: last.from,
         number: last.number,
         stamp: last.stamp,
-        draws: Items::new(Vec::from_slice(alloc, last.draws.as_slice())?),
-        sends: copies_of(alloc, last.sends.as_slice())?,
-        outs: copies_of(alloc, last.outs.as_slice())?,
+        draws: last.draws.try_clone(alloc)?,
+        sends: last.sends.try_clone(alloc)?,
+        outs: last.outs.try_clone(alloc)?,
     })
 }
