@@ -12,3 +12,4 @@ mod Stops
 mod Told
 mod Went
 mod Sent
+mod Teams

@@ -1,7 +1,8 @@
 -- What the workers of nodes made in a round.
-use Rattle.std.specs.Prelude.{◌≡◌, ℕ, ◌<◌, List, length, slice_index_or}
+use Rattle.std.specs.Prelude.{◌≡◌, ℕ, ◌<◌, List, length, slice_index_or, Result, Ok, Err}
 use Rattle.ken_ship.specs.declared.faults.NodeFault.{NodeFault}
 use Rattle.ken_threads.specs.declared.team.Team.{Team}
+use Rattle.ken_threads.specs.declared.works.Seat.{Seat}
 use Rattle.ken_threads.specs.Ran.{HasRan}
 
 -- each of a node's workers may make sixteen steps
@@ -22,3 +23,8 @@ module _ {T P S : Type 0} (t_steps : T → T → Type 0) (t_fails : NodeFault �
   pub record HaveTeamsRun (old new : List (Team T P S)) : Type 0 where
     pub count : length new ≡ length old
     pub each : (k : ℕ) (none : Team T P S) → k < length old → TeamHasRun (slice_index_or old k none) (slice_index_or new k none)
+
+-- a seat's worker was given to a thread, which answers for it; or it has run
+abbrev pub HasStarted : {H W : Type 0} → (W → W → Type 0) → (NodeFault → W → W → Type 0) → (H → Seat W) → Seat W → Result H (Seat W) → Type 0
+HasStarted steps fails given seat (Ok handle) = given handle ≡ seat
+HasStarted steps fails given seat (Err ran) = HasRan steps fails seat ran

@@ -51,7 +51,7 @@ where
     let mut mail = Wiring::new(alloc, nodes as u8)?;
     let mut acks = Wiring::new(alloc, nodes as u8)?;
     seat_all(rt, app, crews, &mut mail, &mut acks, &mut teams);
-    run_teams(rt, teams.as_mut_slice(), gate);
+    let mut teams = run_teams(rt, teams, gate);
     unseat_all(&mut teams, crews, &mut mail, &mut acks);
     mail.close();
     acks.close();

@@ -1,6 +1,4 @@
-use Rattle.std.proofs.Common.{◌≡◌, ◌∙◌, ℕ, length, ap, subst, arith}
-use Rattle.std.specs.Vec.{with_items}
-use Rattle.std.proofs.lemmas.List.{with_items_is}
+use Rattle.std.proofs.Common.{◌≡◌, ◌∙◌, ℕ, length, subst, arith}
 use Rattle.ken_threads.specs.Wires.{AreNew, ends_of}
 use Rattle.ken_threads.proofs.Rounding.{acks_served, has_room, HasBegun, HasEnded, mail_served, net_of, rounded, teams_ready}
 use denote.Exit.{no}
@@ -21,21 +19,12 @@ begun g c =
       acks_new = subst (λ (k : ℕ). AreNew k c.in_ok-acks.acks.takes.items (ends_of c.in_ok-acks.acks.sends.items)) size c.in_ok-acks.ensures;
     }
 
--- the teams after their steps, in the list that was lent
-lent : (g : Over) (c : After-run_teams g) → (with_items c.seat_all.new.teams c.run_teams.new.teams).items ≡ c.run_teams.new.teams
-lent g c =
-    let value : c.as_mut_slice.result.now ≡ c.seat_all.new.teams.items = c.as_mut_slice.ensures.value in
-    with_items_is c.seat_all.new.teams c.run_teams.new.teams (omega (arith, c.run_teams.ensures.count, ap (λ l. length l) value, c.seat_all.new.teams.ok.0))
-
-count : (g : Over) (c : After-run_teams g) → length (with_items c.seat_all.new.teams c.run_teams.new.teams).items ≡ length c.args.crews.now.items
-count g c =
-    let value : c.as_mut_slice.result.now ≡ c.seat_all.new.teams.items = c.as_mut_slice.ensures.value in
-    ap (λ l. length l) (lent g c) ∙ c.run_teams.ensures.count ∙ ap (λ l. length l) value ∙ c.seat_all.ensures.seated.count
+count : (g : Over) (c : After-run_teams g) → length c.run_teams.result.items ≡ length c.args.crews.now.items
+count g c = c.run_teams.ensures.count ∙ c.seat_all.ensures.seated.count
 
 pub run_teams-requires-after_bounds : goal.run_teams-requires-after_bounds
 run_teams-requires-after_bounds g c κs within =
-    let value : c.as_mut_slice.result.now ≡ c.seat_all.new.teams.items = c.as_mut_slice.ensures.value in
-    rw value (teams_ready c.ends_over_wires.ensures g.D.Disk g.O.Oracle g.U.Outlet g.A.App.handler (begun g (goal.at.run_teams-requires-after_bounds g c).After-seat_all) c.requires.ready)
+    teams_ready c.ends_over_wires.ensures g.D.Disk g.O.Oracle g.U.Outlet g.A.App.handler (begun g (goal.at.run_teams-requires-after_bounds g c).After-seat_all) c.requires.ready
 
 pub unseat_all-requires-clause-crews : goal.unseat_all-requires-clause-crews
 unseat_all-requires-clause-crews g c =
@@ -52,34 +41,32 @@ unseat_all-requires-clause-acks g c =
     let at = goal.at.unseat_all-requires-clause-acks g c in
     has_room (length c.args.crews.now.items) _ c.in_ok-acks.acks c.seat_all.new.acks (begun g at.After-seat_all).acks_new c.seat_all.ensures.empty.2 (count g at.After-run_teams)
 
-ended : (g : Over) (c : After-unseat_all g) → (with_items c.seat_all.new.teams c.run_teams.new.teams).items ≡ c.run_teams.new.teams
-    → HasEnded g.D.Disk (net_of c.ends_over_wires.ensures) g.O.Oracle g.U.Outlet g.A.App.handler c.unseat_all.new.crews.items c.unseat_all.new.mail c.unseat_all.new.acks c.seat_all.new.teams.items (with_items c.seat_all.new.teams c.run_teams.new.teams).items
-ended g c back =
-    let value : c.as_mut_slice.result.now ≡ c.seat_all.new.teams.items = c.as_mut_slice.ensures.value in
-    record {
-      seated = c.unseat_all.ensures.seated;
-      faults = c.unseat_all.ensures.faults;
-      run = rw back (rw value at c.run_teams.ensures);
-      mail = c.unseat_all.ensures.mail;
-      acks = c.unseat_all.ensures.acks;
-    }
+ended : (g : Over) (c : After-unseat_all g)
+    → HasEnded g.D.Disk (net_of c.ends_over_wires.ensures) g.O.Oracle g.U.Outlet g.A.App.handler c.unseat_all.new.crews.items c.unseat_all.new.mail c.unseat_all.new.acks c.seat_all.new.teams.items c.run_teams.result.items
+ended g c = record {
+  seated = c.unseat_all.ensures.seated;
+  faults = c.unseat_all.ensures.faults;
+  run = c.run_teams.ensures;
+  mail = c.unseat_all.ensures.mail;
+  acks = c.unseat_all.ensures.acks;
+}
 
 pub close-requires : goal.close-requires
 close-requires g c =
     let at = goal.at.close-requires g c in
-    (length c.args.crews.now.items, (mail_served c.ends_over_wires.ensures g.D.Disk g.O.Oracle g.U.Outlet g.A.App.handler (begun g at.After-seat_all) (ended g at.After-unseat_all (lent g at.After-run_teams))).wired)
+    (length c.args.crews.now.items, (mail_served c.ends_over_wires.ensures g.D.Disk g.O.Oracle g.U.Outlet g.A.App.handler (begun g at.After-seat_all) (ended g at.After-unseat_all)).wired)
 
 pub close-requires-2 : goal.close-requires-2
 close-requires-2 g c =
     let at = goal.at.close-requires-2 g c in
-    (length c.args.crews.now.items, (acks_served c.ends_over_wires.ensures g.D.Disk g.O.Oracle g.U.Outlet g.A.App.handler (begun g at.After-seat_all) (ended g at.After-unseat_all (lent g at.After-run_teams))).wired)
+    (length c.args.crews.now.items, (acks_served c.ends_over_wires.ensures g.D.Disk g.O.Oracle g.U.Outlet g.A.App.handler (begun g at.After-seat_all) (ended g at.After-unseat_all)).wired)
 
 pub returns-clause-ok : goal.returns-clause-ok
 returns-clause-ok g c =
     let at = goal.at.returns-clause-ok g c in
     let n = length c.args.crews.now.items in
     let from = begun g at.After-seat_all in
-    let to = ended g at.After-unseat_all (lent g at.After-run_teams) in
+    let to = ended g at.After-unseat_all in
     let mail = mail_served c.ends_over_wires.ensures g.D.Disk g.O.Oracle g.U.Outlet g.A.App.handler from to in
     let acks = acks_served c.ends_over_wires.ensures g.D.Disk g.O.Oracle g.U.Outlet g.A.App.handler from to in
     rounded c.ends_over_wires.ensures g.D.Disk g.O.Oracle g.U.Outlet g.A.App.handler from to (c.close.ensures n mail.wired) (c.close-2.ensures n acks.wired)
