@@ -1,5 +1,6 @@
 """Times runs of a program: each case is run again and again, and its best run counts."""
 
+import os
 import subprocess
 import sys
 import tempfile
@@ -36,8 +37,20 @@ class Case:
         return self.runs < LEAST_RUNS or self.spent < SECONDS
 
 
+def is_current(program):
+    """Whether a program is built, as the gate builds all of them, and no file of a crate has changed since."""
+    if not os.access(program, os.X_OK):
+        return False
+    parts = (ROOT.glob(f"crates/*/{part}/**/*") for part in ("src", "specs", "proofs"))
+    files = [ROOT / "crates.txt", *(path for part in parts for path in part if path.is_file())]
+    return all(path.stat().st_mtime <= program.stat().st_mtime for path in files)
+
+
 def built(crate, *words):
-    """The program of a crate. rt builds one only to run it, here with these words and no input, and says what it does meanwhile."""
+    """The program of a crate. Where it isn't built, rt builds it: only to run it, here with these words and no input. It says what
+    it does meanwhile."""
+    if is_current(program := ROOT / "crates" / crate / "out" / crate):
+        return program
     print(f"rt builds {crate}, and proves what isn't proved yet", file=sys.stderr, flush=True)
     told, folder = [], ROOT / "crates" / crate
     streams = {"stdin": subprocess.DEVNULL, "stdout": subprocess.PIPE, "stderr": subprocess.STDOUT}
@@ -48,7 +61,7 @@ def built(crate, *words):
                 print(line, end="", file=sys.stderr, flush=True)
     if rt.returncode:
         raise SystemExit("".join(told))
-    return folder / "out" / crate
+    return program
 
 
 def run(words, case, room):
