@@ -1,14 +1,17 @@
 -- The pages that a turn changed, in rising order.
-use Rattle.std.proofs.Common.{◌≡◌, ◌≢◌, ℕ, ◌+◌, ◌/◌, ◌<◌, ◌≤◌, suc, zero, List, [], ◌∷◌, ◌++◌, length, map, take, get_or, refl, sym, ap, ap₂, ◌∙◌, arith, Bool, true, false, not, cond, ⊎_elim, true≢false, take-suc}
+use Rattle.std.proofs.Common.{◌≡◌, ◌≢◌, ℕ, ◌+◌, ◌/◌, ◌<◌, ◌≤◌, suc, zero, List, [], ◌∷◌, ◌++◌, length, map, take, drop, get_or, refl, sym, ap, ap₂, ◌∙◌, arith, Bool, true, false, not, cond, ⊎_elim, true≢false, take-suc}
 use Rattle.std.specs.List.{filter, range_with_len}
 use Rattle.std.specs.List.Sorted.{IsPermutation, IsSorted, IsNonDecreasingBy}
 use Rattle.std.specs.Str.{bytes_eq}
 use Rattle.std.specs.Ordering.{nat_cmp, MatchOrdering}
 use Rattle.std.specs.declared.cmp.Ordering.{Ordering}
 use Rattle.std.specs.declared.cmp.Ordering.TheVariants.{Less, Equal, Greater}
-use Rattle.std.proofs.lemmas.Cmp.{ranked}
+use Rattle.std.proofs.lemmas.Cmp.{ranked, nat_cmp_total}
 use Rattle.std.proofs.lemmas.Bool.Decides.{eqb_tells}
-use Rattle.std.proofs.lemmas.List.Sorted.{sum_by-IsPermutation, IsNonDecreasingBy-from_sort}
+use Rattle.std.proofs.lemmas.List.Sorted.{sum_by-IsPermutation, IsNonDecreasingBy-from_sort, IsPermutation-refl}
+use Rattle.std.proofs.lemmas.List.Kept.{IsSortedBy-filter}
+use Rattle.std.proofs.lemmas.List.MinMax.{ranks_by}
+use Rattle.std.specs.Ordering.{is_lt}
 use Rattle.std.specs.List.{fold, sum_by}
 use Rattle.ken_pages.specs.declared.page.Page.{Page}
 use Rattle.ken_pages.specs.Paged.{page_of, page_differs, dirty_pages}
@@ -226,3 +229,23 @@ pub filter_more : (P : ℕ → Bool) (xs : List ℕ) (i : ℕ) → i < length xs
 filter_more P xs i within =
     let step : i + 1 ≡ suc i = omega arith in
     ap (λ n. filter P (take n xs)) step ∙ ap (filter P) (take-suc xs i 0 within) ∙ filter_snoc P (take i xs) (get_or xs i 0)
+
+-- pages with the same bytes, now and when the turn began, differ alike
+pub differs_same : (ps qs : List Page) → map now_of ps ≡ map now_of qs → map was_of ps ≡ map was_of qs → map differs ps ≡ map differs qs
+differs_same [] [] now was = refl
+differs_same [] (q ∷ qs) now was = absurd cc
+differs_same (p ∷ ps) [] now was = absurd cc
+differs_same (p ∷ ps) (q ∷ qs) now was =
+    let is : now_of p ≡ now_of q = ap (λ xs. get_or xs 0 []) now in
+    let first : was_of p ≡ was_of q = ap (λ xs. get_or xs 0 []) was in
+    ap₂ (λ x xs. x ∷ xs) (ap₂ (λ a b. not (bytes_eq a b)) first is) (differs_same ps qs (ap (drop 1) now) (ap (drop 1) was))
+
+-- the pages of a sorted list that differ are the dirty ones
+pub dirty_sorted : (ps : List Page) (first : List ℕ) → ArePages ps → Lists first (kept_pages ps) → IsSorted nat_cmp first → filter (differs_at ps) first ≡ dirty_pages (was_bytes ps) (now_bytes ps)
+dirty_sorted ps first pages listed sorted =
+    let changed = filter (differs_at ps) first in
+    dirty_listed ps first changed pages listed (IsPermutation-refl changed) (IsSortedBy-filter (λ x y. is_lt (nat_cmp x y)) (ranks_by nat_cmp_total (λ (x : ℕ). x)) (differs_at ps) first sorted)
+
+-- a list of pages in another order lists the same pages
+pub Lists-permutation : (first other : List ℕ) (kept : List Bool) → IsPermutation first other → Lists first kept → Lists other kept
+Lists-permutation first other kept perm listed p = times-permutation p first other perm ∙ listed p

@@ -1,5 +1,5 @@
 // Pages one after the other, as one list of bytes.
-ghost use Rattle.std.specs.Prelude.{◌≡◌, ◌+◌, ◌*◌, ◌/◌, ◌%◌, ◌<◌, ◌≤◌, length, take, drop, true, slice_index_or, false, ℕ, [], OnOk, OnErr};
+ghost use Rattle.std.specs.Prelude.{◌≡◌, ◌+◌, ◌-◌, ◌*◌, ◌/◌, ◌%◌, ◌<◌, ◌≤◌, length, take, drop, true, slice_index_or, false, ℕ, [], OnOk, OnErr};
 ghost use Rattle.ken_frame.specs.Written.{written};
 ghost use Rattle.ken_pages.specs.Layout.{ArePages, now_bytes, SameTurn, own_pages, kept_pages, Lists};
 
@@ -31,6 +31,16 @@ pub(crate) fn read(pages: &[Page], at: usize, buf: &mut [u8])
         read_part(pages, place, &mut buf[done..done + part]);
         done += part;
     }
+}
+
+// The bytes from the place `at` on, up to the end of its page.
+pub(crate) fn rest(pages: &[Page], at: usize) -> &[u8]
+    requires whole { ArePages pages.now }
+    requires inside { at < 256 * length pages.now }
+    ensures bytes { result.now ≡ take (256 - at % 256) (drop at (now_bytes pages.now)) }
+    ensures long { length result.now ≡ 256 - at % 256 }
+{
+    &pages[at / FRAME].frame().as_slice()[at % FRAME..]
 }
 
 // Writes bytes of one page, to the turn's own frame.

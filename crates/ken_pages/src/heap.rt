@@ -1,5 +1,5 @@
 // A heap of pages, with the turn that is begun on it.
-ghost use Rattle.std.specs.Prelude.{◌≡◌, ◌+◌, ◌-◌, ◌*◌, ◌/◌, ◌<◌, ◌≤◌, ◌^◌, false, length, take, drop, replicate, None, Some, IfOk, OnOk, OnErr, IsOk, IfSome, IsSome};
+ghost use Rattle.std.specs.Prelude.{◌≡◌, ◌+◌, ◌-◌, ◌*◌, ◌/◌, ◌%◌, ◌<◌, ◌≤◌, ◌^◌, false, length, take, drop, replicate, None, Some, IfOk, OnOk, OnErr, IsOk, IfSome, IsSome};
 ghost use Rattle.ken_frame.specs.Written.{written};
 ghost use Rattle.ken_pages.specs.Paged.{dirty_pages, frozen_pages, shared_pages, touched, with_own, lacking, own_count, without_own};
 
@@ -78,6 +78,15 @@ impl PageHeap {
         ensures { buf.new ≡ take (length buf.old) (drop at self.now.bytes) }
     {
         frames::read(&self.pages, at as usize, buf);
+    }
+
+    /// The bytes from the place `at` on, up to the end of its page.
+    pub fn rest(&self, at: u64) -> &[u8]
+        requires { at < length self.now.bytes }
+        ensures bytes { result.now ≡ take (256 - at % 256) (drop at self.now.bytes) }
+        ensures length { length result.now ≡ 256 - at % 256 }
+    {
+        frames::rest(&self.pages, at as usize)
     }
 
     /// How many frames are spare.
@@ -183,8 +192,8 @@ impl PageHeap {
         ensures own { OnOk result (IfSome self.old.begun (λ before.
             self.new.own ≡ without_own (dirty_pages before self.old.bytes) self.old.own)) }
     {
-        let changed = turn::changed(self.alloc, &self.pages, &self.first)?;
-        turn::share(self.alloc, &mut self.pages, &changed)
+        self.first.sort_unstable();
+        turn::freeze(self.alloc, &mut self.pages, &self.first)
     }
 
     /// Ends the turn, and keeps what it wrote. The frames that its pages had before are spare, where nobody shares

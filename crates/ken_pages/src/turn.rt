@@ -1,7 +1,9 @@
 // The pages that a turn wrote.
 ghost use Rattle.std.specs.Prelude.{◌≡◌, ℕ, ◌+◌, ◌-◌, ◌*◌, ◌<◌, ◌≤◌, ◌^◌, length, take, drop, map, replicate, true, false, All, IfOk, OnOk, slice_index_or, slice_set, vec_len, vec_capacity};
 ghost use Rattle.std.specs.Arc.{arc_value};
-ghost use Rattle.ken_pages.specs.Paged.{dirty_pages, page_of, with_bytes, shared_pages, lacking, with_own, missing, without_own, own_count};
+ghost use Rattle.std.specs.List.Sorted.{IsSorted};
+ghost use Rattle.std.specs.Ordering.{nat_cmp};
+ghost use Rattle.ken_pages.specs.Paged.{dirty_pages, frozen_pages, page_of, shared_pages, lacking, with_own, missing, without_own, own_count};
 ghost use Rattle.ken_pages.specs.Layout.{ArePages, Lists, now_of, was_of, now_bytes, was_bytes, own_pages, kept_pages};
 
 use crate::page::Page;
@@ -155,26 +157,30 @@ fn share_page(alloc: Global, pages: &mut [Page], page: u32) -> Result<Arc<Frame>
     pages[page as usize].share(alloc)
 }
 
-// A share of each of these pages, with its number. No byte is copied.
-pub(crate) fn share(
+// A share of each page whose bytes are not as they were at `begin`, with its number, in rising order. No byte is copied.
+pub(crate) fn freeze(
     alloc: Global,
     pages: &mut [Page],
-    changed: &[u32],
+    first: &[u32],
 ) -> Result<Vec<(u32, Arc<Frame>)>, AllocError>
     requires whole { ArePages pages.old }
-    requires kept { All (λ p. slice_index_or (kept_pages pages.old) p false ≡ true) changed.now }
+    requires listed { Lists first.now (kept_pages pages.old) }
+    requires sorted { IsSorted nat_cmp first.now }
     ensures whole { ArePages pages.new }
     ensures shares { IfOk result (λ frozen.
-        shared_pages frozen.items ≡ map (with_bytes (now_bytes pages.old)) changed.now) }
+        shared_pages frozen.items ≡ frozen_pages (was_bytes pages.old) (now_bytes pages.old)) }
     ensures now { map now_of pages.new ≡ map now_of pages.old }
     ensures was { map was_of pages.new ≡ map was_of pages.old }
     ensures kept { kept_pages pages.new ≡ kept_pages pages.old }
-    ensures own { OnOk result (own_pages pages.new ≡ without_own changed.now (own_pages pages.old)) }
+    ensures own { OnOk result (own_pages pages.new
+        ≡ without_own (dirty_pages (was_bytes pages.old) (now_bytes pages.old)) (own_pages pages.old)) }
     ensures count { length pages.new ≡ length pages.old }
 {
-    let mut frozen = Vec::with_capacity(alloc, changed.len())?;
-    for page in changed {
-        frozen.push_reserved((*page, share_page(alloc, pages, *page)?));
+    let mut frozen = Vec::with_capacity(alloc, first.len())?;
+    for page in first {
+        if pages[*page as usize].differs() {
+            frozen.push_reserved((*page, share_page(alloc, pages, *page)?));
+        }
     }
     Ok(frozen)
 }
