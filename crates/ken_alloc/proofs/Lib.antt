@@ -3,6 +3,8 @@ pub mod Cells
 pub mod Blocks
 pub mod Rooms
 pub mod Carved
+pub mod Rests
+pub mod Begins
 pub mod Walks
 pub mod Held
 pub mod Laid

@@ -1,5 +1,5 @@
 -- Objects in a heap, as their callers see them.
-use Rattle.std.specs.Prelude.{ℕ, List, [], ◌∷◌, replicate, ◌==◌, if◌then◌else◌, Option, Some, None, IfSome, IsSome}
+use Rattle.std.specs.Prelude.{ℕ, suc, List, [], ◌∷◌, ◌++◌, length, take, replicate, Bool, bytes_eq, ◌==◌, if◌then◌else◌, Option, Some, None, IfSome, IsSome}
 use Rattle.ken_frame.specs.Written.{written}
 use Rattle.ken_pages.specs.Paged.{Paged}
 use Rattle.ken_model.specs.declared.values.Block.{Block}
@@ -35,3 +35,12 @@ with_zeros (Some place) n v = record v { blocks = with_block (record { place = p
 abbrev pub rewritten : ℕ → ℕ → List ℕ → List Block → List Block
 rewritten place at bytes [] = []
 rewritten place at bytes (b ∷ bs) = if b.place == place then record b { bytes = written b.bytes at bytes } ∷ bs else b ∷ rewritten place at bytes bs
+
+-- the bytes begin with a key and then one more byte
+abbrev pub has_front : List ℕ → ℕ → List ℕ → Bool
+has_front key behind bytes = bytes_eq (take (suc (length key)) bytes) (key ++ behind ∷ [])
+
+-- the place of the first block that does
+abbrev pub place_of_front : List ℕ → ℕ → List Block → Option ℕ
+place_of_front key behind [] = None
+place_of_front key behind (b ∷ bs) = if has_front key behind b.bytes then Some b.place else place_of_front key behind bs

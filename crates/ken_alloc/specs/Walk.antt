@@ -1,5 +1,5 @@
 -- Walks over the cells, from the end of one block to the end of the next.
-use Rattle.std.specs.Prelude.{◌≡◌, ℕ, ◌+◌, ◌-◌, ◌%◌, ◌<◌, ◌^◌, List, [], ◌∷◌, length, ◌==◌, nat_lt, if◌then◌else◌, Option, Some, None}
+use Rattle.std.specs.Prelude.{◌≡◌, ℕ, ◌+◌, ◌-◌, ◌%◌, ◌<◌, ◌^◌, List, [], ◌∷◌, length, take, drop, ◌==◌, nat_lt, if◌then◌else◌, Option, Some, None}
 use Rattle.ken_model.specs.declared.values.Block.{Block}
 use Rattle.ken_model.specs.Heap.{rounded, end_of}
 use Rattle.ken_alloc.specs.declared.walk.Found.{Found}
@@ -25,6 +25,10 @@ start_of size (b ∷ bs) = b.place - 16
 abbrev pub first_of : List Block → Option Found
 first_of [] = None
 first_of (b ∷ bs) = Some (record { place = b.place; len = length b.bytes })
+
+-- the bytes from a place on, up to the end of its page
+abbrev pub page_rest : ℕ → List ℕ → List ℕ
+page_rest at bytes = take (256 - at % 256) (drop at bytes)
 
 -- the first gap that a block of n bytes fits into
 abbrev pub fit_from : ℕ → ℕ → List Block → ℕ → Option Gap

@@ -1,5 +1,5 @@
 // Heads of cells in pages.
-ghost use Rattle.std.specs.Prelude.{◌≡◌, ◌+◌, ◌≤◌, length, drop, IsSome, OnOk, OnErr};
+ghost use Rattle.std.specs.Prelude.{◌≡◌, ◌+◌, ◌%◌, ◌≤◌, length, drop, IsSome, OnOk, OnErr};
 ghost use Rattle.byteorder.specs.Endian.{big_number};
 ghost use Rattle.ken_frame.specs.Written.{written};
 ghost use Rattle.ken_model.specs.Layout.{head_bytes};
@@ -16,18 +16,26 @@ pub(crate) fn size(pages: &PageHeap) -> u64
     u64::from(pages.pages()) * PAGE
 }
 
+// The numbers of the head that these bytes begin with.
+pub(crate) fn of(bytes: &[u8]) -> Head
+    requires { 8 ≤ length bytes.now }
+    ensures span { result.span ≡ big_number 4 bytes.now }
+    ensures len { result.len ≡ big_number 4 (drop 4 bytes.now) }
+{
+    Head {
+        span: BigEndian::read_u32(bytes),
+        len: BigEndian::read_u32(&bytes[4..]),
+    }
+}
+
 // The numbers that stand where a head is.
 pub(crate) fn read(pages: &PageHeap, at: u64) -> Head
-    requires { at + 16 ≤ length pages.now.bytes }
+    requires even { at % 16 ≡ 0 }
+    requires within { at + 16 ≤ length pages.now.bytes }
     ensures span { result.span ≡ big_number 4 (drop at pages.now.bytes) }
     ensures len { result.len ≡ big_number 4 (drop (at + 4) pages.now.bytes) }
 {
-    let mut bytes = [0; 8];
-    pages.read(at, &mut bytes);
-    Head {
-        span: BigEndian::read_u32(&bytes),
-        len: BigEndian::read_u32(&bytes[4..]),
-    }
+    of(pages.rest(at))
 }
 
 // Writes a head. After an error no byte has changed.

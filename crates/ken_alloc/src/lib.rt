@@ -6,6 +6,7 @@ mod carve;
 mod copy;
 mod faults;
 mod format;
+mod fronts;
 mod head;
 mod objects;
 mod walk;

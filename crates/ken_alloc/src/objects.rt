@@ -9,11 +9,11 @@ ghost use Rattle.ken_pages.specs.Paged.{dirty_pages, frozen_pages, shared_pages}
 ghost use Rattle.ken_model.specs.Layout.{StandsFor, first_bytes, first_heap};
 ghost use Rattle.ken_model.specs.Broken.{BreaksAt};
 ghost use Rattle.ken_model.specs.Reading.{value_of};
-ghost use Rattle.ken_alloc.specs.Objects.{IsBlock, with_zeros, rewritten};
+ghost use Rattle.ken_alloc.specs.Objects.{IsBlock, with_zeros, rewritten, place_of_front};
 ghost use Rattle.ken_alloc.specs.Changes.{after_alloc, after_free};
 
 use crate::walk::{self, Found};
-use crate::{Broken, adopt, carve, copy, format, head};
+use crate::{Broken, adopt, carve, copy, format, fronts, head};
 use byteorder::{BigEndian, ByteOrder};
 use ken_frame::Frame;
 use ken_model::{CELLS, HEAD, Head, Items, PAGE, Value};
@@ -175,6 +175,14 @@ impl Objects {
         ensures unchanged { OnErr result (self.new ≡ self.old) }
     {
         self.pages.write(place + at, bytes)
+    }
+
+    /// The place of the first block that begins with the key and then the byte `behind`.
+    pub fn find_front(&self, key: &[u8], behind: u8) -> Option<u64>
+        ensures place { result ≡ place_of_front key.now behind self.now.value.blocks }
+        ensures heap { IsHeap self.now.value }
+    {
+        fronts::find(&self.pages, key, behind)
     }
 
     /// The root: a number that the handler keeps.

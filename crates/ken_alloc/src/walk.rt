@@ -3,7 +3,7 @@ ghost use Rattle.std.specs.Prelude.{◌≡◌, ◌+◌, ◌-◌, ◌<◌, ◌≤
 ghost use Rattle.ken_model.specs.Heap.{rounded};
 ghost use Rattle.ken_model.specs.Layout.{StandsFor};
 ghost use Rattle.ken_model.specs.Reading.{value_of};
-ghost use Rattle.ken_alloc.specs.Walk.{CanWalk, IsWalk, start_of, first_of, fit_from, hole_from};
+ghost use Rattle.ken_alloc.specs.Walk.{CanWalk, IsWalk, start_of, first_of, page_rest, fit_from, hole_from};
 
 use crate::head;
 use ken_model::{CELLS, HEAD, rounded};
@@ -64,6 +64,21 @@ pub(crate) fn block_from(pages: &PageHeap, from: u64) -> Option<Found>
     })
 }
 
+// The bytes from the end of a cell on, up to the end of their page: none where the heap ends. `rest` are those from the
+// cell's beginning on.
+pub(crate) fn past<'p>(pages: &'p PageHeap, rest: &'p [u8], at: u64, span: u64) -> &'p [u8]
+    requires rest { rest.now ≡ page_rest at pages.now.bytes }
+    requires within { at + span ≤ length pages.now.bytes }
+    ensures { result.now ≡ page_rest (at + span) pages.now.bytes }
+{
+    if span < rest.len() as u64 {
+        return &rest[span as usize..];
+    }
+    let size = head::size(pages);
+    let end = at + span;
+    if end < size { pages.rest(end) } else { &[] }
+}
+
 // The first gap that a block of so many bytes fits into.
 pub(crate) fn first_fit(pages: &PageHeap, len: u64) -> Option<Gap>
     requires { StandsFor pages.now.bytes (value_of pages.now.bytes) }
@@ -74,19 +89,19 @@ pub(crate) fn first_fit(pages: &PageHeap, len: u64) -> Option<Gap>
         return None;
     }
     let room = HEAD + rounded(len);
-    let mut from = CELLS;
-    while let Some(block) = block_from(pages, from) {
-        let to = block.place - HEAD;
-        if to - from >= room {
-            return Some(Gap { from, to });
+    let mut at = CELLS;
+    let mut rest = pages.rest(CELLS);
+    while at < size {
+        let cell = head::of(rest);
+        let span = u64::from(cell.span);
+        if cell.len == 0 && span >= room {
+            let to = at + span;
+            return Some(Gap { from: at, to });
         }
-        from = block.end();
+        rest = past(pages, rest, at, span);
+        at += span;
     }
-    if size - from >= room {
-        Some(Gap { from, to: size })
-    } else {
-        None
-    }
+    None
 }
 
 // The gap that is left where a block goes, with those on both sides of it.
@@ -94,14 +109,23 @@ pub(crate) fn hole(pages: &PageHeap, place: u64) -> Option<Gap>
     requires { StandsFor pages.now.bytes (value_of pages.now.bytes) }
     ensures { result ≡ hole_from 16 (length pages.now.bytes) place (value_of pages.now.bytes).blocks }
 {
+    let size = head::size(pages);
     let mut from = CELLS;
-    while let Some(block) = block_from(pages, from) {
-        let end = block.end();
-        if block.place == place {
-            let to = gap_end(pages, end);
-            return Some(Gap { from, to });
+    let mut at = CELLS;
+    let mut rest = pages.rest(CELLS);
+    while at < size {
+        let cell = head::of(rest);
+        let span = u64::from(cell.span);
+        let end = at + span;
+        if cell.len > 0 {
+            if at + HEAD == place {
+                let to = gap_end(pages, end);
+                return Some(Gap { from, to });
+            }
+            from = end;
         }
-        from = end;
+        rest = past(pages, rest, at, span);
+        at = end;
     }
     None
 }

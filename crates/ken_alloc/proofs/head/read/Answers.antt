@@ -1,8 +1,9 @@
-use Rattle.std.proofs.Common.{ℕ, List, take, drop, ap, ◌∙◌}
-use Rattle.byteorder.specs.Endian.{big_number}
-use Rattle.ken_model.proofs.Heads.{second_read}
+use Rattle.std.proofs.Common.{◌∙◌}
+use Rattle.ken_alloc.proofs.Rests.{rest_span, rest_len}
 use Rattle.ken_alloc.proofs.head.read.Goals as goal
 
+pub returns-clause-span : goal.returns-clause-span
+returns-clause-span c = c.of.ensures.span ∙ rest_span c.args.pages.now.bytes c.rest.result.now c.args.at c.rest.ensures.bytes c.requires.even
+
 pub returns-clause-len : goal.returns-clause-len
-returns-clause-len c =
-    c.read_u32-2.ensures ∙ ap (λ (ws : List ℕ). big_number 4 (take 4 (drop 4 ws))) c.read.ensures ∙ second_read c.args.pages.now.bytes c.args.at
+returns-clause-len c = c.of.ensures.len ∙ rest_len c.args.pages.now.bytes c.rest.result.now c.args.at c.rest.ensures.bytes c.requires.even

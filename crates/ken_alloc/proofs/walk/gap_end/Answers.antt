@@ -2,8 +2,11 @@ use Rattle.ken_alloc.proofs.Walks.{head_within, over_gap}
 use Rattle.std.proofs.Common.{ℕ, ◌+◌, ap, sym, ◌∙◌}
 use Rattle.ken_alloc.proofs.walk.gap_end.Goals as goal
 
-pub read-head-requires : goal.read-head-requires
-read-head-requires c =
+pub read-head-requires-clause-even : goal.read-head-requires-clause-even
+read-head-requires-clause-even c = c.requires.walk.even
+
+pub read-head-requires-clause-within : goal.read-head-requires-clause-within
+read-head-requires-clause-within c =
     head_within c.args.pages.now.bytes c.args.from c.requires.rest c.requires.walk (λ e. c.if-from-size.false (e ∙ sym c.size.ensures))
 
 pub returns-then-head-eq0 : goal.returns-then-head-eq0
