@@ -8,3 +8,4 @@ pub mod Formatted
 pub mod Turned
 pub mod Taken
 pub mod Restarts
+pub mod Added

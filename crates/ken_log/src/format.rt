@@ -45,6 +45,7 @@ impl<D: Disk> Log<D> {
                 records: 0,
                 end: HEADER_LEN,
                 spent: false,
+                body: Vec::new(alloc),
             }),
             Err(fault) => Err((SealFault::from(fault), disk)),
         }

@@ -22,6 +22,8 @@ pub struct Log<D> {
     pub(crate) end: u64,
     // A write failed, and what a crash leaves is in doubt.
     pub(crate) spent: bool,
+    // What the last seal wrote behind its gate. The next one writes over it, so that it takes no memory.
+    pub(crate) body: Vec<u8>,
 }
 
 impl<D: Disk> Log<D> {

@@ -58,6 +58,7 @@ impl<D: Disk> Log<D> {
                     records,
                     end,
                     spent: false,
+                    body: Vec::new(alloc),
                 };
                 Ok((log, items))
             }

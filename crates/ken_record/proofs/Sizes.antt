@@ -77,6 +77,13 @@ pages_short ps fit =
     let each : length (flat_map page ps) ≤ 260 * length ps = items_short page IsPage 260 page_short ps fit.1 in
     omega (arith, counted_long 2 page ps, each, fit.0)
 
+-- of pages just
+pub pages_long : (ps : List Page) → AllByRecursion IsPage ps → length (flat_map page ps) ≡ 260 * length ps
+pages_long [] fit = refl
+pages_long (p ∷ ps) fit =
+    let parts = ap length (flat_map-cons page p ps) ∙ length-append (page p) (flat_map page ps) in
+    omega (arith, parts, page_long p fit.0, pages_long ps fit.1, mul-suc 260 (length ps))
+
 pub origin_long : (r : Record) → length (origin r) ≡ 25
 origin_long r = simp (length-append, number_long)
 

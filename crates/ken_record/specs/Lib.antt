@@ -4,3 +4,4 @@ pub mod Grammar
 pub mod Reading
 pub mod Items
 pub mod Appending
+pub mod Turns

@@ -16,6 +16,7 @@ mod page;
 mod record;
 mod rising;
 mod sent;
+mod turn;
 
 pub use base::{Base, SENDERS, decode_base};
 pub use due::Due;
@@ -27,3 +28,4 @@ pub use laws::{lengths, one_spelling};
 pub use page::Page;
 pub use record::{MAX_DRAWS, MAX_FIELDS, MAX_OUTS, MAX_SENDS, Record};
 pub use sent::Sent;
+pub use turn::put_turn;

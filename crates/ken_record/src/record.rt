@@ -28,7 +28,7 @@ pub const MAX_OUTS: usize = 16;
 pub const MAX_FIELDS: usize = 1_081_838;
 
 // The bytes of the fields before the lists.
-const ORIGIN_LEN: usize = 25;
+pub(crate) const ORIGIN_LEN: usize = 25;
 
 /// What a turn did.
 #[derive(Debug, Drop)]
