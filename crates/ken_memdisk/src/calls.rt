@@ -5,7 +5,7 @@ ghost use Rattle.ken_disk.specs.Fates.{Suffers};
 ghost use Rattle.ken_memdisk.specs.Calls.{no_calls, first_pick, pick_at, fails_next, after_call, after_cut, after_failed_read, after_restart, fate_of};
 
 use crate::cut::Cut;
-use crate::cuts::by_call;
+use crate::cuts::{by_call, take_pick};
 use crate::trace::{Mark, Trace};
 use ken_disk::DiskFault;
 use std::alloc::{AllocError, Global};
@@ -71,7 +71,7 @@ impl Calls {
         ensures fate { Suffers result (fate_of self.old) (fate_of self.new) }
     {
         self.made = self.made.saturating_add(1);
-        if let Some(pick) = self.cuts.remove(&self.made) {
+        if let Some(pick) = take_pick(&mut self.cuts, self.made) {
             self.down = true;
             self.hint = pick;
         }

@@ -1,8 +1,8 @@
 // The cuts of a disk, by their calls.
-ghost use Rattle.std.specs.Prelude.{◌≡◌, ◌≤◌, ℕ, length, IfOk};
+ghost use Rattle.std.specs.Prelude.{◌≡◌, ◌+◌, ◌≤◌, ℕ, length, if◌then◌else◌, is_some, IfOk, IfNone};
 ghost use Rattle.std.specs.Ordering.{nat_cmp};
 ghost use Rattle.std.specs.BTreeMap.{get};
-ghost use Rattle.ken_memdisk.specs.Calls.{by_call, first_pick};
+ghost use Rattle.ken_memdisk.specs.Calls.{by_call, first_pick, pick_at, without};
 
 use crate::cut::Cut;
 use std::alloc::{AllocError, Global};
@@ -19,4 +19,17 @@ pub(crate) fn by_call(alloc: Global, cuts: &[Cut]) -> Result<BTreeMap<u64, u64>,
         picks.insert(cuts[place].call, cuts[place].pick)?;
     }
     Ok(picks)
+}
+
+// Takes the cut at a call out, and gives its pick. Where there are no cuts nothing is searched.
+pub(crate) fn take_pick(picks: &mut BTreeMap<u64, u64>, call: u64) -> Option<u64>
+    ensures pick { result ≡ pick_at picks.old.entries call }
+    ensures rest { picks.new.entries ≡ without picks.old.entries call }
+    ensures none { IfNone result (picks.new.entries ≡ picks.old.entries) }
+    ensures len { length picks.new.entries + (if is_some result then 1 else 0) ≡ length picks.old.entries }
+{
+    if picks.is_empty() {
+        return None;
+    }
+    picks.remove(&call)
 }
