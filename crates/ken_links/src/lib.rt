@@ -7,4 +7,4 @@ mod rings;
 
 pub use pop_end::PopEnd;
 pub use push_end::{PushEnd, SLOTS};
-pub use rings::{beside, empty, ring};
+pub use rings::{beside, empty, is_drained, ring};

@@ -1,5 +1,5 @@
 // A ring's two ends in one thread.
-ghost use Rattle.std.specs.Prelude.{◌≡◌, ◌+◌, ◌<◌, ◌≤◌, [], ◌++◌, length, vec_len, vec_capacity, IfOk, OnOk, OnErr};
+ghost use Rattle.std.specs.Prelude.{◌≡◌, ◌+◌, ◌<◌, ◌≤◌, [], ◌++◌, length, vec_len, vec_capacity, IsTrue, IfOk, OnOk, OnErr};
 ghost use mathlib.Core.List.{IsPrefix};
 ghost use Rattle.ken_links.specs.Rings.{pushed, free, popped, known, nones, IsRing, SamePushEnd, SamePopEnd, Moves};
 
@@ -33,6 +33,18 @@ pub fn beside<T>(push: &mut PushEnd<T>, pop: &mut PopEnd<T>)
     pop.consumer.slots_beside(&mut push.producer);
 }
 
+/// Whether a ring is seen to hold nothing, with no more than one look into it, and none where the pushing end doesn't know all
+/// slots to be free. `true` means that what was popped is what was pushed. Moves no item, and takes no memory.
+pub fn is_drained<T>(push: &mut PushEnd<T>, pop: &mut PopEnd<T>) -> bool
+    requires { IsRing push.old pop.old }
+    ensures ends { SamePushEnd push.old push.new × SamePopEnd pop.old pop.new × IsRing push.new pop.new }
+    ensures same { (pushed push.new ≡ pushed push.old) × (popped pop.new ≡ popped pop.old) × (nones pop.new ≡ nones pop.old) }
+    ensures more { (free push.old ≤ free push.new) × IsPrefix (known pop.old) (known pop.new) }
+    ensures drained { IsTrue result → (popped pop.new ≡ pushed push.new) × (known pop.new ≡ []) × (64 ≤ free push.new) }
+{
+    push.free() == SLOTS && pop.consumer.slots_beside(&mut push.producer) == 0
+}
+
 /// Moves each item of a ring to the end of a list, oldest first; then 64 slots are known to be free. The error comes only
 /// where the list has no room for 64 more items. Then nothing has moved: what was in the ring is there, and known. The list's
 /// capacity never shrinks.
@@ -51,6 +63,9 @@ pub fn empty<T>(
     ensures full { OnErr result (vec_capacity into.old < vec_len into.old + 64) }
     ensures capacity { vec_capacity into.old ≤ vec_capacity into.new }
 {
+    if is_drained(push, pop) {
+        return Ok(());
+    }
     beside(push, pop);
     into.reserve(pop.known())?;
     move_known(pop, into);
