@@ -1,6 +1,6 @@
 -- Messages put behind those to their nodes, one after the other.
-use Rattle.std.proofs.Common.{◌≡◌, ℕ, zero, suc, ◌+◌, ◌<◌, ◌≤◌, List, [], ◌∷◌, ◌++◌, length, Bool, true, false, cond, ◌==◌, nat_lt, get_or, slice_set, slice_index_or, refl, sym, ap, subst, ◌∙◌, ⊎_elim, append_assoc, arith, eq-eqb, ne_eqb}
-use Rattle.std.specs.Prelude.{map}
+use Rattle.std.proofs.Common.{◌≡◌, ℕ, zero, suc, ◌+◌, ◌<◌, List, [], ◌∷◌, ◌++◌, length, Bool, true, false, cond, ◌==◌, nat_lt, get_or, slice_set, slice_index_or, refl, sym, ap, subst, ◌∙◌, ⊎_elim, append_assoc, arith, eq-eqb, ne_eqb}
+use Rattle.std.specs.Prelude.{◌≢◌, map}
 use Rattle.std.specs.VecDeque.{deque_len, deque_capacity}
 use Rattle.std.proofs.lemmas.Bool.{cases_eq}
 use Rattle.std.proofs.lemmas.List.{append-nil, length-set, get_or-set_same, get_or-set_other, get_or-map, map-set, length-map}
@@ -8,7 +8,7 @@ use Rattle.std.proofs.Math.Seq.{map-set_same}
 use Rattle.ken_model.specs.declared.messages.Message.{Message}
 use Rattle.ken_outbox.specs.declared.line.Line.{Line}
 use Rattle.ken_outbox.specs.Waiting.{Unacked, no_line, sent_to, with_sends, past, acked_by, AreFor}
-use Rattle.ken_outbox.specs.Lines.{shown, HasRoom}
+use Rattle.ken_outbox.specs.Lines.{shown, HasRoom, HaveRoom}
 
 -- a message behind those of a line
 abbrev pub pushed : Message → Unacked → Unacked
@@ -65,33 +65,43 @@ pushes lines i d new m rest whole to low a b so_far =
 pub still_for : (lines : List Line) (i : ℕ) (new : Line) (m : Message) (rest : List Message) → AreFor (length lines) (m ∷ rest) → AreFor (length (slice_set lines i new)) rest
 still_for lines i new m rest known = subst (λ (k : ℕ). AreFor k rest) (sym (length-set lines i new)) known.1
 
-pub rooms : (lines : List Line) (i : ℕ) (old new : Line) (m : Message) (rest : List Message) → i < length lines
-    → (deque_len new.messages ≡ deque_len (slice_index_or lines i old).messages + 1) × (deque_capacity new.messages ≡ deque_capacity (slice_index_or lines i old).messages)
-    → ((v : ℕ) (d : Line) → v < length lines → HasRoom (length (m ∷ rest)) (slice_index_or lines v d))
-    → (v : ℕ) (d : Line) → v < length (slice_set lines i new) → HasRoom (length rest) (slice_index_or (slice_set lines i new) v d)
-rooms lines i old new m rest low grown room v d less =
+pub is_for : (nodes : ℕ) (sends : List Message) (i : ℕ) (m : Message) → AreFor nodes sends → i < length sends → (slice_index_or sends i m).to < nodes
+is_for nodes [] i m known less = absurd (omega (arith, less))
+is_for nodes (x ∷ xs) zero m known less = known.0
+is_for nodes (x ∷ xs) (suc i) m known less = is_for nodes xs i m known.1 (omega (arith, less))
+
+-- a line after another was replaced
+read_else : (lines : List Line) (i v : ℕ) (new d : Line) → i < length lines → (P : Line → Type 0) → P new → (v ≢ i → P (get_or lines v d)) → P (get_or (slice_set lines i new) v d)
+read_else lines i v new d low P has had =
     ⊎_elim
     (λ e. let here : get_or (slice_set lines i new) v d ≡ new = ap (λ (k : ℕ). get_or (slice_set lines i new) k d) e ∙ get_or-set_same lines i new d low in
-    let had : HasRoom (length (m ∷ rest)) (get_or lines i old) = room i old low in
-    let has : HasRoom (length rest) new = omega (arith, had, grown.0, grown.1) in
-    subst (HasRoom (length rest)) (sym here) has)
-    (λ ne. let there : get_or (slice_set lines i new) v d ≡ get_or lines v d = get_or-set_other lines i v new d ne in
-    let had : HasRoom (length (m ∷ rest)) (get_or lines v d) = room v d (omega (arith, less, length-set lines i new)) in
-    let has : HasRoom (length rest) (get_or lines v d) = omega (arith, had) in
-    subst (HasRoom (length rest)) (sym there) has)
+    subst P (sym here) has)
+    (λ ne. subst P (sym (get_or-set_other lines i v new d ne)) (had ne))
     (cases_eq v i)
 
--- one more line has room
-pub more_room : (lines : List Line) (i more : ℕ) (new : Line) → i < length lines → HasRoom more new
-    → ((v : ℕ) (d : Line) → v < i → HasRoom more (slice_index_or lines v d))
-    → (v : ℕ) (d : Line) → v < i + 1 → HasRoom more (slice_index_or (slice_set lines i new) v d)
-more_room lines i more new low has room v d less =
-    ⊎_elim
-    (λ e. let here : get_or (slice_set lines i new) v d ≡ new = ap (λ (k : ℕ). get_or (slice_set lines i new) k d) e ∙ get_or-set_same lines i new d low in
-    subst (HasRoom more) (sym here) has)
-    (λ ne. let there : get_or (slice_set lines i new) v d ≡ get_or lines v d = get_or-set_other lines i v new d ne in
-    subst (HasRoom more) (sym there) (room v d (omega (arith, less, ne))))
-    (cases_eq v i)
+-- the lines have room for the messages behind one that was pushed
+pub rooms : (lines : List Line) (i before after : ℕ) (old new : Line) (m : Message) (rest : List Message) → i < length lines → i ≡ m.to → before ≡ after + 1
+    → (deque_len new.messages ≡ deque_len (slice_index_or lines i old).messages + 1) × (deque_capacity new.messages ≡ deque_capacity (slice_index_or lines i old).messages)
+    → HaveRoom before (m ∷ rest) lines → HaveRoom after rest (slice_set lines i new)
+rooms lines i before after old new m rest low at more grown room k d l less =
+    let first : HasRoom before (get_or lines m.to old) = room 0 d old (omega arith) in
+    let had : HasRoom before (get_or lines i old) = subst (λ (u : ℕ). HasRoom before (get_or lines u old)) (sym at) first in
+    let next : HasRoom before (get_or lines (slice_index_or rest k d).to l) = room (suc k) d l (omega (arith, less)) in
+    let has : HasRoom after new = omega (arith, had, grown.0, grown.1, more) in
+    let still : HasRoom after (get_or lines (slice_index_or rest k d).to l) = omega (arith, next, more) in
+    read_else lines i (slice_index_or rest k d).to new l low (HasRoom after) has (λ ne. still)
+
+-- one more message has room on its line
+pub more_room : (lines : List Line) (sends : List Message) (i t more : ℕ) (new : Line) → t < length lines → ((m : Message) → i < length sends → t ≡ (slice_index_or sends i m).to) → i < length sends → HasRoom more new
+    → ((k : ℕ) (m : Message) (d : Line) → k < i → HasRoom more (slice_index_or lines (slice_index_or sends k m).to d))
+    → (k : ℕ) (m : Message) (d : Line) → k < i + 1 → HasRoom more (slice_index_or (slice_set lines t new) (slice_index_or sends k m).to d)
+more_room lines sends i t more new low at within has room k m d less =
+    read_else lines t (slice_index_or sends k m).to new d low (HasRoom more) has
+    (λ ne. room k m d
+    (⊎_elim
+    (λ e. absurd (ne (ap (λ (j : ℕ). (slice_index_or sends j m).to) e ∙ sym (at m within))))
+    (λ other. omega (arith, less, other))
+    (cases_eq k i)))
 
 pub same_lines : (lines : List Line) (i : ℕ) (d new : Line) (whole : List Unacked) → new.acked ≡ (slice_index_or lines i d).acked → new.messages.items ≡ (slice_index_or lines i d).messages.items
     → map shown lines ≡ whole → map shown (slice_set lines i new) ≡ whole

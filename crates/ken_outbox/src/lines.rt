@@ -1,12 +1,13 @@
 // The lines of all nodes.
-ghost use Rattle.std.specs.Prelude.{◌≡◌, ◌<◌, ◌≤◌, ℕ, length, map, take, replicate, slice_index_or, IfOk, OnOk};
-ghost use Rattle.ken_outbox.specs.declared.line.Line.{Line};
+ghost use Rattle.std.specs.Prelude.{◌≡◌, ◌≤◌, [], length, map, take, replicate, IfOk, OnOk};
+ghost use Rattle.std.specs.VecDeque.{deque_len};
 ghost use Rattle.ken_outbox.specs.Waiting.{no_line, sent_to, with_sends, AreFor};
-ghost use Rattle.ken_outbox.specs.Lines.{shown, HasRoom, bare_lines};
+ghost use Rattle.ken_outbox.specs.Lines.{shown, HaveRoom, bare_lines};
 
 use crate::line::Line;
 use ken_model::Message;
 use std::alloc::{AllocError, Global};
+use std::collections::VecDeque;
 
 pub(crate) fn new(alloc: Global, nodes: u8) -> Result<Vec<Line>, AllocError>
     ensures { IfOk result (λ lines. map shown lines.items ≡ replicate nodes no_line) }
@@ -50,24 +51,27 @@ pub(crate) fn resumed(
     Ok(lines)
 }
 
-// Makes room for so many more messages of each line. After an error some lines have it.
-pub(crate) fn reserve(lines: &mut [Line], more: usize) -> Result<(), AllocError>
+// Makes room for so many more messages in each line that one of these goes to. After an error some lines have it.
+pub(crate) fn reserve_for(lines: &mut [Line], sends: &VecDeque<Message>) -> Result<(), AllocError>
+    requires { AreFor (length lines.old) sends.now.items }
     ensures same { map shown lines.new ≡ map shown lines.old }
-    ensures room { OnOk result ((v : ℕ) (d : Line) → v < length lines.new → HasRoom more (slice_index_or lines.new v d)) }
+    ensures room { OnOk result (HaveRoom (deque_len sends.now) sends.now.items lines.new) }
 {
-    for node in 0..lines.len() {
-        lines[node].reserve(more)?;
+    for i in 0..sends.len() {
+        let to = usize::from(sends[i].to);
+        lines[to].reserve(sends.len())?;
     }
     Ok(())
 }
 
-// Puts each message behind those to its node. There is room for all of them in each line.
-pub(crate) fn push_all(lines: &mut [Line], sends: Vec<Message>)
-    requires known { AreFor (length lines.old) sends.items }
-    requires room { (v : ℕ) (d : Line) → v < length lines.old → HasRoom (length sends.items) (slice_index_or lines.old v d) }
-    ensures { map shown lines.new ≡ with_sends 0 (map shown lines.old) sends.items }
+// Moves each message behind those to its node. There is room for all of them in each line that one goes to.
+pub(crate) fn push_all(lines: &mut [Line], sends: &mut VecDeque<Message>)
+    requires known { AreFor (length lines.old) sends.old.items }
+    requires room { HaveRoom (deque_len sends.old) sends.old.items lines.old }
+    ensures lines { map shown lines.new ≡ with_sends 0 (map shown lines.old) sends.old.items }
+    ensures moved { sends.new.items ≡ [] }
 {
-    for message in sends {
+    while let Some(message) = sends.pop_front() {
         let to = usize::from(message.to);
         lines[to].push(message);
     }

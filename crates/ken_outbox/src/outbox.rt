@@ -1,10 +1,10 @@
-ghost use Rattle.std.specs.Prelude.{◌≡◌, ◌<◌, ◌≤◌, ◌+◌, ◌++◌, ℕ, drop, length, map, slice_get, slice_index_or, slice_set, option_copied, option_map, IfOk, OnOk, OnErr, Option, Some};
+ghost use Rattle.std.specs.Prelude.{◌≡◌, ◌≢◌, ◌<◌, ◌≤◌, ◌+◌, [], ◌∷◌, ◌++◌, ℕ, List, drop, length, map, slice_get, slice_index_or, slice_set, option_copied, option_map, IfOk, OnOk, OnErr, Option, Some};
 ghost use Rattle.std.specs.VecDeque.{deque_len, deque_capacity};
 ghost use Rattle.ken_outbox.specs.Waiting.{nothing, resumed, with_sends, acked_by, next_number, no_line, AreFor};
 
 use crate::line::Line;
 use crate::lines;
-use ken_model::{Items, Message, Octets, Out, State, copies_of};
+use ken_model::{Items, Message, Octets, Out, State, TryClone, copies_of};
 use std::alloc::{AllocError, Global};
 use std::collections::VecDeque;
 use std::marker::Model;
@@ -68,10 +68,32 @@ impl Outbox {
         ensures err { OnErr result (self.new ≡ self.old) }
         ensures nodes { length self.new.lines ≡ length self.old.lines }
     {
+        let mut sends = VecDeque::from_vec(sends.into_vec());
         self.outs.reserve(outs.len())?;
-        lines::reserve(&mut self.lines, sends.len())?;
-        lines::push_all(&mut self.lines, sends.into_vec());
+        lines::reserve_for(&mut self.lines, &sends)?;
+        lines::push_all(&mut self.lines, &mut sends);
         push_outs(&mut self.outs, outs.into_vec());
+        Ok(())
+    }
+
+    /// Puts what a turn sent and output behind what was there: the messages move, and the outputs are copied. After an error
+    /// nothing has changed.
+    #[tactic(auto, using(crate::proofs::Sends::sends_length))]
+    pub fn take_over(
+        &mut self,
+        alloc: Global,
+        sends: &mut VecDeque<Message>,
+        outs: &[Out],
+    ) -> Result<(), AllocError>
+        requires { AreFor (length self.old.lines) sends.old.items }
+        ensures ok { OnOk result (self.new ≡ record self.old { lines = with_sends 0 self.old.lines sends.old.items; outs = self.old.outs ++ outs.now }) }
+        ensures moved { OnOk result (sends.new.items ≡ []) }
+        ensures err { OnErr result ((self.new ≡ self.old) × (sends.new.items ≡ sends.old.items)) }
+        ensures nodes { length self.new.lines ≡ length self.old.lines }
+    {
+        lines::reserve_for(&mut self.lines, sends)?;
+        copy_outs(alloc, &mut self.outs, outs)?;
+        lines::push_all(&mut self.lines, sends);
         Ok(())
     }
 
@@ -109,6 +131,19 @@ impl Outbox {
         self.emitted = number;
         self.outs.pop_front();
     }
+
+    /// Takes the output that comes next, where one waits: it was emitted.
+    pub fn pop_out(&mut self) -> Out
+        requires { self.old.outs ≢ [] }
+        ensures first { self.old.outs ≡ result ∷ self.new.outs }
+        ensures same { self.new ≡ record self.old { emitted = result.number; outs = self.new.outs } }
+    {
+        let Some(out) = self.outs.pop_front() else {
+            unreachable!()
+        };
+        self.emitted = out.number;
+        out
+    }
 }
 
 // There is room for all of them.
@@ -119,4 +154,28 @@ fn push_outs(queue: &mut VecDeque<Out>, outs: Vec<Out>)
     for out in outs {
         queue.push_back_reserved(out);
     }
+}
+
+// Puts copies of outputs behind the others. After an error some are there.
+fn push_copies(alloc: Global, queue: &mut VecDeque<Out>, outs: &[Out]) -> Result<(), AllocError>
+    ensures front { (some : List Out) × (queue.new.items ≡ queue.old.items ++ some) }
+    ensures ok { OnOk result (queue.new.items ≡ queue.old.items ++ outs.now) }
+{
+    for out in outs {
+        queue.push_back(out.try_clone(alloc)?)?;
+    }
+    Ok(())
+}
+
+// Puts copies of outputs behind the others, or after an error none.
+fn copy_outs(alloc: Global, queue: &mut VecDeque<Out>, outs: &[Out]) -> Result<(), AllocError>
+    ensures ok { OnOk result (queue.new.items ≡ queue.old.items ++ outs.now) }
+    ensures err { OnErr result (queue.new.items ≡ queue.old.items) }
+{
+    let before = queue.len();
+    let pushed = push_copies(alloc, queue, outs);
+    if pushed.is_err() {
+        queue.truncate(before);
+    }
+    pushed
 }
