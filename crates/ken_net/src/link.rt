@@ -1,5 +1,5 @@
 // One link: its acts, how many puts it has seen, and what it keeps.
-ghost use Rattle.std.specs.Prelude.{◌≡◌, ◌<◌, ◌++◌, ℕ, true, [], IfOk, OnErr, OnOk};
+ghost use Rattle.std.specs.Prelude.{◌≡◌, ◌<◌, ◌++◌, ℕ, true, [], None, IfOk, IsTrue, OnErr, OnOk};
 ghost use Rattle.std.specs.Ordering.{nat_cmp};
 ghost use Rattle.std.specs.BTreeMap.{get};
 ghost use Rattle.ken_net.specs.Acts.{act_of, copies, held, WantsMemory};
@@ -12,7 +12,7 @@ use crate::act::{Act, LinkAct};
 use crate::base::Base;
 use crate::copies::Copies;
 use crate::handed::Handed;
-use crate::passing::{pass, pass_due};
+use crate::passing::{pass, pass_due, pass_one};
 use ken_model::Octets;
 use std::alloc::{AllocError, Global};
 use std::collections::{BTreeMap, VecDeque};
@@ -54,6 +54,13 @@ impl Link {
         })
     }
 
+    // Whether it has no acts, and keeps nothing.
+    fn is_clear(&self) -> bool
+        ensures { IsTrue result → (next_act self.now ≡ None) × (self.now.kept ≡ []) }
+    {
+        self.acts.is_empty() && self.kept.is_empty()
+    }
+
     fn next_act(&self) -> Option<Act>
         ensures { result ≡ next_act self.now }
     {
@@ -90,6 +97,11 @@ impl Link {
         ensures err { OnErr result ((self.new ≡ self.old) × (base.new ≡ base.old)) }
         ensures memory { OnErr result (WantsMemory (next_act self.old)) }
     {
+        if self.is_clear() {
+            self.puts = self.puts.saturating_add(1);
+            pass_one::<B, H>(base, to, bytes);
+            return Ok(());
+        }
         let copies = self.admit(alloc, bytes)?;
         pass::<B, H>(base, to, copies);
         pass_due(base, to, &mut self.kept);

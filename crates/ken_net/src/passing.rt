@@ -16,7 +16,7 @@ use std::collections::VecDeque;
 use std::marker::Brand;
 
 // Passes a packet on. A call of it may pick what is handed in, which one of a bound's method may not.
-fn pass_one<B: Base, H: Handed>(base: &mut B, to: u8, bytes: Octets)
+pub(crate) fn pass_one<B: Base, H: Handed>(base: &mut B, to: u8, bytes: Octets)
     requires to { to < B.nodes base.old }
     requires may { MayPut (B.node base.old) to H.sealed H.consumed bytes }
     ensures { Went B.node B.nodes B.nones B.put_between B.given_between base.old base.new (handing to H.sealed H.consumed bytes ∷ []) }
