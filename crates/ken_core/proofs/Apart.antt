@@ -1,18 +1,18 @@
 -- Runs of all nodes, told by what the nodes are in the end, keep accord.
-use Rattle.std.proofs.Common.{◌≡◌, ℕ, ◌-◌, ◌<◌, ◌≤◌, List, [], ◌++◌, length, slice_get, Some, IsTrue, refl, sym, ap, ◌∙◌, subst, arith}
+use Rattle.std.proofs.Common.{◌≡◌, ℕ, ◌-◌, ◌<◌, ◌≤◌, List, [], ◌++◌, length, slice_get, Some, IsTrue, sym, ap, ◌∙◌, subst, arith}
 use Rattle.std.specs.List.{AllByRecursion}
 use Rattle.ken_model.specs.declared.reports.Emission.{Emission}
 use Rattle.ken_core.specs.declared.events.Event.{Event}
 use Rattle.ken_model.specs.declared.messages.Message.{Message}
 use Rattle.ken_model.specs.Game.{Game}
 use Rattle.ken_model.specs.Network.{Turn, outside}
-use Rattle.ken_model.specs.History.{consumed, sent_by, messages}
+use Rattle.ken_model.specs.History.{consumed, messages}
 use Rattle.ken_model.specs.Emissions.{emitted_by}
 use Rattle.ken_core.specs.Turns.{consumed_from, mails_to}
 use Rattle.ken_core.specs.Packets.{Packet, Mail, Answer, Receipt, Outgoing}
 use Rattle.ken_core.specs.Clusters.{Cluster}
 use Rattle.ken_core.specs.Accord.{IsAt, AreConsumed, IsNodeOf, IsSent, HasMade, Accord}
-use Rattle.ken_core.specs.Runs.{NodeRun, MayCome, RanApart}
+use Rattle.ken_core.specs.Runs.{NodeRun, MayCome}
 use Rattle.ken_core.specs.Laws.{RunsApartKeepAccord}
 use Rattle.ken_core.proofs.Numbers.{mails_to-sealed, consumed-sealed}
 use Rattle.ken_core.proofs.Sent.{messages-node, messages-more, front-longer, consumed-more}

@@ -8,7 +8,7 @@ use Rattle.ken_model.specs.Limits.{IsWithinLimits}
 use Rattle.ken_model.specs.Layout.{StandsFor, first_heap}
 use Rattle.ken_model.specs.LayoutLaws.{FirstIsEmpty, ReadsWhatStands}
 use Rattle.ken_model.specs.Reading.{read_value}
-use Rattle.ken_model.specs.Network.{Place, Turn, outside, empty_heap, first_place}
+use Rattle.ken_model.specs.Network.{Place, Turn, empty_heap, first_place}
 use Rattle.ken_model.specs.History.{messages, InAccord, IsHistory, AreTurns, place_of}
 use Rattle.ken_model.specs.Emissions.{AreEmitted, emitted_by}
 use Rattle.ken_model.specs.Laws.{IsPlayed, AgreementIsLegal}

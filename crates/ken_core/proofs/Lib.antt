@@ -26,3 +26,5 @@ pub mod Firsts
 pub mod Going
 pub mod Inserted
 pub mod Rising
+pub mod Merged
+pub mod Histories

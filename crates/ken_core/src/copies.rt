@@ -4,7 +4,7 @@ ghost use Rattle.ken_cover.specs.Sides.{changes_at, recounted};
 ghost use Rattle.ken_core.specs.Turns.{effects_line};
 
 use ken_cover::{Change, Layer};
-use ken_model::{Items, Shared, Step, TryClone, TurnLine};
+use ken_model::{Items, Out, Shared, Step, TryClone, TurnLine, copies_of};
 use ken_record::{Effects, Page};
 use std::alloc::{AllocError, Global};
 
@@ -12,6 +12,12 @@ pub(crate) fn draws(alloc: Global, draws: &[u64]) -> Result<Shared<u64>, AllocEr
     ensures { IfOk result (λ x. x ≡ draws.now) }
 {
     Shared::new(alloc, Vec::from_slice(alloc, draws)?)
+}
+
+pub(crate) fn outputs(alloc: Global, outs: &[Out]) -> Result<Shared<Out>, AllocError>
+    ensures { IfOk result (λ x. x ≡ outs.now) }
+{
+    Shared::new(alloc, copies_of(alloc, outs)?.into_vec())
 }
 
 /// The pages that a turn changed, as the layer of its record.

@@ -15,6 +15,7 @@ mod laws;
 mod ledger;
 mod machine;
 mod marks;
+mod merging;
 mod number_set;
 mod pages;
 mod patches;

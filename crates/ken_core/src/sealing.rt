@@ -12,7 +12,7 @@ use crate::bytes::are_changed;
 use crate::copies;
 use crate::machine::Machine;
 use ken_cover::Layer;
-use ken_model::{Block, Facts, Message, Octets, Out, Send, Shared, TryClone, Value, copies_of};
+use ken_model::{Block, Facts, Message, Octets, Out, Send, Shared, TryClone, Value};
 use ken_record::{Effects, Page, Sent};
 use std::alloc::{AllocError, Global};
 
@@ -115,7 +115,7 @@ impl Sealing {
             stamp,
             draws: copies::draws(alloc, draws)?,
             sends: sents(alloc, mails.as_slice())?,
-            outs: Shared::new(alloc, copies_of(alloc, outs.as_slice())?.into_vec())?,
+            outs: copies::outputs(alloc, outs.as_slice())?,
         };
         Ok(Sealing {
             value,

@@ -1,34 +1,33 @@
 // The turns of all nodes in one order.
-ghost use Rattle.std.specs.Prelude.{◌≡◌, ◌≢◌, List, [], ℕ, map, IfOk, OnOk};
+ghost use Rattle.std.specs.Prelude.{◌≡◌, ◌≢◌, [], ℕ, map, IfOk, OnOk};
 ghost use Rattle.ken_model.specs.declared.reports.TurnLine.{TurnLine};
 ghost use Rattle.ken_model.specs.History.{lines_by, Rises};
 ghost use Rattle.ken_core.specs.Timeline.{StampsRise};
 ghost use Rattle.ken_core.specs.Turns.{effects_line};
 
-use crate::copies;
+use crate::merging::merged;
 use ken_model::TurnLine;
 use ken_record::Effects;
 use std::alloc::{AllocError, Global};
-use std::collections::BTreeMap;
 use std::marker::Model;
+use std::mem;
 
 /// The turns of a run as lines, in the order of their stamps, and at equal stamps of their nodes.
 #[derive(Debug, Drop)]
 pub struct Timeline {
-    lines: BTreeMap<(u64, u8), TurnLine>,
+    lines: Vec<TurnLine>,
 }
 
 impl Model for Timeline {
     ghost use Rattle.std.specs.Prelude.{List};
-    ghost use Rattle.std.specs.BTreeMap.{values};
     ghost use Rattle.ken_model.specs.declared.reports.TurnLine.{TurnLine};
-    ghost use Rattle.ken_core.specs.Timeline.{IsInOrder};
+    ghost use Rattle.ken_model.specs.History.{Rises};
 
     ghost Value = { List TurnLine };
 
-    ghost view = { λ t. values t.lines };
+    ghost view = { λ t. t.lines.items };
 
-    ghost invariant = { λ t. IsInOrder t.lines.entries };
+    ghost invariant = { λ t. Rises 0 0 t.lines.items };
 }
 
 impl Timeline {
@@ -36,29 +35,27 @@ impl Timeline {
         ensures { result ≡ [] }
     {
         Timeline {
-            lines: BTreeMap::new(alloc),
+            lines: Vec::new(alloc),
         }
     }
 
-    /// Adds all turns of a node that has none yet. After an error some of them may be missing.
+    /// Adds all turns of a node that has none yet. After an error lines may be missing.
     pub fn add(&mut self, alloc: Global, node: u8, turns: &[Effects]) -> Result<(), AllocError>
         requires rise { StampsRise 0 (map (effects_line node) turns.now) }
         requires fresh { lines_by node self.old ≡ [] }
         ensures its_lines { OnOk result (lines_by node self.new ≡ map (effects_line node) turns.now) }
         ensures others { OnOk result ((v : ℕ) → v ≢ node → lines_by v self.new ≡ lines_by v self.old) }
     {
-        for turn in turns {
-            let line = copies::line(alloc, node, turn)?;
-            self.lines.insert((turn.stamp, node), line)?;
-        }
+        let lines = mem::replace(&mut self.lines, Vec::new(alloc));
+        self.lines = merged(alloc, lines, node, turns)?;
         Ok(())
     }
 
     /// All lines in order.
-    pub fn into_lines(self, alloc: Global) -> Result<Vec<TurnLine>, AllocError>
+    pub fn into_lines(self, _alloc: Global) -> Result<Vec<TurnLine>, AllocError>
         ensures lines { IfOk result (λ ls. ls.items ≡ self) }
         ensures rises { IfOk result (λ ls. Rises 0 0 ls.items) }
     {
-        self.lines.into_values().collect(alloc)
+        Ok(self.lines)
     }
 }

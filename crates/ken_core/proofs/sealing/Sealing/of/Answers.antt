@@ -27,9 +27,9 @@ returns c =
       is_stamp = ap (λ k. k + 1) (c.max-stamp.ensures ∙ ap (λ k. max k c.args.message.now.stamp) c.stamp.ensures);
       mails = c.in_ok-mails.ensures ∙ posted_after-cong c.args.node stamp _ (λ w. length (sent_to c.args.machine.now.ledger w)) c.args.sends.now (λ w. ap (λ (xs : List ℕ). slice_index xs w) c.in_ok-counts.ensures ∙ ap (λ ls. slice_index (map (λ list. length list.items) ls) w) c.as_slice.ensures.value ∙ count_long c.args.machine.now.ledger.sent.items w);
       outputs = c.in_ok-outs.ensures ∙ ap (λ k. outputs_from k c.args.outs.now) (omega (arith, c.len-2.ensures, c.args.machine.now.ledger.outs.ok.0));
-      effects = ap (λ ds. record { from = c.args.message.now.from; number = c.args.message.now.number; stamp = stamp; draws = ds; sends = c.in_ok-sents.field-0; outs = c.in_ok-copies_of.field-0 }) c.in_ok-draws.ensures
-          ∙ ap (λ ss. record { from = c.args.message.now.from; number = c.args.message.now.number; stamp = stamp; draws = c.args.draws.now; sends = ss; outs = c.in_ok-copies_of.field-0 }) (c.in_ok-sents.ensures ∙ ap (map sent_of) c.as_slice-2.ensures.value)
-          ∙ ap (λ os. record { from = c.args.message.now.from; number = c.args.message.now.number; stamp = stamp; draws = c.args.draws.now; sends = map sent_of mails; outs = os }) (c.in_ok-copies_of.ensures ∙ c.as_slice-3.ensures.value);
+      effects = ap (λ ds. record { from = c.args.message.now.from; number = c.args.message.now.number; stamp = stamp; draws = ds; sends = c.in_ok-sents.field-0; outs = c.in_ok-outputs.field-0 }) c.in_ok-draws.ensures
+          ∙ ap (λ ss. record { from = c.args.message.now.from; number = c.args.message.now.number; stamp = stamp; draws = c.args.draws.now; sends = ss; outs = c.in_ok-outputs.field-0 }) (c.in_ok-sents.ensures ∙ ap (map sent_of) c.as_slice-2.ensures.value)
+          ∙ ap (λ os. record { from = c.args.message.now.from; number = c.args.message.now.number; stamp = stamp; draws = c.args.draws.now; sends = map sent_of mails; outs = os }) (c.in_ok-outputs.ensures ∙ c.as_slice-3.ensures.value);
       value = refl;
       live = c.in_ok-layer.ensures ∙ ap (λ k. record { turn = k + 1; changes = changes_at (k + 1) c.args.pages.now }) (omega (arith, c.len.ensures, c.args.machine.now.ledger.turns.ok.0));
       ahead = c.in_ok-layer-2.ensures ∙ sym c.in_ok-layer.ensures;

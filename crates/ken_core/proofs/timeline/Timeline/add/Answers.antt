@@ -1,27 +1,32 @@
--- One turn after another is added.
-use Rattle.std.proofs.Common.{◌≡◌, List, ◌∷◌, ◌++◌, ◌+◌, map, drop, sym, ap, subst, ◌∙◌, length}
-use Rattle.ken_record.specs.declared.effects.Effects.{Effects}
+-- The turns of a node are merged with the lines of before.
+use Rattle.std.proofs.Common.{◌≡◌, List, map, sym, ap, subst, ◌∙◌, rules}
 use Rattle.ken_model.specs.declared.reports.TurnLine.{TurnLine}
-use Rattle.ken_model.specs.History.{lines_by}
-use Rattle.ken_core.specs.Timeline.{Entry}
+use Rattle.ken_model.specs.History.{lines_by, Rises}
+use Rattle.ken_core.specs.Timeline.{merged}
 use Rattle.ken_core.specs.Turns.{effects_line}
-use Rattle.ken_core.proofs.Inserted.{IsAdding, IsAdding-insert_entry}
-use Rattle.ken_core.proofs.Rising.{lines_own, next_left}
+use Rattle.ken_core.proofs.Merged.{AreOf-turns, merged-its_lines, merged-others, merged-turns}
 use Rattle.ken_core.proofs.timeline.Timeline.add.Goals as goal
 
-pub loop-turn-init : goal.loop-turn-init
-loop-turn-init c = record {
-  order = c.self.invariant;
-  own = lines_own c.args.node c.args.turns.now;
-  its_lines = ap (λ (ls : List TurnLine). ls ++ map (effects_line c.args.node) c.args.turns.now) (ap (lines_by c.args.node) c.self.view_is ∙ c.requires.fresh);
-  others = λ v apart. ap (lines_by v) c.self.view_is;
-  length_is = ap (λ (ls : List TurnLine). length ls + length (map (effects_line c.args.node) c.args.turns.now)) c.self.view_is;
-}
+all_lines : (c : goal.After-drop-self-inside) → c.in_ok-self-inside.field-0.items ≡ merged c.args.self.now (map (effects_line c.args.node) c.args.turns.now)
+all_lines c =
+    let before : c.replace-lines.result.items ≡ c.args.self.now = cc in
+    c.in_ok-self-inside.ensures ∙ ap (λ (ls : List TurnLine). merged ls (map (effects_line c.args.node) c.args.turns.now)) before
 
-pub loop-turn-preserved : goal.loop-turn-preserved
-loop-turn-preserved c =
+pub invariant_of-self : goal.invariant_of-self
+unfolding Rises
+invariant_of-self c = search rules
+
+pub invariant_of-self-2 : goal.invariant_of-self-2
+invariant_of-self-2 c =
+    let order : Rises 0 0 c.args.self.now = subst (Rises 0 0) c.self.view_is c.self.invariant in
+    subst (Rises 0 0) (sym (all_lines c)) (merged-turns c.args.node c.args.self.now c.args.turns.now c.requires.fresh order c.requires.rise)
+
+pub returns-clause-its_lines : goal.returns-clause-its_lines
+returns-clause-its_lines c =
     let node = c.args.node in
-    let rest : drop c.loop-turn.turn-index c.args.turns.now ≡ c.turn-item.result ∷ drop (c.loop-turn.turn-index + 1) c.args.turns.now = next_left c.args.turns.now c.loop-turn.turn-index c.turn-item.result c.loop-turn-test.true c.turn-item.is in
-    let adding = subst (λ (es : List Effects). IsAdding node (map (effects_line node) c.args.turns.now) c.args.self.now c.loop-turn.self-inside.lines.entries (map (effects_line node) es)) rest c.loop-turn.invariant in
-    subst (λ (es : List Entry). IsAdding node (map (effects_line node) c.args.turns.now) c.args.self.now es (map (effects_line node) (drop (c.loop-turn.turn-index + 1) c.args.turns.now))) (sym c.in_ok-insert.ensures.entries)
-    (rw c.in_ok-line.ensures (IsAdding-insert_entry node (map (effects_line node) c.args.turns.now) c.args.self.now c.loop-turn.self-inside.lines.entries (effects_line node c.turn-item.result) (map (effects_line node) (drop (c.loop-turn.turn-index + 1) c.args.turns.now)) c.requires.rise adding))
+    ap (lines_by node) (all_lines c) ∙ merged-its_lines node c.args.self.now (map (effects_line node) c.args.turns.now) c.requires.fresh (AreOf-turns node c.args.turns.now)
+
+pub returns-clause-others : goal.returns-clause-others
+returns-clause-others c = λ v apart.
+    let node = c.args.node in
+    ap (lines_by v) (all_lines c) ∙ merged-others node v c.args.self.now (map (effects_line node) c.args.turns.now) apart (AreOf-turns node c.args.turns.now)
