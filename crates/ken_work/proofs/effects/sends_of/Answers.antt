@@ -12,7 +12,7 @@ pub loop-send-preserved : goal.loop-send-preserved
 loop-send-preserved c =
     let s : Send = c.in-Some.send in
     let counts : List ℕ = c.loop-send.sent in
-    let numbered : List Sent = c.loop-send.numbered.items in
+    let numbered : List Sent = c.loop-send.numbered in
     let rest : List Send = into_iter_items c.next.new.self in
     let all : into_iter_items c.loop-send.send-iterator ≡ s ∷ rest = c.in-Some.ensures.steps.0 in
     let at : c.from-to.result ≡ s.to = c.from-to.ensures in
@@ -26,7 +26,7 @@ loop-send-preserved c =
           let one : (numbered ++ record { to = s.to; number = slice_index counts s.to + 1; bytes = s.bytes } ∷ []) ++ sents v stamp (with_one counts s.to) rest ≡ whole =
           append_assoc numbered (record { to = s.to; number = slice_index counts s.to + 1; bytes = s.bytes } ∷ []) (sents v stamp (with_one counts s.to) rest)
           ∙ ap (λ (l : List Sent). numbered ++ l) (sents_one v stamp counts s rest known) ∙ before in
-          ap (λ (l : List Sent). l ++ sents v stamp (with_one counts c.from-to.result) rest) c.in_ok-push.ensures.items
+          ap (λ (l : List Sent). l ++ sents v stamp (with_one counts c.from-to.result) rest) c.in_ok-push.ensures
           ∙ subst (λ (k : ℕ). (numbered ++ record { to = s.to; number = slice_index counts k + 1; bytes = s.bytes } ∷ []) ++ sents v stamp (with_one counts k) rest ≡ whole) (sym at) one;
       width = length-set counts c.from-to.result (slice_index counts c.from-to.result + 1) ∙ c.loop-send.invariant.width;
       known = each.1;
