@@ -1,7 +1,8 @@
 -- The key of a pair is known from the pair's front.
-use Rattle.std.proofs.Common.{◌≡◌, ℕ, zero, suc, ◌+◌, ◌<◌, List, [], ◌∷◌, length, take, drop, true, false, ◌&&◌, ◌==◌, Option, Some, None, option_map, refl, ap, sym, ◌∙◌, arith, eq-eqb, ne_eqb, ⊎_elim}
-use Rattle.std.specs.List.{position}
+use Rattle.std.proofs.Common.{◌≡◌, ℕ, zero, suc, ◌+◌, ◌<◌, List, [], ◌∷◌, length, take, drop, Bool, true, false, not, ◌&&◌, ◌==◌, Option, Some, None, option_map, refl, ap, sym, ◌∙◌, arith, eq-eqb, ne_eqb, ⊎_elim}
+use Rattle.std.specs.List.{position, list_any}
 use Rattle.std.proofs.lemmas.Bool.{cases_eq}
+use Rattle.ken_alloc.specs.Objects.{has_front}
 use Rattle.ken_model.specs.KeyValue.{at_space, is_key}
 
 -- the place of the first space
@@ -39,3 +40,30 @@ key_of_front zero key bytes less = absurd (omega (arith, less))
 key_of_front (suc n) key [] less = refl
 key_of_front (suc n) [] (b ∷ bs) less = front_of_cons n b [] bs (empty_key b (take n bs) (space_in (take n bs)) ∙ sym (empty_key b bs (space_in bs)))
 key_of_front (suc n) (k ∷ ks) (b ∷ bs) less = front_of_cons n b (k ∷ ks) bs (longer_key k b ks (take n bs) (space_in (take n bs)) ∙ ap (λ v. (b == k) && v) (key_of_front n ks bs (omega (arith, less))) ∙ sym (longer_key k b ks bs (space_in bs)))
+
+-- a space is in it
+abbrev pub has_space : List ℕ → Bool
+has_space bytes = list_any (λ b. b == 32) bytes
+
+-- a pair has its key up to the first space, so it begins with the key and a space, and the key has none
+pub key_front : (key bytes : List ℕ) → is_key key (at_space bytes) ≡ has_front key 32 bytes && not (has_space key)
+key_front [] [] = refl
+key_front [] (b ∷ bs) = ⊎_elim
+    (λ is. rw (first_space b bs (eq-eqb b 32 is), eq-eqb b 32 is) refl)
+    (λ ne. rw (later_space b bs (ne_eqb b 32 ne), ne_eqb b 32 ne) (empty_key b bs (space_in bs)))
+    (cases_eq b 32)
+key_front (k ∷ ks) [] = refl
+key_front (k ∷ ks) (b ∷ bs) = ⊎_elim
+    (λ is. rw (first_space b bs (eq-eqb b 32 is)) (⊎_elim
+    (λ same. rw (eq-eqb k 32 (sym same ∙ is)) (never (has_front (k ∷ ks) 32 (b ∷ bs))))
+    (λ other. rw (ne_eqb b k other) refl)
+    (cases_eq b k)))
+    (λ ne. rw (later_space b bs (ne_eqb b 32 ne)) (longer_key k b ks bs (space_in bs) ∙ ap (λ v. (b == k) && v) (key_front ks bs) ∙ ⊎_elim
+    (λ same. rw (eq-eqb b k same, ne_eqb k 32 (λ e. ne (same ∙ e))) refl)
+    (λ other. rw (ne_eqb b k other) refl)
+    (cases_eq b k)))
+    (cases_eq b 32)
+  where
+    never : (t : Bool) → false ≡ t && false
+    never true = refl
+    never false = refl

@@ -1,13 +1,15 @@
 -- A walk over blocks finds the pair of a key.
-use Rattle.std.proofs.Common.{◌≡◌, ℕ, ◌+◌, ◌-◌, ◌^◌, ◌<◌, ◌≤◌, List, [], ◌∷◌, ◌++◌, length, Bool, true, false, ◌==◌, nat_lt, if◌then◌else◌, Option, Some, None, IsSome, IfSome, take, drop, refl, sym, ◌∙◌, arith, eq-eqb, ne_eqb, ⊎_elim, subst}
+use Rattle.std.proofs.Common.{◌≡◌, ℕ, ◌+◌, ◌-◌, ◌^◌, ◌<◌, ◌≤◌, List, [], ◌∷◌, ◌++◌, length, Bool, true, false, not, ◌&&◌, ◌==◌, nat_lt, if◌then◌else◌, Option, Some, None, IsSome, IfSome, take, drop, refl, sym, ap, ◌∙◌, arith, eq-eqb, ne_eqb, ⊎_elim, subst}
 use Rattle.std.proofs.lemmas.Bool.{cases_eq}
 use Rattle.std.proofs.lemmas.List.{append-nil}
 use Rattle.std.proofs.Math.ListN.{drop_of_length-le}
-use Rattle.ken_alloc.specs.Objects.{rewritten}
+use Rattle.ken_alloc.specs.Objects.{rewritten, has_front, place_of_front}
 use Rattle.ken_model.specs.declared.values.Block.{Block}
 use Rattle.ken_model.specs.declared.values.Value.{Value}
 use Rattle.ken_model.specs.Heap.{AreBlocks, end_of, block_at, place_past, with_block, first_gap_from}
 use Rattle.ken_model.specs.KeyValue.{at_space, is_key, pair_of}
+use Rattle.ken_model.proofs.Choices.{is_true, is_false}
+use Rattle.ken_apps.proofs.Keys.{has_space, key_front}
 use Rattle.ken_apps.specs.Found.{IsPairAt, with_pair}
 
 -- the pair of a key among the blocks from place q on
@@ -122,6 +124,56 @@ falls place (Some r) small more = omega (arith, small, more)
 
 pub some_is : {A : Type 0} {x y : A} → Some x ≡ Some y → x ≡ y
 some_is same = cc
+
+-- where no block begins with the key and a space, none is its pair
+pub no_front : (key : List ℕ) (bs : List Block) → None ≡ place_of_front key 32 bs → pair_of key bs ≡ None
+no_front key [] none = refl
+no_front key (b ∷ bs) none = go (has_front key 32 b.bytes) refl (no_front key bs) none
+  where
+    go : (t : Bool) → has_front key 32 b.bytes ≡ t → (None ≡ place_of_front key 32 bs → pair_of key bs ≡ None) → None ≡ (if t then Some b.place else place_of_front key 32 bs) → pair_of key (b ∷ bs) ≡ None
+    go true is rest e = absurd cc
+    go false is rest e = is_false (is_key key (at_space b.bytes)) (Some b) (pair_of key bs) (key_front key b.bytes ∙ ap (λ t. t && not (has_space key)) is) ∙ rest e
+
+-- a key with a space has no pair
+pub no_spaced : (key : List ℕ) (bs : List Block) → has_space key ≡ true → pair_of key bs ≡ None
+no_spaced key [] spaced = refl
+no_spaced key (b ∷ bs) spaced =
+    is_false (is_key key (at_space b.bytes)) (Some b) (pair_of key bs) (key_front key b.bytes ∙ ap (λ t. has_front key 32 b.bytes && not t) spaced ∙ none (has_front key 32 b.bytes)) ∙ no_spaced key bs spaced
+  where
+    none : (t : Bool) → t && false ≡ false
+    none true = refl
+    none false = refl
+
+-- the first block that begins with a key without a space, and a space, is its pair
+pub front_found : (key : List ℕ) (q from size : ℕ) (bs : List Block) → AreBlocks from size bs → has_space key ≡ false → Some q ≡ place_of_front key 32 bs → IsPairAt key bs q
+front_found key q from size [] blocks plain is = absurd cc
+front_found key q from size (b ∷ bs) blocks plain is = go (has_front key 32 b.bytes) refl (front_found key q (end_of b) size bs blocks.3 plain) is
+  where
+    key_is : (t : Bool) → has_front key 32 b.bytes ≡ t → is_key key (at_space b.bytes) ≡ t
+    key_is t e = key_front key b.bytes ∙ ap (λ s. has_front key 32 b.bytes && not s) plain ∙ ap (λ s. s && true) e ∙ same t
+      where
+        same : (s : Bool) → s && true ≡ s
+        same true = refl
+        same false = refl
+
+    go : (t : Bool) → has_front key 32 b.bytes ≡ t → (Some q ≡ place_of_front key 32 bs → IsPairAt key bs q) → Some q ≡ (if t then Some b.place else place_of_front key 32 bs) → IsPairAt key (b ∷ bs) q
+    go true e rest here =
+        let place : q ≡ b.place = some_is here in
+        record {
+          bytes = b.bytes;
+          stands = is_true (b.place == q) (Some b.bytes) (block_at q bs) (eq-eqb b.place q (sym place));
+          pair = is_true (is_key key (at_space b.bytes)) (Some b) (pair_of key bs) (key_is true e) ∙ ap (λ (p : ℕ). let c : Block = record { place = p; bytes = b.bytes } in Some c) (sym place);
+          key_is = key_is true e;
+        }
+    go false e rest later =
+        let r : IsPairAt key bs q = rest later in
+        let far : end_of b + 16 ≤ q = at_least q (end_of b) size bs blocks.3 (rw r.stands refl) in
+        record {
+          bytes = r.bytes;
+          stands = is_false (b.place == q) (Some b.bytes) (block_at q bs) (ne_eqb b.place q (λ same. absurd (omega (arith, same, far)))) ∙ r.stands;
+          pair = is_false (is_key key (at_space b.bytes)) (Some b) (pair_of key bs) (key_is false e) ∙ r.pair;
+          key_is = r.key_is;
+        }
 
 -- a block more leaves the others
 pub still_there : (q : ℕ) (new : Block) (bs : List Block) → IsSome (block_at q bs) → IsSome (block_at q (with_block new bs))

@@ -1,15 +1,13 @@
 // Pairs of a key and a text, each in a block of its own.
-ghost use Rattle.std.specs.Prelude.{◌≡◌, ◌∷◌, ◌+◌, ◌<◌, ◌≤◌, length, take, drop, Some, None, OnErr, IfOk, IfSome, IsSome, IsSomeAnd, MatchOption, codes, if◌then◌else◌};
+ghost use Rattle.std.specs.Prelude.{◌≡◌, ◌+◌, ◌<◌, ◌≤◌, length, take, drop, Some, None, OnErr, IfOk, IfSome, IsSome, IsSomeAnd, MatchOption, codes, if◌then◌else◌};
 ghost use Rattle.ken_model.specs.declared.facts.TheConstants.{MAX_TEXT};
 ghost use Rattle.ken_model.specs.declared.values.Block.{Block};
 ghost use Rattle.ken_model.specs.Heap.{IsHeap, first_gap, block_at};
-ghost use Rattle.ken_model.specs.KeyValue.{at_space, is_key, pair_of, put_at, delete_from};
+ghost use Rattle.ken_model.specs.KeyValue.{pair_of, put_at, delete_from};
 ghost use Rattle.ken_model.specs.Effects.{answered};
-ghost use Rattle.ken_alloc.specs.Objects.{IsBlock};
 ghost use Rattle.ken_apps.specs.Found.{IsPairAt, with_pair};
 
 use ken_alloc::Objects;
-use ken_model::{MAX_TEXT, is_pair_of};
 use std::alloc::AllocError;
 
 /// The bytes of a block from its byte `at` on, or as many of them as the buffer has room for, in the buffer.
@@ -25,31 +23,18 @@ fn read_block<'b>(objects: &Objects, place: u64, at: usize, buf: &'b mut [u8]) -
     front
 }
 
-/// Whether the block is the pair of a key. No more of the block is read than the key is long, and one byte.
-fn is_pair(objects: &Objects, place: u64, key: &[u8]) -> bool
-    requires block { IsBlock objects.now.value place }
-    requires short { length key.now < MAX_TEXT }
-    ensures { IfSome (block_at place objects.now.value.blocks) (λ bytes. result ≡ is_key key.now (at_space bytes)) }
-{
-    let mut buf = [0; MAX_TEXT];
-    let front = read_block(objects, place, 0, &mut buf[..key.len() + 1]);
-    is_pair_of(front, key)
-}
-
 /// The place of a key's pair.
 pub(crate) fn find(objects: &Objects, key: &[u8]) -> Option<u64>
     requires { length key.now < MAX_TEXT }
     ensures pair { MatchOption result (pair_of key.now objects.now.value.blocks ≡ None) (IsPairAt key.now objects.now.value.blocks) }
     ensures heap { IsHeap objects.now.value }
 {
-    let mut next = objects.first();
-    while let Some(place) = next {
-        if is_pair(objects, place, key) {
-            return Some(place);
-        }
-        next = objects.next(place);
+    let place = objects.find_front(key, b' ')?;
+    // A pair's key ends at its first space, so no pair has a key with a space in it.
+    if key.contains(&b' ') {
+        return None;
     }
-    None
+    Some(place)
 }
 
 /// Keeps a pair, and only then lets the key's old pair go. False where no gap fits the new one: the heap's value is then as

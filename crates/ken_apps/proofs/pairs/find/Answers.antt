@@ -1,50 +1,14 @@
-use Rattle.std.proofs.Common.{◌<◌, ◌^◌, Some, true, false, refl, sym, subst, arith}
-use Rattle.ken_model.specs.Heap.{block_at, place_past}
-use Rattle.ken_model.specs.KeyValue.{pair_of}
-use Rattle.ken_apps.proofs.Walks.{Seeks, pair_from, first_seeks, found_here, walks, tested, past_more, at_most, to_end, falls}
+use Rattle.std.proofs.Common.{sym, ◌∙◌}
+use Rattle.ken_apps.proofs.Walks.{no_front, no_spaced, front_found}
 use Rattle.ken_apps.proofs.pairs.find.Goals as goal
 
-pub loop-next-init : goal.loop-next-init
-loop-next-init c =
-    let first = c.first-next.ensures in
-    let value = c.args.objects.now.value in
-    record {
-      heap = first.heap;
-      seeks = subst (Seeks c.args.key.now value.blocks (pair_of c.args.key.now value.blocks)) (sym first.place) (first_seeks c.args.key.now 16 value.size value.blocks first.heap.blocks);
-    }
+pub returns-in_err-place-clause-pair : goal.returns-in_err-place-clause-pair
+returns-in_err-place-clause-pair c = rw c.from_residual.ensures (no_front c.args.key.now c.args.objects.now.value.blocks c.in_err-place.ensures.place)
 
-pub returns-then-is_pair : goal.returns-then-is_pair
-returns-then-is_pair c =
-    let key = c.args.key.now in
-    let value = c.args.objects.now.value in
-    let place = c.in-Some.place in
-    let inv = c.loop-next.invariant in
-    let seeks = subst (Seeks key value.blocks (pair_of key value.blocks)) c.in-Some.is inv.seeks in
-    let key_is = tested key (block_at place value.blocks) c.is_pair.result true c.is_pair.ensures c.if-is_pair.true in
-    record { pair = found_here key place 16 value.size value.blocks (block_at place value.blocks) inv.heap.blocks refl seeks.1 key_is seeks.0; heap = inv.heap }
+pub returns-then-contains-clause-pair : goal.returns-then-contains-clause-pair
+returns-then-contains-clause-pair c = no_spaced c.args.key.now c.args.objects.now.value.blocks (sym c.contains.ensures.value ∙ c.if-contains.true)
 
-pub loop-next-smaller : goal.loop-next-smaller
-loop-next-smaller c =
-    let key = c.args.key.now in
+pub returns-clause-pair : goal.returns-clause-pair
+returns-clause-pair c =
     let value = c.args.objects.now.value in
-    let place = c.in-Some.place in
-    let inv = c.loop-next.invariant in
-    let seeks = subst (Seeks key value.blocks (pair_of key value.blocks)) c.in-Some.is inv.seeks in
-    let within = at_most place 16 value.size value.blocks inv.heap.blocks seeks.1 in
-    let small : place < 2 ^ 64 = omega (arith, within, inv.heap.pages.2, inv.heap.pages.3) in
-    let less = falls place (place_past place value.blocks) small (past_more place value.blocks) in
-    subst (λ o. to_end c.next-next.result < to_end o) (sym c.in-Some.is) (subst (λ o. to_end o < to_end (Some place)) (sym c.next-next.ensures) less)
-
-pub loop-next-preserved : goal.loop-next-preserved
-loop-next-preserved c =
-    let key = c.args.key.now in
-    let value = c.args.objects.now.value in
-    let place = c.in-Some.place in
-    let inv = c.loop-next.invariant in
-    let seeks = subst (Seeks key value.blocks (pair_of key value.blocks)) c.in-Some.is inv.seeks in
-    let other = tested key (block_at place value.blocks) c.is_pair.result false c.is_pair.ensures c.if-is_pair.false in
-    let past = walks key place 16 value.size value.blocks inv.heap.blocks seeks.1 other in
-    record {
-      heap = inv.heap;
-      seeks = subst (λ o. Seeks key value.blocks o c.next-next.result) (sym seeks.0) (subst (Seeks key value.blocks (pair_from key place value.blocks)) (sym c.next-next.ensures) past);
-    }
+    front_found c.args.key.now c.in_ok-place.place 16 value.size value.blocks c.in_ok-place.ensures.heap.blocks (sym c.contains.ensures.value ∙ c.if-contains.false) c.in_ok-place.ensures.place
