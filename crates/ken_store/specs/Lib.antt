@@ -15,3 +15,5 @@ pub mod Lending
 pub mod Turnovers
 pub mod Apart
 pub mod Work
+pub mod KeptBytes
+pub mod Keeping

@@ -12,12 +12,13 @@ ghost use Rattle.ken_store.specs.Kept.{base_messages, base_outs, base_pages, out
 ghost use Rattle.ken_store.specs.Turning.{Turning, turn_pages, changed_in};
 ghost use Rattle.ken_store.specs.Turnovers.{due_of, record_dues, dues_in, is_due, unacked_to, all_due, outs_above, page_in, turn_in, changes_kept, base_of};
 
+use crate::kept::{Kept, KeptPage};
 use crate::turning::TurnSide;
 use crate::waiting;
 use ken_alloc::Objects;
 use ken_disk::Disk;
 use ken_model::{Items, MAX_NODES, Octets, Out, PAGE, TryClone};
-use ken_record::{Base, Due, Page, Record};
+use ken_record::{Base, Due, Page};
 use std::alloc::{AllocError, Global};
 
 impl<D: Disk> TurnSide<D> {
@@ -80,7 +81,7 @@ fn all_due(
     alloc: Global,
     acked: &[u64],
     base: &[Due],
-    records: &[Record],
+    records: &[Kept],
 ) -> Result<Items<Due>, AllocError>
     ensures { IfOk result (λ messages. messages ≡ all_due acked.now (base.now ++ flat_map record_dues records.now)) }
 {
@@ -97,7 +98,7 @@ fn put_due_to(
     messages: &mut Vec<Due>,
     acked: &[u64],
     base: &[Due],
-    records: &[Record],
+    records: &[Kept],
     to: u8,
 ) -> Result<(), AllocError>
     ensures { OnOk result (messages.new.items ≡ messages.old.items ++ unacked_to acked.now (base.now ++ flat_map record_dues records.now) to) }
@@ -130,17 +131,17 @@ fn put_sent(
     alloc: Global,
     messages: &mut Vec<Due>,
     acked: &[u64],
-    item: &Record,
+    item: &Kept,
     to: u8,
 ) -> Result<(), AllocError>
     ensures { OnOk result (messages.new.items ≡ messages.old.items ++ filter (is_due acked.now to) (record_dues item.now)) }
 {
-    for sent in item.sends.as_slice() {
+    for sent in item.sends() {
         if is_due(acked, to, sent.to, sent.number) {
             messages.push(Due {
                 to: sent.to,
                 number: sent.number,
-                stamp: item.stamp,
+                stamp: item.stamp(),
                 bytes: sent.bytes.try_clone(alloc)?,
             })?;
         }
@@ -160,14 +161,14 @@ fn outs_above(
     alloc: Global,
     emitted: u64,
     base: &[Out],
-    records: &[Record],
+    records: &[Kept],
 ) -> Result<Items<Out>, AllocError>
     ensures { IfOk result (λ outs. outs ≡ outs_above emitted (base.now ++ flat_map (λ (r : Record). r.outs) records.now)) }
 {
     let mut outs = Vec::new(alloc);
     put_outs(alloc, &mut outs, emitted, base)?;
     for item in records {
-        put_outs(alloc, &mut outs, emitted, item.outs.as_slice())?;
+        put_outs(alloc, &mut outs, emitted, item.outs())?;
     }
     Ok(Items::new(outs))
 }
@@ -193,7 +194,7 @@ fn last_turns(
     alloc: Global,
     turns: &[u64],
     base: &[Page],
-    records: &[Record],
+    records: &[Kept],
     pages: u32,
 ) -> Result<Vec<Option<u64>>, AllocError>
     requires turns { length turns.now ≡ length base.now }
@@ -210,7 +211,7 @@ fn last_turns(
 }
 
 // Notes the turns of a base's pages, and then those of records.
-pub(crate) fn note_all(last: &mut [Option<u64>], turns: &[u64], base: &[Page], records: &[Record])
+pub(crate) fn note_all(last: &mut [Option<u64>], turns: &[u64], base: &[Page], records: &[Kept])
     requires turns { length turns.now ≡ length base.now }
     requires base { AllByRecursion (λ (e : Page). e.page < length last.old) base.now }
     requires records { AllByRecursion (λ (r : Record). AllByRecursion (λ (e : Page). e.page < length last.old) r.pages) records.now }
@@ -221,7 +222,7 @@ pub(crate) fn note_all(last: &mut [Option<u64>], turns: &[u64], base: &[Page], r
 {
     note_base(last, turns, base);
     for item in records {
-        note_pages(last, item.turn, item.pages.as_slice());
+        note_pages(last, item.turn(), item.pages());
     }
 }
 
@@ -237,12 +238,12 @@ fn note_base(last: &mut [Option<u64>], turns: &[u64], pages: &[Page])
 }
 
 // Notes the turn of a record's pages.
-fn note_pages(last: &mut [Option<u64>], turn: u64, pages: &[Page])
+fn note_pages(last: &mut [Option<u64>], turn: u64, pages: &[KeptPage])
     requires { AllByRecursion (λ (e : Page). e.page < length last.old) pages.now }
     ensures { (p : ℕ) → slice_index_or last.new p None ≡ option_or (option_map turn_in (newest_by page_in p (changes_at turn pages.now))) (slice_index_or last.old p None) }
 {
     for page in pages {
-        last[page.page as usize] = Some(turn);
+        last[page.number() as usize] = Some(turn);
     }
 }
 

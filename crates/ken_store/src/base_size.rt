@@ -11,11 +11,12 @@ ghost use Rattle.ken_store.specs.Turning.{Turning};
 ghost use Rattle.ken_store.specs.Turnovers.{record_dues, is_due, unacked_to, all_due, outs_above, turn_in, changes_kept, base_of};
 
 use crate::base_of::{is_due, note_all, stays};
+use crate::kept::Kept;
 use crate::turning::TurnSide;
 use crate::waiting;
 use ken_disk::Disk;
 use ken_model::{MAX_NODES, MAX_PAGES, Out};
-use ken_record::{Due, Record};
+use ken_record::Due;
 
 // The bytes of a base without its items.
 pub(crate) const FIELDS: u64 = 162;
@@ -90,7 +91,7 @@ fn kept_one(settled: u64, turn: Option<u64>) -> usize
 }
 
 // The bytes of all messages that aren't acknowledged.
-fn due_size(acked: &[u64], base: &[Due], records: &[Record]) -> u64
+fn due_size(acked: &[u64], base: &[Due], records: &[Kept]) -> u64
     requires few { length base.now < 2 ^ 32 }
     requires base { AllByRecursion IsDue base.now }
     requires many { length records.now ≤ 2 ^ 40 }
@@ -106,7 +107,7 @@ fn due_size(acked: &[u64], base: &[Due], records: &[Record]) -> u64
 }
 
 // Of those to one node.
-fn due_size_to(acked: &[u64], base: &[Due], records: &[Record], to: u8) -> u64
+fn due_size_to(acked: &[u64], base: &[Due], records: &[Kept], to: u8) -> u64
     requires few { length base.now < 2 ^ 32 }
     requires base { AllByRecursion IsDue base.now }
     requires many { length records.now ≤ 2 ^ 40 }
@@ -134,13 +135,13 @@ fn due_sum(acked: &[u64], messages: &[Due], to: u8) -> u64
     size
 }
 
-fn sent_sum(acked: &[u64], item: &Record, to: u8) -> u64
+fn sent_sum(acked: &[u64], item: &Kept, to: u8) -> u64
     requires { IsRecord One item.now }
     ensures size { result ≡ length (flat_map due (filter (is_due acked.now to) (record_dues item.now))) }
     ensures most { result ≤ 8496 }
 {
     let mut size = 0;
-    for sent in item.sends.as_slice() {
+    for sent in item.sends() {
         size += due_len(acked, to, sent.to, sent.number, sent.bytes.len());
     }
     size
@@ -160,7 +161,7 @@ fn due_len(acked: &[u64], node: u8, to: u8, number: u64, text: usize) -> u64
 }
 
 // The bytes of all outputs that aren't emitted.
-fn outs_size(emitted: u64, base: &[Out], records: &[Record]) -> u64
+fn outs_size(emitted: u64, base: &[Out], records: &[Kept]) -> u64
     requires few { length base.now < 2 ^ 32 }
     requires base { AllByRecursion IsOut base.now }
     requires many { length records.now ≤ 2 ^ 40 }
@@ -170,7 +171,7 @@ fn outs_size(emitted: u64, base: &[Out], records: &[Record]) -> u64
 {
     let mut size = outs_sum(emitted, base);
     for item in records {
-        size += outs_sum(emitted, item.outs.as_slice());
+        size += outs_sum(emitted, item.outs());
     }
     size
 }

@@ -12,6 +12,7 @@ mod faults;
 mod handing;
 mod heads;
 mod heap;
+mod kept;
 mod laws;
 mod may_seal;
 mod numbers;

@@ -1,5 +1,5 @@
 // The numbers that a node's records come to.
-ghost use Rattle.std.specs.Prelude.{◌≡◌, ◌+◌, ◌≤◌, ◌<◌, ◌==◌, ◌&&◌, ◌||◌, [], nat_lt, slice_index_or, slice_set, IsTrue};
+ghost use Rattle.std.specs.Prelude.{◌≡◌, ◌+◌, ◌≤◌, ◌<◌, ◌^◌, ◌==◌, ◌&&◌, ◌||◌, [], true, nat_lt, slice_index_or, slice_set, IsTrue};
 ghost use Rattle.ken_record.specs.Grammar.{IsBase};
 ghost use Rattle.ken_record.specs.Versions.{One};
 ghost use Rattle.ken_store.specs.Bases.{base_numbers};
@@ -79,6 +79,22 @@ impl Numbers {
         self.sent = sent;
         self.outputs = outputs;
         true
+    }
+
+    // Goes on with the next turn, which follows with these effects.
+    pub(crate) fn go_on(&mut self, owner: &Owner, effects: &Effects)
+        requires nodes { owner.now.nodes ≤ 8 }
+        requires turns { self.old.turns + 1 < 2 ^ 64 }
+        requires follows { follows owner.now self.old (record_of (self.old.turns + 1) effects.now []) ≡ true }
+        ensures { self.new ≡ after_record self.old (record_of (self.old.turns + 1) effects.now []) }
+    {
+        let sends_follow = take_sends(&mut self.sent, owner.nodes, effects.sends.as_slice());
+        prove!(sends_follow);
+        let outs_follow = take_outs(&mut self.outputs, effects.outs.as_slice());
+        prove!(outs_follow);
+        self.turns += 1;
+        self.stamp = effects.stamp;
+        self.consumed[sender_index(effects.from)] = effects.number;
     }
 
     // Whether the next turn follows with these effects, where it changes no page.

@@ -25,6 +25,7 @@ use crate::faults::of_log;
 use crate::handing::ahead_of;
 use crate::heads::{Logs, front_on, logs_of};
 use crate::heap::rebuild;
+use crate::kept::{Kept, kept_records};
 use crate::owner::Owner;
 use crate::patching::{Ahead, PatchSide};
 use crate::state::{Heads, state_of};
@@ -35,7 +36,7 @@ use crate::waiting::base_pages;
 use ken_disk::Disk;
 use ken_image::Image;
 use ken_log::Log;
-use ken_model::{Items, PAGE, copies_of};
+use ken_model::{Items, PAGE};
 use ken_record::Record;
 use std::alloc::{AllocError, Global};
 use std::collections::VecDeque;
@@ -203,9 +204,9 @@ fn recover_store<D: Disk>(
 
 // What the sides of a store keep of a log.
 #[derive(Drop)]
-struct Kept {
+struct Sides {
     base_turns: Vec<u64>,
-    records: Vec<Record>,
+    records: Vec<Kept>,
     ahead: VecDeque<Ahead>,
 }
 
@@ -214,7 +215,7 @@ fn kept_of<D: Disk>(
     log: &Log<D>,
     records: &[Record],
     count: u32,
-) -> Result<Kept, AllocError>
+) -> Result<Sides, AllocError>
     requires base { AreWithin count (base_pages log.now.base) }
     requires records { AllByRecursion (HasPagesWithin count) records.now }
     requires rising { IsTrue (rise_from page_rank 0 (base_pages log.now.base)) }
@@ -230,9 +231,9 @@ fn kept_of<D: Disk>(
     let pages = base_pages(log);
     let mut base_turns = Vec::new(alloc);
     base_turns.resize(pages.len(), turns)?;
-    Ok(Kept {
+    Ok(Sides {
         base_turns,
-        records: copies_of(alloc, records)?.into_vec(),
+        records: kept_records(alloc, records)?,
         ahead: ahead_of(alloc, turns, pages, records, count)?,
     })
 }

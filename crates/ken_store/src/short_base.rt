@@ -9,11 +9,12 @@ ghost use Rattle.ken_store.specs.Turning.{Turning};
 ghost use Rattle.ken_store.specs.Turnovers.{record_dues, all_due, outs_above, base_of};
 
 use crate::base_size::{DUE, FIELDS, OUT, PAGE};
+use crate::kept::Kept;
 use crate::turning::TurnSide;
 use crate::waiting;
 use ken_disk::Disk;
 use ken_model::{MAX_NODES, MAX_TEXT, Out};
-use ken_record::{Due, MAX_OUTS, MAX_SENDS, Record};
+use ken_record::{Due, MAX_OUTS, MAX_SENDS};
 
 // A header has four bytes for the length of a base.
 const SHORT: u64 = 1 << 32;
@@ -42,7 +43,7 @@ impl<D: Disk> TurnSide<D> {
 }
 
 // What all messages take at most, each counted for each node.
-fn longest_dues(base: &[Due], records: &[Record]) -> u64
+fn longest_dues(base: &[Due], records: &[Kept]) -> u64
     requires few { length base.now < 2 ^ 32 }
     requires base { AllByRecursion IsDue base.now }
     requires many { length records.now ≤ 2 ^ 40 }
@@ -55,7 +56,7 @@ fn longest_dues(base: &[Due], records: &[Record]) -> u64
 }
 
 // What all outputs take at most.
-fn longest_outs(base: &[Out], records: &[Record]) -> u64
+fn longest_outs(base: &[Out], records: &[Kept]) -> u64
     requires few { length base.now < 2 ^ 32 }
     requires base { AllByRecursion IsOut base.now }
     requires many { length records.now ≤ 2 ^ 40 }

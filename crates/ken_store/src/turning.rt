@@ -26,14 +26,14 @@ ghost use Rattle.ken_store.specs.Turning.{
 
 use crate::StoreFault;
 use crate::disks::Which;
+use crate::kept::Kept;
 use crate::numbers::Numbers;
 use crate::owner::Owner;
 use ken_alloc::Objects;
 use ken_disk::Disk;
 use ken_frame::Frame;
 use ken_log::{Log, SealFault};
-use ken_model::{Items, Octets, TryClone};
-use ken_record::{Effects, Page, Record};
+use ken_record::Effects;
 use std::alloc::{AllocError, Global};
 use std::sync::Arc;
 
@@ -52,8 +52,8 @@ pub struct TurnSide<D> {
     pub(crate) numbers: Numbers,
     // For each page of the log's base the turn that last changed it.
     pub(crate) base_turns: Vec<u64>,
-    // The log's records, oldest first.
-    pub(crate) records: Vec<Record>,
+    // What is kept of the log's records, oldest first.
+    pub(crate) records: Vec<Kept>,
 }
 
 impl<D: Disk> TurnSide<D> {
@@ -138,13 +138,14 @@ impl<D: Disk> TurnSide<D> {
         ensures others { IsSameNode self.old self.new }
     {
         let (item, frames) = self.coming(effects)?;
-        self.log.seal(self.alloc, &item)?;
-        self.keep(item);
+        self.log
+            .seal_turn(self.numbers.turns + 1, effects, &frames)?;
+        self.keep(item, effects);
         Ok(frames)
     }
 
-    // The record of the turn that is begun, with its pages, and room for it. Nothing else changes.
-    fn coming(&mut self, effects: &Effects) -> Result<(Record, Vec<(u32, Arc<Frame>)>), AllocError>
+    // What is kept of the record of the turn that is begun, with its pages, and room for it. Nothing else changes.
+    fn coming(&mut self, effects: &Effects) -> Result<(Kept, Vec<(u32, Arc<Frame>)>), AllocError>
         requires begun { IsSome self.old.objects.begun }
         requires turns { self.old.numbers.turns + 1 < 2 ^ 64 }
         ensures item { IfOk result (λ x. x.0 ≡ coming_record self.old effects.now) }
@@ -155,61 +156,26 @@ impl<D: Disk> TurnSide<D> {
     {
         self.records.reserve(1)?;
         let frames = self.objects.freeze()?;
-        let item = record_of(self.alloc, self.numbers.turns + 1, effects, &frames)?;
+        let item = Kept::sealed(self.alloc, self.numbers.turns + 1, effects, &frames)?;
         Ok((item, frames))
     }
 
-    // Takes over what a sealed record tells, and ends its turn. There is room for the record.
-    fn keep(&mut self, item: Record)
+    // Goes on with the turn that was sealed with these effects, and ends it. There is room for what is kept of its record.
+    fn keep(&mut self, item: Kept, effects: &Effects)
         requires nodes { self.old.owner.nodes ≤ 8 }
         requires begun { IsSome self.old.objects.begun }
-        requires follows { follows self.old.owner self.old.numbers item ≡ true }
+        requires turns { self.old.numbers.turns + 1 < 2 ^ 64 }
+        requires follows { follows self.old.owner self.old.numbers (record_of (self.old.numbers.turns + 1) effects.now []) ≡ true }
         requires room { vec_len self.old.records < vec_capacity self.old.records }
         ensures records { self.new.records.items ≡ self.old.records.items ++ item ∷ [] }
-        ensures numbers { self.new.numbers ≡ after_record self.old.numbers item }
+        ensures numbers { self.new.numbers ≡ after_record self.old.numbers (record_of (self.old.numbers.turns + 1) effects.now []) }
         ensures objects { self.new.objects ≡ record self.old.objects { begun = None } }
         ensures log { self.new.log ≡ self.old.log }
         ensures base_turns { self.new.base_turns.items ≡ self.old.base_turns.items }
         ensures others { IsSameNode self.old self.new }
     {
-        let follows = self.numbers.take(&self.owner, &item);
-        prove!(follows);
+        self.numbers.go_on(&self.owner, effects);
         self.records.push_reserved(item);
         self.objects.commit();
     }
-}
-
-// The record of a turn that changed these pages.
-fn record_of(
-    alloc: Global,
-    turn: u64,
-    effects: &Effects,
-    frames: &[(u32, Arc<Frame>)],
-) -> Result<Record, AllocError>
-    ensures { IfOk result (λ item. item ≡ record_of turn effects.now (frame_pages frames.now)) }
-{
-    Ok(Record {
-        turn,
-        stamp: effects.stamp,
-        from: effects.from,
-        number: effects.number,
-        draws: effects.draws.try_clone(alloc)?,
-        sends: effects.sends.try_clone(alloc)?,
-        outs: effects.outs.try_clone(alloc)?,
-        pages: pages_in(alloc, frames)?,
-    })
-}
-
-// The pages in frames.
-fn pages_in(alloc: Global, frames: &[(u32, Arc<Frame>)]) -> Result<Items<Page>, AllocError>
-    ensures { IfOk result (λ pages. pages ≡ frame_pages frames.now) }
-{
-    let mut pages = Vec::with_capacity(alloc, frames.len())?;
-    for (page, frame) in frames {
-        pages.push(Page {
-            page: *page,
-            bytes: Octets::new(Vec::from_slice(alloc, frame.as_slice())?),
-        })?;
-    }
-    Ok(Items::new(pages))
 }

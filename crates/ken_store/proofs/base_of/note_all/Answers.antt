@@ -6,4 +6,4 @@ use Rattle.ken_store.proofs.base_of.note_all.Goals as goal
 
 pub loop-item-preserved : goal.loop-item-preserved
 loop-item-preserved c = λ p.
-    noted_all_more p (slice_index_or c.note_pages.new.last p None) (slice_index_or c.loop-item.last p None) (slice_index_or c.args.last.now p None) (map changed_in (zip c.args.turns.now c.args.base.now)) c.args.records.now c.loop-item.item-index c.item-item.result c.as_slice.result.now c.loop-item-test.true c.item-item.is c.as_slice.ensures (c.note_pages.ensures p) (c.loop-item.invariant p)
+    noted_all_more p (slice_index_or c.note_pages.new.last p None) (slice_index_or c.loop-item.last p None) (slice_index_or c.args.last.now p None) (map changed_in (zip c.args.turns.now c.args.base.now)) c.args.records.now c.loop-item.item-index c.item-item.result c.pages.result.now c.loop-item-test.true c.item-item.is c.pages.ensures (rw c.turn.ensures at (c.note_pages.ensures p)) (c.loop-item.invariant p)

@@ -14,4 +14,4 @@ loop-page-preserved c = λ p.
     let same = ap (λ (q : Page). q.page) c.page-item.is in
     let long = c.loop-page.auto.last in
     let here : x ≡ get_or (changes_at c.args.turn c.args.pages.now) c.loop-page.page-index x = ap (λ (q : Page). let r : Change = record { turn = c.args.turn; page = q } in r) c.page-item.is ∙ sym (change_at c.args.turn c.args.pages.now c.loop-page.page-index e x c.loop-page-test.true) in
-    noted_more p c.loop-page.last _ (changes_at c.args.turn c.args.pages.now) c.loop-page.page-index x (omega (arith, length-changes_at c.args.turn c.args.pages.now, c.loop-page-test.true)) here (omega (arith, at, same, long)) (c.loop-page.invariant p)
+    rw c.number.ensures (noted_more p c.loop-page.last _ (changes_at c.args.turn c.args.pages.now) c.loop-page.page-index x (omega (arith, length-changes_at c.args.turn c.args.pages.now, c.loop-page-test.true)) here (omega (arith, at, same, long)) (c.loop-page.invariant p))
