@@ -1,4 +1,4 @@
-ghost use Rattle.std.specs.Prelude.{◌≡◌, ◌≢◌, ◌<◌, ◌≤◌, ◌+◌, [], ◌∷◌, ◌++◌, ℕ, List, drop, length, map, slice_get, slice_index_or, slice_set, option_copied, option_map, IfOk, OnOk, OnErr, Option, Some};
+ghost use Rattle.std.specs.Prelude.{◌≡◌, ◌≢◌, ◌<◌, ◌≤◌, ◌+◌, [], ◌++◌, ℕ, List, drop, length, map, slice_get, slice_index_or, slice_set, option_copied, option_map, IfOk, OnOk, OnErr, Option, Some};
 ghost use Rattle.std.specs.VecDeque.{deque_len, deque_capacity};
 ghost use Rattle.ken_outbox.specs.Waiting.{nothing, resumed, with_sends, acked_by, next_number, no_line, AreFor};
 
@@ -132,11 +132,11 @@ impl Outbox {
         self.outs.pop_front();
     }
 
-    /// Takes the output that comes next, where one waits: it was emitted.
+    /// Takes the output that comes next, which was emitted.
     pub fn pop_out(&mut self) -> Out
         requires { self.old.outs ≢ [] }
-        ensures first { self.old.outs ≡ result ∷ self.new.outs }
-        ensures same { self.new ≡ record self.old { emitted = result.number; outs = self.new.outs } }
+        ensures first { slice_get self.old.outs 0 ≡ Some result }
+        ensures rest { self.new ≡ record self.old { emitted = result.number; outs = drop 1 self.old.outs } }
     {
         let Some(out) = self.outs.pop_front() else {
             unreachable!()

@@ -7,14 +7,14 @@ ghost use Rattle.ken_ship.specs.Handing.{acked_in, with_turn, progress_in};
 
 use crate::copies;
 use crate::items::{Progress, Sealed};
-use ken_links::{PopEnd, PushEnd, SLOTS, beside};
-use ken_model::{MAX_NODES, Message, Out, State, TryClone, copies_of};
+use ken_links::{PopEnd, PushEnd, SLOTS, beside, is_drained};
+use ken_model::{MAX_NODES, Message, Octets, Out, State};
 use ken_outbox::Outbox;
 use std::alloc::{AllocError, Global};
 use std::collections::VecDeque;
 
 // The outbox has a line for each of the nodes that there may be, and `turns` are those that aren't in it yet. `handed` is the number
-// of the last turn of all that it was handed.
+// of the last turn of all that it was handed. `staged` holds a turn's messages on their way into the outbox.
 #[derive(Drop)]
 pub(crate) struct Backlog {
     alloc: Global,
@@ -22,6 +22,7 @@ pub(crate) struct Backlog {
     pub handed: u64,
     outbox: Outbox,
     turns: VecDeque<Sealed>,
+    staged: VecDeque<Message>,
     progress: Progress,
     ghost low: { node < 8 },
     ghost each: { length outbox.lines ≡ 8 },
@@ -30,16 +31,21 @@ pub(crate) struct Backlog {
     ghost emitted: { outbox.emitted ≡ progress.emitted },
 }
 
-// Adds a turn of a node to its outbox. After an error nothing has changed.
-fn add_turn(alloc: Global, node: u8, outbox: &mut Outbox, turn: &Sealed) -> Result<(), AllocError>
+// Adds a turn of a node to its outbox, by way of a list for its messages. After an error nothing has changed in the outbox.
+fn add_turn(
+    alloc: Global,
+    node: u8,
+    outbox: &mut Outbox,
+    staged: &mut VecDeque<Message>,
+    turn: &Sealed,
+) -> Result<(), AllocError>
     requires low { node < 8 }
     requires each { length outbox.old.lines ≡ 8 }
     ensures ok { OnOk result (outbox.new ≡ with_turn node turn.now outbox.old) }
     ensures err { OnErr result (outbox.new ≡ outbox.old) }
 {
-    let sends = copies::mails(alloc, node, turn.stamp, turn.sends.as_slice())?;
-    let outs = copies_of(alloc, turn.outs.as_slice())?;
-    outbox.add(sends, outs)
+    copies::put_mails(alloc, node, turn.stamp, turn.sends.as_slice(), staged)?;
+    outbox.take_over(alloc, staged, turn.outs.as_slice())
 }
 
 // How far messages were acknowledged and outputs emitted where a state resumes.
@@ -61,10 +67,10 @@ fn retired(state: &State) -> Progress
 }
 
 impl Backlog {
-    ghost use Rattle.std.specs.Prelude.{◌≡◌, ◌+◌, ◌<◌, ◌≤◌, [], ◌++◌, nat_le, if◌then◌else◌, drop, IfOk, OnOk, OnErr, MatchOption, option_copied, Some, slice_get, slice_index_or, slice_set};
+    ghost use Rattle.std.specs.Prelude.{◌≡◌, ◌≢◌, ◌+◌, ◌<◌, ◌≤◌, [], ◌++◌, nat_le, if◌then◌else◌, drop, IfOk, OnOk, OnErr, MatchOption, option_copied, option_map, Some, slice_get, slice_index_or, slice_set};
     ghost use Rattle.std.specs.VecDeque.{deque_len, deque_capacity};
     ghost use Rattle.ken_links.specs.Rings.{pushed, free, popped, known, nones, IsRing, SamePushEnd, SamePopEnd};
-    ghost use Rattle.ken_outbox.specs.Waiting.{nothing, no_line, next_number};
+    ghost use Rattle.ken_outbox.specs.Waiting.{nothing, no_line};
     ghost use Rattle.ken_ship.specs.Fits.{IsMailFrom, IsMailTo};
     ghost use Rattle.ken_ship.specs.Handing.{CountsTurns, HandedOver, Received};
     ghost use Rattle.ken_ship.specs.Parts.{due_in};
@@ -80,6 +86,7 @@ impl Backlog {
             handed: 0,
             outbox: Outbox::new(alloc, MAX_NODES)?,
             turns: VecDeque::new(alloc),
+            staged: VecDeque::new(alloc),
             progress: Progress {
                 acked: [0; MAX_NODES as usize],
                 emitted: 0,
@@ -103,6 +110,7 @@ impl Backlog {
             handed: state.turns,
             outbox: Outbox::resume(alloc, MAX_NODES, state)?,
             turns: VecDeque::new(alloc),
+            staged: VecDeque::new(alloc),
             progress: retired(state),
         })
     }
@@ -116,7 +124,13 @@ impl Backlog {
         ensures turns { OnOk result (self.new.turns.items ≡ drop 1 self.old.turns.items) }
     {
         if let Some(turn) = self.turns.front() {
-            add_turn(self.alloc, self.node, &mut self.outbox, turn)?;
+            add_turn(
+                self.alloc,
+                self.node,
+                &mut self.outbox,
+                &mut self.staged,
+                turn,
+            )?;
             self.turns.pop_front();
         }
         Ok(())
@@ -172,6 +186,9 @@ impl Backlog {
         ensures ok { OnOk result ((popped ring.new ≡ pushed push.new) × (64 ≤ free push.new)) }
         ensures err { OnErr result ((popped ring.new ≡ popped ring.old) × (due_in self.new ≡ due_in self.old) × (self.new.handed ≡ self.old.handed)) }
     {
+        if is_drained(push, ring) {
+            return Ok(());
+        }
         beside(push, ring);
         self.turns.reserve(ring.known())?;
         self.move_known(ring);
@@ -205,18 +222,12 @@ impl Backlog {
         self.outbox.due(to, i)
     }
 
-    // A copy of the oldest output that waits.
-    pub(crate) fn next_out(&self) -> Result<Option<Out>, AllocError>
+    // The oldest output that waits, with its number.
+    pub(crate) fn next_out(&self) -> Option<(u64, &Octets)>
         requires { self.now.turns.items ≡ [] }
-        ensures { IfOk result (λ out. out ≡ slice_get (due_in self.now).outs 0) }
+        ensures { option_map (λ x. record { number = x.0; text = x.1.now }) result ≡ slice_get (due_in self.now).outs 0 }
     {
-        match self.outbox.next_out() {
-            Some((number, text)) => Ok(Some(Out {
-                number,
-                text: text.try_clone(self.alloc)?,
-            })),
-            None => Ok(None),
-        }
+        self.outbox.next_out()
     }
 
     // Whether a number goes no further than the messages to a node that were handed over.
@@ -245,17 +256,19 @@ impl Backlog {
         }
     }
 
-    // The oldest output, which has this number, was emitted.
-    pub(crate) fn emitted(&mut self, number: u64)
-        requires number { next_number (due_in self.old).outs ≡ Some number }
+    // Takes the oldest output, which was emitted.
+    pub(crate) fn pop_out(&mut self) -> Out
+        requires waits { (due_in self.old).outs ≢ [] }
         requires turns { self.old.turns.items ≡ [] }
         ensures node { self.new.node ≡ self.old.node }
         ensures handed { self.new.handed ≡ self.old.handed }
         ensures turns { self.new.turns.items ≡ [] }
-        ensures due { due_in self.new ≡ record (due_in self.old) { emitted = number; outs = drop 1 (due_in self.old).outs } }
+        ensures first { slice_get (due_in self.old).outs 0 ≡ Some result }
+        ensures due { due_in self.new ≡ record (due_in self.old) { emitted = result.number; outs = drop 1 (due_in self.old).outs } }
     {
-        self.outbox.emitted(number);
-        self.progress.emitted = number;
+        let out = self.outbox.pop_out();
+        self.progress.emitted = out.number;
+        out
     }
 
     // How far messages are acknowledged and outputs emitted.

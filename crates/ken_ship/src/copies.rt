@@ -1,10 +1,11 @@
 // Copies of what a turn sent, as messages.
-ghost use Rattle.std.specs.Prelude.{◌≡◌, map, IfOk};
+ghost use Rattle.std.specs.Prelude.{◌≡◌, map, IfOk, OnOk};
 ghost use Rattle.ken_core.specs.Turns.{mail_of};
 
-use ken_model::{Items, Message, TryClone};
+use ken_model::{Message, TryClone};
 use ken_record::Sent;
 use std::alloc::{AllocError, Global};
+use std::collections::VecDeque;
 
 // A message that a turn of a node with this stamp sent.
 fn mail(alloc: Global, node: u8, stamp: u64, sent: &Sent) -> Result<Message, AllocError>
@@ -19,17 +20,19 @@ fn mail(alloc: Global, node: u8, stamp: u64, sent: &Sent) -> Result<Message, All
     })
 }
 
-pub(crate) fn mails(
+// Makes a list hold the messages that a turn of a node with this stamp sent. After an error it holds some of them.
+pub(crate) fn put_mails(
     alloc: Global,
     node: u8,
     stamp: u64,
     sends: &[Sent],
-) -> Result<Items<Message>, AllocError>
-    ensures { IfOk result (λ ms. ms ≡ map (mail_of node stamp) sends.now) }
+    mails: &mut VecDeque<Message>,
+) -> Result<(), AllocError>
+    ensures { OnOk result (mails.new.items ≡ map (mail_of node stamp) sends.now) }
 {
-    let mut mails = Vec::new(alloc);
+    mails.clear();
     for sent in sends {
-        mails.push(mail(alloc, node, stamp, sent)?)?;
+        mails.push_back(mail(alloc, node, stamp, sent)?)?;
     }
-    Ok(Items::new(mails))
+    Ok(())
 }

@@ -7,7 +7,7 @@ use crate::items::{Sealed, Told};
 use crate::sending::send_all;
 use crate::{Emit, NodeFault, OutFault, Outlet};
 use ken_links::{PopEnd, PushEnd, empty};
-use ken_model::{Emission, Out, State};
+use ken_model::{Emission, State};
 use ken_net::Net;
 use std::alloc::{AllocError, Global};
 
@@ -31,9 +31,9 @@ pub struct SendWorker {
 }
 
 impl SendWorker {
-    ghost use Rattle.std.specs.Prelude.{◌≡◌, ◌+◌, ◌<◌, ◌≤◌, ◌⊎◌, ◌≢◌, [], Ok, Err, Some, IfOk, OnOk, OnErr, ◌++◌, length, slice_get, vec_len, vec_capacity};
+    ghost use Rattle.std.specs.Prelude.{◌≡◌, ◌+◌, ◌<◌, ◌≤◌, ◌⊎◌, ◌≢◌, [], Ok, Err, Some, IfOk, OnOk, OnErr, ◌++◌, length, vec_len, vec_capacity};
     ghost use Rattle.ken_links.specs.Rings.{pushed, free, popped, known, nones, IsRing, SamePushEnd, SamePopEnd, Moves};
-    ghost use Rattle.ken_outbox.specs.Waiting.{nothing, resumed};
+    ghost use Rattle.ken_outbox.specs.Waiting.{nothing, resumed, next_number};
     ghost use Rattle.ken_ship.specs.Causes.{HasCause};
     ghost use Rattle.ken_ship.specs.Fates.{Suffers, Follows};
     ghost use Rattle.ken_ship.specs.Handing.{CountsTurns, HandedOver, Received};
@@ -207,33 +207,32 @@ impl SendWorker {
         ensures fate { Follows (Suffers (outlet_answer result)) (O.fate out.old) (O.fate out.new) }
     {
         self.backlog.add_all()?;
-        let Some(next) = self.backlog.next_out()? else {
+        let Some((number, text)) = self.backlog.next_out() else {
             return Ok(Emit::Nothing);
         };
         self.emissions.reserve(1)?;
-        match out.emit(next.number, next.text.as_slice()) {
-            Ok(()) => Ok(self.emitted(next)),
+        match out.emit(number, text.as_slice()) {
+            Ok(()) => Ok(self.emitted(number)),
             Err(OutFault::Failed) => self.refused(),
             Err(OutFault::Memory) => Err(NodeFault::Memory),
         }
     }
 
-    // The oldest output was emitted. There is room for one emission more.
+    // The oldest output, which has this number, was emitted. There is room for one emission more.
     #[tactic(auto, using(crate::proofs::Last::last_of_push))]
-    fn emitted(&mut self, out: Out) -> Emit
+    fn emitted(&mut self, number: u64) -> Emit
         requires slot { 0 < free self.old.told }
         requires turns { self.old.backlog.turns.items ≡ [] }
         requires room { vec_len self.old.emissions < vec_capacity self.old.emissions }
-        requires first { slice_get (part_of self.old).due.outs 0 ≡ Some out }
+        requires first { next_number (part_of self.old).due.outs ≡ Some number }
         ensures worker { IsSameWorker self.old self.new }
         ensures sealed { self.new.sealed ≡ self.old.sealed }
         ensures part { Emitted self.old.backlog.node (Ok result) (part_of self.old) (part_of self.new) }
         ensures slots { SameSlots self.old.told self.new.told }
-        ensures done { result ≡ Emit.Done out.number }
+        ensures done { result ≡ Emit.Done number }
     {
-        let number = out.number;
         let node = self.backlog.node;
-        self.backlog.emitted(number);
+        let out = self.backlog.pop_out();
         self.emissions.push_reserved(Emission { node, out });
         self.last_emitted = self.last_emitted.max(number);
         self.refusals = 0;

@@ -8,11 +8,11 @@ use Rattle.ken_ship.specs.Fits.{IsMailFrom}
 use Rattle.ken_ship.proofs.Lines.{mails_from, mails_for}
 use Rattle.ken_ship.proofs.backlog.add_turn.Goals as goal
 
-pub add-requires : goal.add-requires
-add-requires c =
+pub take_over-requires : goal.take_over-requires
+take_over-requires c =
     let v : ℕ = c.args.node in
     let stamp : ℕ = c.args.turn.now.stamp in
     let sends : List Sent = c.args.turn.now.sends in
-    let are : c.in_ok-sends.sends ≡ map (mail_of v stamp) sends = cc (c.in_ok-sends.ensures, c.as_slice.ensures) in
+    let are : c.put_mails.new.mails.items ≡ map (mail_of v stamp) sends = cc (c.in_ok-put_mails.ensures, c.as_slice.ensures) in
     let each : All (IsMailFrom v) (map (mail_of v stamp) sends) = mails_from v stamp sends c.requires.low c.args.turn.now.fits in
     subst (λ (ms : List Message). AreFor (length c.args.outbox.now.lines) ms) (sym are) (mails_for v (map (mail_of v stamp) sends) (length c.args.outbox.now.lines) c.requires.each each)
