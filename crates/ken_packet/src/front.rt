@@ -7,6 +7,7 @@ use ken_model::MAX_TEXT;
 use ken_num::{u8_at, u16_at, u64_at};
 
 #[tactic(auto, unfolding(ken_record::specs::Reading::number_at))]
+#[inline(always)]
 fn u8_front(bytes: &[u8]) -> Option<(u8, &[u8])>
     ensures { Shows (λ x. (x.0, x.1.now)) result (number_at 1 bytes.now) }
 {
@@ -17,6 +18,7 @@ fn u8_front(bytes: &[u8]) -> Option<(u8, &[u8])>
 }
 
 #[tactic(auto, unfolding(ken_record::specs::Reading::number_at))]
+#[inline(always)]
 fn u16_front(bytes: &[u8]) -> Option<(u16, &[u8])>
     ensures { Shows (λ x. (x.0, x.1.now)) result (number_at 2 bytes.now) }
 {
@@ -27,6 +29,7 @@ fn u16_front(bytes: &[u8]) -> Option<(u16, &[u8])>
 }
 
 #[tactic(auto, unfolding(ken_record::specs::Reading::number_at))]
+#[inline(always)]
 pub(crate) fn u64_front(bytes: &[u8]) -> Option<(u64, &[u8])>
     ensures { Shows (λ x. (x.0, x.1.now)) result (number_at 8 bytes.now) }
 {
@@ -38,6 +41,7 @@ pub(crate) fn u64_front(bytes: &[u8]) -> Option<(u64, &[u8])>
 
 // So many bytes, and those after them.
 #[tactic(auto, unfolding(ken_record::specs::Reading::part_at))]
+#[inline(always)]
 fn part_front(bytes: &[u8], len: usize) -> Option<(&[u8], &[u8])>
     ensures { Shows (λ x. (x.0.now, x.1.now)) result (part_at len bytes.now) }
 {
@@ -48,6 +52,7 @@ fn part_front(bytes: &[u8], len: usize) -> Option<(&[u8], &[u8])>
 }
 
 #[tactic(auto, unfolding(ken_record::specs::Reading::text_at))]
+#[inline(always)]
 fn text_front(bytes: &[u8]) -> Option<(&[u8], &[u8])>
     ensures { Shows (λ x. (x.0.now, x.1.now)) result (text_at bytes.now) }
 {
@@ -61,6 +66,7 @@ fn text_front(bytes: &[u8]) -> Option<(&[u8], &[u8])>
 
 // The kind and the two ends of a packet.
 #[tactic(auto, unfolding(crate::specs::Reading::head_at))]
+#[inline(always)]
 pub(crate) fn head_front(bytes: &[u8]) -> Option<((u8, (u8, u8)), &[u8])>
     ensures { Shows (λ x. (x.0, x.1.now)) result (head_at bytes.now) }
 {
@@ -71,6 +77,7 @@ pub(crate) fn head_front(bytes: &[u8]) -> Option<((u8, (u8, u8)), &[u8])>
 }
 
 #[tactic(auto, unfolding(crate::specs::Reading::counts_at))]
+#[inline(always)]
 fn counts_front(bytes: &[u8]) -> Option<((u64, u64), &[u8])>
     ensures { Shows (λ x. (x.0, x.1.now)) result (counts_at bytes.now) }
 {
@@ -81,6 +88,7 @@ fn counts_front(bytes: &[u8]) -> Option<((u64, u64), &[u8])>
 
 // The number, the stamp and the bytes of a message.
 #[tactic(auto, unfolding(crate::specs::Reading::body_at))]
+#[inline(always)]
 pub(crate) fn body_front(bytes: &[u8]) -> Option<(((u64, u64), &[u8]), &[u8])>
     ensures { Shows (λ x. ((x.0.0, x.0.1.now), x.1.now)) result (body_at bytes.now) }
 {

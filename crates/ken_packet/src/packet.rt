@@ -1,9 +1,7 @@
-ghost use Rattle.std.specs.Prelude.{◌≡◌, ◌+◌, ◌++◌, ◌↔◌, ◌≤◌, length, IfOk, IsTrue};
+ghost use Rattle.std.specs.Prelude.{◌≡◌, ◌++◌, ◌↔◌, IfOk, IsTrue};
 ghost use Rattle.ken_record.specs.Spelling.{number};
 ghost use Rattle.ken_packet.specs.Packets.{IsMail, IsAck, IsPacket, head, counts, mail_bytes, ack_bytes, packet_bytes};
 
-use arrayvec::ArrayVec;
-use byteorder::{BigEndian, ByteOrder};
 use ken_model::{MAX_NODES, MAX_TEXT, Message, Octets};
 use std::alloc::{AllocError, Global};
 
@@ -74,60 +72,40 @@ pub fn encode_mail(alloc: Global, message: &Message) -> Result<Octets, AllocErro
 fn encode_ack(alloc: Global, from: u8, to: u8, through: u64) -> Result<Octets, AllocError>
     ensures { IfOk result (λ bytes. bytes ≡ ack_bytes from to through) }
 {
-    let mut count = [0; 8];
-    BigEndian::write_u64(&mut count, through);
+    let count = through.to_be_bytes();
     Octets::joined(alloc, &[ACK, from, to], &count)
 }
 
 // All of a mail that stands before its text, which has so many bytes.
-fn mail_head(message: &Message, len: u16) -> ArrayVec<u8, MAIL_HEAD>
-    ensures { result.items ≡ head 1 message.now.from message.now.to ++ (counts message.now.number message.now.stamp ++ number 2 len) }
-{
-    let mut head = ArrayVec::new();
-    append_ends(&mut head, message.from, message.to);
-    append_count(&mut head, message.number);
-    append_count(&mut head, message.stamp);
-    append_len(&mut head, len);
-    head
-}
-
 #[tactic(auto, unfolding(ken_record::specs::Spelling::number))]
-fn append_ends(out: &mut ArrayVec<u8, MAIL_HEAD>, from: u8, to: u8)
-    requires { length out.old.items + 3 ≤ MAIL_HEAD }
-    ensures bytes { out.new.items ≡ out.old.items ++ head 1 from to }
-    ensures len { length out.new.items ≡ length out.old.items + 3 }
+fn mail_head(message: &Message, len: u16) -> [u8; MAIL_HEAD]
+    requires { IsMail message.now }
+    ensures { result ≡ head 1 message.now.from message.now.to ++ (counts message.now.number message.now.stamp ++ number 2 len) }
 {
-    append(out, &[MAIL, from, to]);
-}
-
-#[tactic(auto, unfolding(ken_record::specs::Spelling::number))]
-fn append_count(out: &mut ArrayVec<u8, MAIL_HEAD>, count: u64)
-    requires { length out.old.items + 8 ≤ MAIL_HEAD }
-    ensures bytes { out.new.items ≡ out.old.items ++ number 8 count }
-    ensures len { length out.new.items ≡ length out.old.items + 8 }
-{
-    let mut bytes = [0; 8];
-    BigEndian::write_u64(&mut bytes, count);
-    append(out, &bytes);
-}
-
-#[tactic(auto, unfolding(ken_record::specs::Spelling::number))]
-fn append_len(out: &mut ArrayVec<u8, MAIL_HEAD>, len: u16)
-    requires { length out.old.items + 2 ≤ MAIL_HEAD }
-    ensures bytes { out.new.items ≡ out.old.items ++ number 2 len }
-    ensures len { length out.new.items ≡ length out.old.items + 2 }
-{
-    let mut bytes = [0; 2];
-    BigEndian::write_u16(&mut bytes, len);
-    append(out, &bytes);
-}
-
-// Appends bytes for which there is room.
-fn append(out: &mut ArrayVec<u8, MAIL_HEAD>, bytes: &[u8])
-    requires { length out.old.items + length bytes.now ≤ MAIL_HEAD }
-    ensures { out.new.items ≡ out.old.items ++ bytes.now }
-{
-    if out.try_extend_from_slice(bytes).is_err() {
-        unreachable!()
-    }
+    let number = message.number.to_be_bytes();
+    let stamp = message.stamp.to_be_bytes();
+    let len = len.to_be_bytes();
+    [
+        MAIL,
+        message.from,
+        message.to,
+        number[0],
+        number[1],
+        number[2],
+        number[3],
+        number[4],
+        number[5],
+        number[6],
+        number[7],
+        stamp[0],
+        stamp[1],
+        stamp[2],
+        stamp[3],
+        stamp[4],
+        stamp[5],
+        stamp[6],
+        stamp[7],
+        len[0],
+        len[1],
+    ]
 }
