@@ -54,8 +54,20 @@ pub(crate) fn block_from(pages: &PageHeap, from: u64) -> Option<Found>
     requires { CanWalk pages.now.bytes from }
     ensures { (rest : List _) → IsWalk pages.now.bytes from rest → result ≡ first_of rest }
 {
-    let at = gap_end(pages, from);
-    if at == head::size(pages) {
+    let size = head::size(pages);
+    if from == size {
+        return None;
+    }
+    let first = head::read(pages, from);
+    if first.len > 0 {
+        let place = from + HEAD;
+        return Some(Found {
+            place,
+            len: first.len,
+        });
+    }
+    let at = from + u64::from(first.span);
+    if at == size {
         return None;
     }
     Some(Found {
