@@ -30,7 +30,7 @@ returns-in-Err gen c = λ g most.
     (λ decided told follows told2 line other.
     let next = is_next g most old.checker told c.args.step _ told2 follows.knows line in
     let by = subst IsDecided (sym (ap (λ (x : Game). x.handler) follows.game)) decided in
-    refused_turn p c.args.step line.0.turn c.step.result c.in-Err.fault c.in-Err.is other c.step.ensures.capped c.step.ensures.no_message (λ is. c.step.ensures.draws is by)
+    refused_turn p c.args.step line.0.turn c.step-2.result c.in-Err.fault c.in-Err.is other c.step-2.ensures.capped c.step-2.ensures.no_message (λ is. c.step-2.ensures.draws is by)
     (same_turn g p (play g told.schedule) c.args.step follows.game follows.alike ∙ next.made))
 
 pub returns-then-not-comes_before : goal.returns-then-not-comes_before
@@ -67,7 +67,7 @@ returns gen c = λ g most told follows.
     let knows = follows.knows in
     let s = c.args.step in
     let p : Playing = playing_of h c.args.self.now.actors in
-    let p2 : Playing = playing_of h c.step.new.self in
+    let p2 : Playing = playing_of h c.step-2.new.self in
     let made = c.in-Ok.ensures.done in
     let t = made.turn in
     let is : turn_of g (play g told.schedule) s ≡ Some t = sym (same_turn g p (play g told.schedule) s follows.game follows.alike) ∙ made.defined in
@@ -94,7 +94,7 @@ returns gen c = λ g most told follows.
       heaps = refl;
       ended = refl;
     } in
-    let few : (c.in-Ok.done.stamp < 2 ^ 64) × (c.in-Ok.done.number < 2 ^ 64) = (search (rules, c.step.type_inv, c.in-Ok.is), search (rules, c.step.type_inv, c.in-Ok.is)) in
+    let few : (c.in-Ok.done.stamp < 2 ^ 64) × (c.in-Ok.done.number < 2 ^ 64) = (search (rules, c.step-2.type_inv, c.in-Ok.is), search (rules, c.step-2.type_inv, c.in-Ok.is)) in
     let line_is : IsTurnLine g told (c.args.text.now ++ 10 ∷ []) (record told { schedule = told.schedule ++ s ∷ [] }) = record {
       step = s;
       turn = t;
