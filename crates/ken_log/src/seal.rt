@@ -17,7 +17,7 @@ use crate::opening::open_gate;
 use ken_disk::{Disk, DiskFault, MAX_LEN};
 use ken_frame::Frame;
 use ken_record::{Effects, Record, put_turn};
-use std::alloc::{AllocError, Global};
+use std::alloc::AllocError;
 use std::sync::Arc;
 
 // Room for the record of a turn that changes one page and has short texts.
@@ -28,7 +28,7 @@ impl<D: Disk> Log<D> {
     /// behind it, and synced; then the gate is opened, and synced. A crash at any moment leaves the records before, or these
     /// and the new one. After `Ok` it leaves the new one too. After `Memory` the log stands as before. After `Disk` the log is
     /// spent: which of the two a crash leaves is in doubt, and it takes no more seals.
-    pub fn seal(&mut self, _alloc: Global, item: &Record) -> Result<(), SealFault>
+    pub fn seal(&mut self, item: &Record) -> Result<(), SealFault>
         requires settled { IsSettled D.told D.size self.old }
         requires item { IsRecord (version_of self.old.header) item.now }
         requires room { self.old.end + (2 + length (record_bytes (version_of self.old.header) item.now)) ≤ MAX_LEN }

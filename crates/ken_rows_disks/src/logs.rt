@@ -64,7 +64,7 @@ impl Disks {
         let Some((mut log, _)) = self.found(1, answer)? else {
             return Ok(());
         };
-        let sealed = seals(self.alloc, &mut log, &record, count);
+        let sealed = seals(&mut log, &record, count);
         self.disk = Some(log.release());
         self.tell(sealed, answer)
     }
@@ -129,7 +129,7 @@ fn show_log(
 }
 
 // Seals a record so often, unless the disk fails, or has no room for more.
-fn seals(alloc: Global, log: &mut Log<MemDisk>, item: &Record, count: u64) -> Result<(), SealFault>
+fn seals(log: &mut Log<MemDisk>, item: &Record, count: u64) -> Result<(), SealFault>
     requires settled { TakesSeals log.old }
     requires fits { IsRecord One item.now }
 {
@@ -139,7 +139,7 @@ fn seals(alloc: Global, log: &mut Log<MemDisk>, item: &Record, count: u64) -> Re
         if log.end() > MAX_END {
             return Ok(());
         }
-        log.seal(alloc, item)?;
+        log.seal(item)?;
     }
     Ok(())
 }
