@@ -24,7 +24,6 @@ pub mod Coming
 pub mod Sealable
 pub mod Firsts
 pub mod Going
-pub mod Inserted
 pub mod Rising
 pub mod Merged
 pub mod Histories

@@ -1,9 +1,7 @@
 -- The lines of several nodes' turns, merged in the order of their stamps.
-use Rattle.std.specs.Prelude.{◌≡◌, ℕ, ◌<◌, ◌==◌, ◌||◌, ◌&&◌, nat_lt, Bool, List, [], ◌∷◌, ◌++◌, take, drop}
-use Rattle.std.specs.List.{AllByRecursion, prefix_len}
-use Rattle.std.specs.Map.{values_of}
+use Rattle.std.specs.Prelude.{ℕ, ◌<◌, ◌==◌, ◌||◌, ◌&&◌, nat_lt, Bool, List, [], ◌∷◌, ◌++◌, take, drop}
+use Rattle.std.specs.List.{prefix_len}
 use Rattle.ken_model.specs.declared.reports.TurnLine.{TurnLine}
-use Rattle.ken_model.specs.History.{Rises}
 
 -- each stamp is larger than the one before, and the first larger than `stamp`
 abbrev pub StampsRise : ℕ → List TurnLine → Type 0
@@ -22,16 +20,3 @@ count_before l ts = prefix_len (λ (t : TurnLine). is_before t l) ts
 abbrev pub merged : List TurnLine → List TurnLine → List TurnLine
 merged [] ts = ts
 merged (l ∷ ls) ts = take (count_before l ts) ts ++ l ∷ merged ls (drop (count_before l ts) ts)
-
--- a key and a line
-abbrev pub Entry : Type 0
-Entry = (ℕ × ℕ) × TurnLine
-
--- the key is the line's stamp and node
-abbrev pub IsKeyed : Entry → Type 0
-IsKeyed e = (e.0.0 ≡ e.1.stamp) × (e.0.1 ≡ e.1.step.node)
-
--- each line is at its key, and the lines are in the order of (stamp, node)
-pub record IsInOrder (entries : List Entry) : Type 0 where
-  pub keyed : AllByRecursion IsKeyed entries
-  pub rises : Rises 0 0 (values_of entries)
