@@ -101,7 +101,7 @@ impl<'a> Group<'a> {
             let machine = &self.machines[usize::from(node)];
             timeline.add(alloc, node, machine.ledger.turns.as_slice())?;
         }
-        Ok(Items::new(timeline.into_lines(alloc)?))
+        Ok(Items::new(timeline.into_lines()))
     }
 
     /// The image of a node is synced.

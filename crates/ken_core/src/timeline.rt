@@ -1,5 +1,5 @@
 // The turns of all nodes in one order.
-ghost use Rattle.std.specs.Prelude.{◌≡◌, ◌≢◌, [], ℕ, map, IfOk, OnOk};
+ghost use Rattle.std.specs.Prelude.{◌≡◌, ◌≢◌, [], ℕ, map, OnOk};
 ghost use Rattle.ken_model.specs.declared.reports.TurnLine.{TurnLine};
 ghost use Rattle.ken_model.specs.History.{lines_by, Rises};
 ghost use Rattle.ken_core.specs.Timeline.{StampsRise};
@@ -52,10 +52,10 @@ impl Timeline {
     }
 
     /// All lines in order.
-    pub fn into_lines(self, _alloc: Global) -> Result<Vec<TurnLine>, AllocError>
-        ensures lines { IfOk result (λ ls. ls.items ≡ self) }
-        ensures rises { IfOk result (λ ls. Rises 0 0 ls.items) }
+    pub fn into_lines(self) -> Vec<TurnLine>
+        ensures lines { result.items ≡ self }
+        ensures rises { Rises 0 0 result.items }
     {
-        Ok(self.lines)
+        self.lines
     }
 }

@@ -171,7 +171,7 @@ pub fn lines<D: Disk, O: Oracle, U: Outlet, A: App>(
     ensures { ReportsRun D.Disk U.Outlet A.App run.now result }
 {
     let summary = gather(alloc, run)?;
-    let turns = summary.timeline.into_lines(alloc)?;
+    let turns = summary.timeline.into_lines();
     let waiting = waiting(run);
     Ok(Lines {
         turns: Items::new(turns),
