@@ -1,5 +1,5 @@
 -- What a kept record shows.
-use Rattle.std.specs.Prelude.{ℕ, List, [], ◌∷◌}
+use Rattle.std.specs.Prelude.{ℕ, List, []}
 use Rattle.ken_record.specs.declared.page.Page.{Page}
 use Rattle.ken_store.specs.declared.kept.PageList.{PageList}
 use Rattle.ken_store.specs.declared.kept.PageList.TheVariants as pages
@@ -8,7 +8,10 @@ use Rattle.ken_store.specs.declared.kept.Told.TheVariants as told
 
 abbrev pub pages_in : PageList → List Page
 pages_in pages.None = []
-pages_in (pages.One p) = p ∷ []
+pages_in (pages.One ps) = ps
+pages_in (pages.Two ps) = ps
+pages_in (pages.Three ps) = ps
+pages_in (pages.Four ps) = ps
 pages_in (pages.Many ps) = ps.items
 
 abbrev pub from_in : Told → ℕ

@@ -1,6 +1,6 @@
 // What a side keeps of a record that is in its log: what a later base needs. For clauses it is the record.
 ghost use Rattle.std.specs.Prelude.{◌≡◌, IfOk};
-ghost use Rattle.ken_store.specs.Ahead.{frame_pages};
+ghost use Rattle.ken_store.specs.Ahead.{frame_page, frame_pages};
 ghost use Rattle.ken_store.specs.Keeping.{pages_in};
 ghost use Rattle.ken_store.specs.Turning.{record_of};
 
@@ -44,11 +44,12 @@ impl KeptPage {
         self.page
     }
 
-    fn frozen(page: u32, frame: &Frame) -> Self
-        ensures { result ≡ record { page = page; bytes = frame.now } }
+    fn frozen(page: &(u32, Arc<Frame>)) -> Self
+        ensures { result ≡ frame_page page.now }
     {
+        let frame: &Frame = &page.1;
         KeptPage {
-            page,
+            page: page.0,
             bytes: Bytes::Frozen(Snapshot::of(frame)),
         }
     }
@@ -63,11 +64,14 @@ impl KeptPage {
     }
 }
 
-// The pages that a record changed. One takes no memory.
+// The pages that a record changed. Up to four take no memory.
 #[derive(Drop)]
 pub(crate) enum PageList {
     None,
-    One(KeptPage),
+    One([KeptPage; 1]),
+    Two([KeptPage; 2]),
+    Three([KeptPage; 3]),
+    Four([KeptPage; 4]),
     Many(Vec<KeptPage>),
 }
 
@@ -78,7 +82,19 @@ impl PageList {
     {
         match frames {
             [] => Ok(PageList::None),
-            [(page, frame)] => Ok(PageList::One(KeptPage::frozen(*page, frame))),
+            [a] => Ok(PageList::One([KeptPage::frozen(a)])),
+            [a, b] => Ok(PageList::Two([KeptPage::frozen(a), KeptPage::frozen(b)])),
+            [a, b, c] => Ok(PageList::Three([
+                KeptPage::frozen(a),
+                KeptPage::frozen(b),
+                KeptPage::frozen(c),
+            ])),
+            [a, b, c, d] => Ok(PageList::Four([
+                KeptPage::frozen(a),
+                KeptPage::frozen(b),
+                KeptPage::frozen(c),
+                KeptPage::frozen(d),
+            ])),
             _ => frozen_pages(alloc, frames),
         }
     }
@@ -99,7 +115,10 @@ impl PageList {
     {
         match self {
             PageList::None => &[],
-            PageList::One(page) => std::slice::from_ref(page),
+            PageList::One(pages) => pages,
+            PageList::Two(pages) => pages,
+            PageList::Three(pages) => pages,
+            PageList::Four(pages) => pages,
             PageList::Many(pages) => pages.as_slice(),
         }
     }
@@ -109,8 +128,8 @@ fn frozen_pages(alloc: Global, frames: &[(u32, Arc<Frame>)]) -> Result<PageList,
     ensures { IfOk result (λ pages. pages_in pages ≡ frame_pages frames.now) }
 {
     let mut pages = Vec::with_capacity(alloc, frames.len())?;
-    for (page, frame) in frames {
-        pages.push(KeptPage::frozen(*page, frame))?;
+    for page in frames {
+        pages.push(KeptPage::frozen(page))?;
     }
     Ok(PageList::Many(pages))
 }
