@@ -254,3 +254,10 @@ impl fmt::Debug for Kept {
             .finish_non_exhaustive()
     }
 }
+
+// It may go to other threads and be shared among them.
+fn may_cross<T: Send + Sync>() {}
+
+fn it_crosses() {
+    may_cross::<Kept>();
+}
