@@ -23,11 +23,8 @@ pub(crate) fn draws_of(alloc: Global, draws: &[u64]) -> Result<Shared<u64>, Allo
     ensures same { IfOk result (λ items. items ≡ draws.now) }
     ensures words { IfOk result (λ items. AtMost 16 IsWord items) }
 {
-    let mut listing = Listing::new(alloc);
-    for draw in draws {
-        listing.push(*draw)?;
-    }
-    listing.finish(alloc)
+    let draws = Shared::new(alloc, Vec::from_slice(alloc, draws)?)?;
+    Ok(draws)
 }
 
 // Messages of a turn, each numbered after the last one to its node.
