@@ -31,7 +31,7 @@ pub(crate) fn new_desk(alloc: Global, nodes: u8) -> Result<Desk, AllocError>
 }
 
 // Outputs with the numbers from `first` up to `end`, without that.
-pub(crate) fn outs(alloc: Global, first: u64, end: u64) -> Result<Shared<Out>, AllocError> {
+pub(crate) fn outs(alloc: Global, first: u64, end: u64) -> Result<Vec<Out>, AllocError> {
     let mut outs = Vec::new(alloc);
     for number in first..end {
         outs.push(Out {
@@ -39,7 +39,7 @@ pub(crate) fn outs(alloc: Global, first: u64, end: u64) -> Result<Shared<Out>, A
             text: Octets::new(Vec::from_slice(alloc, b"o")?),
         })?;
     }
-    Shared::new(alloc, outs)
+    Ok(outs)
 }
 
 // A turn that outputs two.
@@ -48,6 +48,6 @@ pub(crate) fn emitting(alloc: Global) -> Result<Sealed, AllocError> {
         turn: 1,
         stamp: 1,
         sends: Shared::empty(),
-        outs: outs(alloc, 1, 3)?,
+        outs: Shared::new(alloc, outs(alloc, 1, 3)?)?,
     })
 }

@@ -107,7 +107,7 @@ fn state(alloc: Global) -> Result<State, AllocError>
         sent: Items::new(Vec::from_slice(alloc, &[0; 8])?),
         outputs: 2,
         messages: Items::new(Vec::new(alloc)),
-        outs: outs(alloc, 1, 3)?,
+        outs: Items::new(outs(alloc, 1, 3)?),
     })
 }
 
