@@ -48,7 +48,8 @@ pub(crate) fn sends_of(
             bytes: send.bytes,
         })?;
     }
-    numbered.finish(alloc)
+    let numbered = numbered.finish(alloc)?;
+    Ok(numbered)
 }
 
 // Outputs of a turn, numbered after the last one.
