@@ -24,14 +24,14 @@ module _ {T P S : Type 0} {t_steps : T → T → Type 0} {t_fails : NodeFault �
         each = λ k none low.
             ⊎_elim
             (λ (before : k < length olds).
-                let at_old = get_or_append_left olds (old ∷ []) none k before in
-                let at_new = get_or_append_left news (new ∷ []) none k (omega (arith, before, have.count)) in
-                subst (λ (a : Team T P S). TeamHasRun t_steps t_fails p_steps p_fails s_steps s_fails a (slice_index_or (news ++ new ∷ []) k none)) (sym at_old)
-                (subst (λ (b : Team T P S). TeamHasRun t_steps t_fails p_steps p_fails s_steps s_fails (slice_index_or olds k none) b) (sym at_new) (have.each k none before)))
+            let at_old = get_or_append_left olds (old ∷ []) none k before in
+            let at_new = get_or_append_left news (new ∷ []) none k (omega (arith, before, have.count)) in
+            subst (λ (a : Team T P S). TeamHasRun t_steps t_fails p_steps p_fails s_steps s_fails a (slice_index_or (news ++ new ∷ []) k none)) (sym at_old)
+            (subst (λ (b : Team T P S). TeamHasRun t_steps t_fails p_steps p_fails s_steps s_fails (slice_index_or olds k none) b) (sym at_new) (have.each k none before)))
             (λ (past : length olds ≤ k).
-                let last : k ≡ length olds = omega (arith, past, low, long) in
-                let last_new : k ≡ length news = omega (arith, last, have.count) in
-                subst (λ (a : Team T P S). TeamHasRun t_steps t_fails p_steps p_fails s_steps s_fails a (slice_index_or (news ++ new ∷ []) k none)) (sym (last_at olds old none k last))
-                (subst (λ (b : Team T P S). TeamHasRun t_steps t_fails p_steps p_fails s_steps s_fails old b) (sym (last_at news new none k last_new)) has))
+            let last : k ≡ length olds = omega (arith, past, low, long) in
+            let last_new : k ≡ length news = omega (arith, last, have.count) in
+            subst (λ (a : Team T P S). TeamHasRun t_steps t_fails p_steps p_fails s_steps s_fails a (slice_index_or (news ++ new ∷ []) k none)) (sym (last_at olds old none k last))
+            (subst (λ (b : Team T P S). TeamHasRun t_steps t_fails p_steps p_fails s_steps s_fails old b) (sym (last_at news new none k last_new)) has))
             (cases_lt k (length olds));
       }
