@@ -23,13 +23,17 @@ use Rattle.ken_frame.proofs.frame.Node.TheLaws.TheKnot as knot
 use Rattle.ken_frame.proofs.raw.Own.TheSendSync as own
 use Rattle.ken_frame.specs.contracts.frame.Frame as frame
 use Rattle.ken_model.specs.contracts.messages.Message as message
+use Rattle.ken_model.specs.contracts.messages.Out as out
+use Rattle.ken_model.specs.contracts.shared.Shared as list
 use Rattle.ken_net.specs.contracts.lossy.Lossy as lossy
 use Rattle.ken_net.specs.declared.base.Base as base
 use Rattle.ken_order.specs.contracts.order.Order as order
 use Rattle.ken_pages.specs.contracts.heap.PageHeap as heap
 use Rattle.ken_record.specs.contracts.effects.Effects as effects
+use Rattle.ken_record.specs.contracts.sent.Sent as sent
 use Rattle.ken_ship.specs.contracts.items.Sealed as sealed
 use Rattle.ken_ship.specs.contracts.items.Told as told
+use Rattle.ken_store.specs.contracts.kept.Kept as kept
 use Rattle.ken_store.specs.contracts.patching.PatchSide as patch_side
 use Rattle.ken_store.specs.contracts.turning.TurnSide as turn_side
 use Rattle.ken_wire.specs.contracts.send_end.SendEnd as send_end
@@ -90,8 +94,29 @@ frame_syncs = search linked depth 60 fits 20000
 pub heap_sends : IsSend heap.the_row
 heap_sends = search linked depth 60 fits 20000
 
+-- lists that copies share
+pub list_sends : (T : RattleType) → IsSend T → IsSync T → IsSend (list.the_row T)
+list_sends T s y = search held depth 60 fits 20000
+
+pub sent_sends : IsSend sent.the_row
+sent_sends = search held depth 60 fits 20000
+
+pub sent_syncs : IsSync sent.the_row
+sent_syncs = search held depth 60 fits 20000
+
+pub out_sends : IsSend out.the_row
+out_sends = search held depth 60 fits 20000
+
+pub out_syncs : IsSync out.the_row
+out_syncs = search held depth 60 fits 20000
+
+ruleset listed = (list_sends, sent_sends, sent_syncs, out_sends, out_syncs, held)
+
+pub kept_sends : IsSend kept.the_row
+kept_sends = search (frame_sends, frame_syncs, listed) depth 60 fits 20000
+
 pub turn_side_sends : (D : RattleType) → IsSend D → IsSend (turn_side.the_row D)
-turn_side_sends D d = search (heap_sends, held) depth 60 fits 20000
+turn_side_sends D d = search (heap_sends, kept_sends, held) depth 60 fits 20000
 
 pub patch_side_sends : (D : RattleType) → IsSend D → IsSend (patch_side.the_row D)
 patch_side_sends D d = search (frame_sends, frame_syncs, held) depth 60 fits 20000
@@ -106,7 +131,7 @@ pub message_sends : IsSend message.the_row
 message_sends = search held depth 60
 
 pub effects_sends : IsSend effects.the_row
-effects_sends = search held depth 60
+effects_sends = search listed depth 60 fits 20000
 
 pub feedback_sends : IsSend feedback.the_row
 feedback_sends = search sendable depth 60
@@ -115,7 +140,7 @@ pub frozen_sends : IsSend frozen.the_row
 frozen_sends = search (frame_sends, frame_syncs, held) depth 60
 
 pub sealed_sends : IsSend sealed.the_row
-sealed_sends = search held depth 60
+sealed_sends = search listed depth 60 fits 20000
 
 pub settled_sends : IsSend settled.the_row
 settled_sends = search sendable depth 60
