@@ -1,11 +1,12 @@
 // Objects in a heap.
 ghost use Rattle.std.specs.Prelude.{◌≡◌, ℕ, ◌+◌, ◌*◌, ◌<◌, ◌≤◌, length, take, drop, replicate, Some, None, IfOk, OnOk, OnErr, IfErr, IfSome, IsSome, IsSomeAnd, is_some, ◌^◌};
+ghost use Rattle.std.specs.Arc.{arc_value};
 ghost use Rattle.byteorder.specs.Endian.{big_bytes};
 ghost use Rattle.ken_frame.specs.Written.{written};
 ghost use Rattle.ken_model.specs.declared.values.Value.{Value};
 ghost use Rattle.ken_model.specs.Network.{empty_heap};
 ghost use Rattle.ken_model.specs.Heap.{IsHeap, first_gap, without_block, block_at, place_past};
-ghost use Rattle.ken_pages.specs.Paged.{dirty_pages, frozen_pages, shared_pages};
+ghost use Rattle.ken_pages.specs.Paged.{dirty_pages, page_of, frozen_pages, shared_pages};
 ghost use Rattle.ken_model.specs.Layout.{StandsFor, first_bytes, first_heap};
 ghost use Rattle.ken_model.specs.Broken.{BreaksAt};
 ghost use Rattle.ken_model.specs.Reading.{value_of};
@@ -16,7 +17,7 @@ use crate::walk::{self, Found};
 use crate::{Broken, adopt, carve, copy, format, fronts, head};
 use byteorder::{BigEndian, ByteOrder};
 use ken_frame::Frame;
-use ken_model::{CELLS, HEAD, Head, Items, PAGE, Value};
+use ken_model::{CELLS, HEAD, Head, Items, Value};
 use ken_pages::PageHeap;
 use std::alloc::{AllocError, Global};
 use std::marker::Model;
@@ -207,12 +208,12 @@ impl Objects {
         self.pages.write(0, &bytes)
     }
 
-    /// Reads as many bytes of a page as `buf` takes, from its first on, as they are now.
-    pub fn read_page(&self, page: u32, buf: &mut [u8])
-        requires { 256 * page + length buf.old ≤ length self.now.bytes }
-        ensures { buf.new ≡ take (length buf.old) (drop (256 * page) self.now.bytes) }
+    /// A page's bytes as they are now. They are copied only where the heap alone has the page's frame.
+    pub fn lend_page(&self, page: u32) -> Result<Arc<Frame>, AllocError>
+        requires { 256 * page + 256 ≤ length self.now.bytes }
+        ensures { IfOk result (λ frame. arc_value frame ≡ page_of self.now.bytes page) }
     {
-        self.pages.read(PAGE * u64::from(page), buf);
+        self.pages.lend(page)
     }
 
     /// A law, and no work: the bytes stand for the value, and so did those at `begin`, which are as many.

@@ -14,7 +14,7 @@ use crate::bytes::page_in;
 use crate::pages::Pages;
 use ken_cover::{Change, Layer};
 use ken_model::{Items, Octets};
-use ken_record::Page;
+use ken_record::{Page, PageBytes};
 use std::alloc::{AllocError, Global};
 
 impl Pages {
@@ -77,7 +77,7 @@ impl Pages {
             turn,
             page: Page {
                 page,
-                bytes: Octets::new(Vec::from_slice(alloc, bytes)?),
+                bytes: PageBytes::own(Octets::new(Vec::from_slice(alloc, bytes)?)),
             },
         })
     }

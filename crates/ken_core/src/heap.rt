@@ -11,7 +11,7 @@ ghost use Rattle.ken_core.specs.Heaps.{pages_before};
 use crate::bytes::{lay, lay_changes, page_in};
 use ken_cover::Change;
 use ken_model::{Octets, Value};
-use ken_record::Page;
+use ken_record::{Page, PageBytes};
 use std::alloc::{AllocError, Global};
 use std::marker::Model;
 
@@ -101,7 +101,7 @@ fn pages_before(alloc: Global, heap: &[u8], pages: &[Page]) -> Result<Vec<Page>,
         let bytes = page_in(heap, changed.page);
         before.push(Page {
             page: changed.page,
-            bytes: Octets::new(Vec::from_slice(alloc, bytes)?),
+            bytes: PageBytes::own(Octets::new(Vec::from_slice(alloc, bytes)?)),
         })?;
     }
     Ok(before)

@@ -1,11 +1,14 @@
 // Pages one after the other, as one list of bytes.
-ghost use Rattle.std.specs.Prelude.{◌≡◌, ◌+◌, ◌-◌, ◌*◌, ◌/◌, ◌%◌, ◌<◌, ◌≤◌, length, take, drop, true, slice_index_or, false, ℕ, [], OnOk, OnErr};
+ghost use Rattle.std.specs.Prelude.{◌≡◌, ◌+◌, ◌-◌, ◌*◌, ◌/◌, ◌%◌, ◌<◌, ◌≤◌, length, take, drop, true, slice_index_or, false, ℕ, [], IfOk, OnOk, OnErr};
+ghost use Rattle.std.specs.Arc.{arc_value};
 ghost use Rattle.ken_frame.specs.Written.{written};
+ghost use Rattle.ken_pages.specs.Paged.{page_of};
 ghost use Rattle.ken_pages.specs.Layout.{ArePages, now_bytes, SameTurn, own_pages, kept_pages, Lists};
 
 use crate::page::Page;
 use ken_frame::{FRAME, Frame};
 use std::alloc::{AllocError, Global};
+use std::sync::Arc;
 
 // Reads bytes of one page.
 fn read_part(pages: &[Page], at: usize, buf: &mut [u8])
@@ -41,6 +44,15 @@ pub(crate) fn rest(pages: &[Page], at: usize) -> &[u8]
     ensures long { length result.now ≡ 256 - at % 256 }
 {
     &pages[at / FRAME].frame().as_slice()[at % FRAME..]
+}
+
+// A page's bytes, without a copy where its frame is shared already.
+pub(crate) fn lend(alloc: Global, pages: &[Page], page: u32) -> Result<Arc<Frame>, AllocError>
+    requires whole { ArePages pages.now }
+    requires inside { page < length pages.now }
+    ensures { IfOk result (λ frame. arc_value frame ≡ page_of (now_bytes pages.now) page) }
+{
+    pages[page as usize].lend(alloc)
 }
 
 // Writes bytes of one page, to the turn's own frame.

@@ -1,7 +1,8 @@
 // A heap of pages, with the turn that is begun on it.
 ghost use Rattle.std.specs.Prelude.{◌≡◌, ◌+◌, ◌-◌, ◌*◌, ◌/◌, ◌%◌, ◌<◌, ◌≤◌, ◌^◌, false, length, take, drop, replicate, None, Some, IfOk, OnOk, OnErr, IsOk, IfSome, IsSome};
+ghost use Rattle.std.specs.Arc.{arc_value};
 ghost use Rattle.ken_frame.specs.Written.{written};
-ghost use Rattle.ken_pages.specs.Paged.{dirty_pages, frozen_pages, shared_pages, touched, with_own, lacking, own_count, without_own};
+ghost use Rattle.ken_pages.specs.Paged.{dirty_pages, page_of, frozen_pages, shared_pages, touched, with_own, lacking, own_count, without_own};
 
 use crate::page::Page;
 use crate::{frames, turn};
@@ -87,6 +88,14 @@ impl PageHeap {
         ensures length { length result.now ≡ 256 - at % 256 }
     {
         frames::rest(&self.pages, at as usize)
+    }
+
+    /// A page's bytes as they are now. They are copied only where the heap alone has the page's frame.
+    pub fn lend(&self, page: u32) -> Result<Arc<Frame>, AllocError>
+        requires { 256 * page + 256 ≤ length self.now.bytes }
+        ensures { IfOk result (λ frame. arc_value frame ≡ page_of self.now.bytes page) }
+    {
+        frames::lend(self.alloc, &self.pages, page)
     }
 
     /// How many frames are spare.

@@ -84,6 +84,20 @@ impl Page {
         self.held.frame()
     }
 
+    /// A share of the frame now, or a copy of it where the heap alone has it.
+    pub(crate) fn lend(&self, alloc: Global) -> Result<Arc<Frame>, AllocError>
+        ensures { IfOk result (λ frame. arc_value frame ≡ now_of self.now) }
+    {
+        match &self.held {
+            Held::Shared(frame) => Arc::try_clone(frame),
+            Held::Own(frame) => {
+                let mut copy = Frame::zeroed(alloc)?;
+                copy.copy_from(frame);
+                Ok(Arc::new(alloc, copy)?)
+            }
+        }
+    }
+
     /// Whether the turn wrote it.
     pub(crate) fn is_kept(&self) -> bool
         ensures { result ≡ is_kept self.now }

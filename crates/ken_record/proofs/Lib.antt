@@ -6,3 +6,4 @@ pub mod Forms
 pub mod Members
 pub mod Fronts
 pub mod Appended
+pub mod Heads

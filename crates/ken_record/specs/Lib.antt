@@ -5,3 +5,4 @@ pub mod Reading
 pub mod Items
 pub mod Appending
 pub mod Turns
+pub mod Held

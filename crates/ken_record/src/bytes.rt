@@ -128,6 +128,16 @@ pub(crate) fn put_part(out: &mut Vec<u8>, bytes: &[u8]) -> Result<(), AllocError
     out.extend_from_slice(bytes)
 }
 
+// Appends what stands before a text, and the text.
+#[tactic(auto, using(crate::proofs::Appended::appended))]
+pub(crate) fn put_headed(out: &mut Vec<u8>, head: &[u8], text: &[u8]) -> Result<(), AllocError>
+    ensures ok { OnOk result (out.new.items ≡ out.old.items ++ (head.now ++ text.now)) }
+    ensures err { OnErr result (HasFront out.old.items (head.now ++ text.now) out.new.items) }
+{
+    put_part(out, head)?;
+    put_part(out, text)
+}
+
 #[tactic(auto, using(crate::proofs::Appended::appended))]
 pub(crate) fn put_text(out: &mut Vec<u8>, bytes: &[u8]) -> Result<(), AllocError>
     requires { FitsText bytes.now }

@@ -25,7 +25,7 @@ pub use faults::RecordFault;
 pub use header::Header;
 pub use item::{Item, ItemKind, decode, encode};
 pub use laws::{lengths, one_spelling};
-pub use page::Page;
+pub use page::{Page, PageBytes};
 pub use record::{MAX_DRAWS, MAX_FIELDS, MAX_OUTS, MAX_SENDS, Record};
 pub use sent::Sent;
 pub use turn::put_turn;

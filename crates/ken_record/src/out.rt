@@ -1,16 +1,29 @@
 // An output, as an item of a list.
-ghost use Rattle.std.specs.Prelude.{◌≡◌, ◌↔◌, IsTrue};
+ghost use Rattle.std.specs.Prelude.{◌≡◌, ◌++◌, ◌↔◌, IsTrue};
 ghost use Rattle.std.specs.List.{AllByRecursion};
-ghost use Rattle.ken_record.specs.Spelling.{out};
+ghost use Rattle.ken_record.specs.Spelling.{number, out};
 ghost use Rattle.ken_record.specs.Grammar.{FitsOut, IsOut, out_rank, are_numbered, are_short};
 ghost use Rattle.ken_record.specs.Reading.{out_at};
 
 use crate::RecordFault;
-use crate::bytes::{LONGEST, long_text_front, put_8, put_text, u64_front};
+use crate::bytes::{LONGEST, long_text_front, put_headed, u64_front};
 use crate::field::Field;
 use crate::rising::Ranked;
 use ken_model::{MAX_TEXT, Out};
 use std::alloc::{AllocError, Global};
+
+// The bytes of an output before its text.
+const HEAD: usize = 10;
+
+// All that stands before the text of the output with this number, where it has so many bytes.
+#[tactic(auto, unfolding(crate::specs::Spelling::number))]
+fn head(own: u64, len: u16) -> [u8; HEAD]
+    ensures { result ≡ number 8 own ++ number 2 len }
+{
+    let [n0, n1, n2, n3, n4, n5, n6, n7] = own.to_be_bytes();
+    let [l0, l1] = len.to_be_bytes();
+    [n0, n1, n2, n3, n4, n5, n6, n7, l0, l1]
+}
 
 impl Field for Out {
     ghost is = { FitsOut };
@@ -26,13 +39,12 @@ impl Field for Out {
 
     #[tactic(auto, using(crate::proofs::Sizes::out_long))]
     fn len(&self) -> usize {
-        10 + self.text.len()
+        HEAD + self.text.len()
     }
 
-    #[tactic(auto, using(crate::proofs::Appended::appended))]
     fn put(&self, out: &mut Vec<u8>) -> Result<(), AllocError> {
-        put_8(out, self.number)?;
-        put_text(out, self.text.as_slice())
+        let text = self.text.as_slice();
+        put_headed(out, &head(self.number, text.len() as u16), text)
     }
 
     #[tactic(auto, unfolding(crate::specs::Reading::out_at))]

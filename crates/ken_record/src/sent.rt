@@ -1,13 +1,16 @@
-ghost use Rattle.std.specs.Prelude.{◌≡◌};
-ghost use Rattle.ken_record.specs.Spelling.{sent};
+ghost use Rattle.std.specs.Prelude.{◌≡◌, ◌++◌};
+ghost use Rattle.ken_record.specs.Spelling.{number, sent};
 ghost use Rattle.ken_record.specs.Grammar.{IsSent};
 ghost use Rattle.ken_record.specs.Reading.{sent_at};
 
 use crate::RecordFault;
-use crate::bytes::{put_1, put_8, put_text, text_front, u8_front, u64_front};
+use crate::bytes::{put_headed, text_front, u8_front, u64_front};
 use crate::field::Field;
 use ken_model::{MAX_NODES, MAX_TEXT, Octets, Single};
 use std::alloc::{AllocError, Global};
+
+// The bytes of a message before its text.
+const HEAD: usize = 11;
 
 /// A message that a turn sent. Its stamp is its record's.
 #[derive(Debug, Drop)]
@@ -24,6 +27,16 @@ impl Single for Sent {
     }
 }
 
+// All that stands before the text of a message with this place on its link, where it has so many bytes.
+#[tactic(auto, unfolding(crate::specs::Spelling::number))]
+fn head(to: u8, place: u64, len: u16) -> [u8; HEAD]
+    ensures { result ≡ number 1 to ++ (number 8 place ++ number 2 len) }
+{
+    let [n0, n1, n2, n3, n4, n5, n6, n7] = place.to_be_bytes();
+    let [l0, l1] = len.to_be_bytes();
+    [to, n0, n1, n2, n3, n4, n5, n6, n7, l0, l1]
+}
+
 impl Field for Sent {
     ghost is = { IsSent };
 
@@ -37,14 +50,13 @@ impl Field for Sent {
 
     #[tactic(auto, using(crate::proofs::Sizes::sent_long))]
     fn len(&self) -> usize {
-        11 + self.bytes.len()
+        HEAD + self.bytes.len()
     }
 
-    #[tactic(auto, using(crate::proofs::Appended::appended))]
     fn put(&self, out: &mut Vec<u8>) -> Result<(), AllocError> {
-        put_1(out, self.to)?;
-        put_8(out, self.number)?;
-        put_text(out, self.bytes.as_slice())
+        let text = self.bytes.as_slice();
+        let head = head(self.to, self.number, text.len() as u16);
+        put_headed(out, &head, text)
     }
 
     #[tactic(auto, unfolding(crate::specs::Reading::sent_at))]

@@ -4,7 +4,7 @@ ghost use Rattle.std.specs.Prelude.{◌<◌, ◌≤◌};
 use crate::values::next_named;
 use ken_model::{Head, Items, Octets, PAGE, empty_header};
 use ken_num::{decimal, put_u64};
-use ken_record::Page;
+use ken_record::{Page, PageBytes};
 use ken_rows::{RowFault, Words};
 use std::alloc::{AllocError, Global};
 
@@ -32,7 +32,7 @@ pub(crate) fn turn_of(alloc: Global, pages: u32, words: &mut Words<'_>) -> Resul
             b"root" => changed.push(first_page(alloc, pages, given.value.number()?)?)?,
             name => changed.push(Page {
                 page: page_number(name)?,
-                bytes: Octets::new(given.value.bytes(alloc)?),
+                bytes: PageBytes::own(Octets::new(given.value.bytes(alloc)?)),
             })?,
         }
     }
@@ -64,6 +64,6 @@ fn first_page(alloc: Global, pages: u32, root: u64) -> Result<Page, AllocError>
     bytes.resize(PAGE as usize, 0)?;
     Ok(Page {
         page: 0,
-        bytes: Octets::new(bytes),
+        bytes: PageBytes::own(Octets::new(bytes)),
     })
 }

@@ -17,8 +17,8 @@ use crate::turning::TurnSide;
 use crate::waiting;
 use ken_alloc::Objects;
 use ken_disk::Disk;
-use ken_model::{Items, MAX_NODES, Octets, Out, PAGE, TryClone};
-use ken_record::{Base, Due, Page};
+use ken_model::{Items, MAX_NODES, Out, TryClone};
+use ken_record::{Base, Due, Page, PageBytes};
 use std::alloc::{AllocError, Global};
 
 impl<D: Disk> TurnSide<D> {
@@ -85,7 +85,7 @@ fn all_due(
 ) -> Result<Items<Due>, AllocError>
     ensures { IfOk result (λ messages. messages ≡ all_due acked.now (base.now ++ flat_map record_dues records.now)) }
 {
-    let mut messages = Vec::new(alloc);
+    let mut messages = Vec::with_capacity(alloc, base.len().saturating_add(records.len()))?;
     for to in 0..MAX_NODES {
         put_due_to(alloc, &mut messages, acked, base, records, to)?;
     }
@@ -165,7 +165,7 @@ fn outs_above(
 ) -> Result<Items<Out>, AllocError>
     ensures { IfOk result (λ outs. outs ≡ outs_above emitted (base.now ++ flat_map (λ (r : Record). r.outs) records.now)) }
 {
-    let mut outs = Vec::new(alloc);
+    let mut outs = Vec::with_capacity(alloc, base.len().saturating_add(records.len()))?;
     put_outs(alloc, &mut outs, emitted, base)?;
     for item in records {
         put_outs(alloc, &mut outs, emitted, item.outs())?;
@@ -254,16 +254,14 @@ pub(crate) fn stays(settled: u64, turn: u64) -> bool
     settled == 0 || settled < turn
 }
 
-// A page of the heap as it is now.
-fn page_of(alloc: Global, objects: &Objects, page: u32) -> Result<Page, AllocError>
+// A page of the heap as it is now. It shares the heap's frame.
+fn page_of(objects: &Objects, page: u32) -> Result<Page, AllocError>
     requires { 256 * page + 256 ≤ length objects.now.bytes }
     ensures { IfOk result (λ e. e ≡ record { page = page; bytes = page_of objects.now.bytes page }) }
 {
-    let mut bytes = Vec::from_elem(alloc, 0, PAGE as usize)?;
-    objects.read_page(page, &mut bytes);
     Ok(Page {
         page,
-        bytes: Octets::new(bytes),
+        bytes: PageBytes::shared(objects.lend_page(page)?),
     })
 }
 
@@ -295,7 +293,7 @@ fn kept_pages(
         turns: Vec::new(alloc),
     };
     for page in 0..last.len() {
-        kept.put(alloc, objects, settled, page as u32, last[page])?;
+        kept.put(objects, settled, page as u32, last[page])?;
     }
     Ok(kept)
 }
@@ -304,7 +302,6 @@ impl KeptPages {
     // Puts a page of the heap with the turn that last changed it, or leaves it out.
     fn put(
         &mut self,
-        alloc: Global,
         objects: &Objects,
         settled: u64,
         page: u32,
@@ -322,7 +319,7 @@ impl KeptPages {
         if !stays(settled, turn) {
             return Ok(());
         }
-        self.pages.push(page_of(alloc, objects, page)?)?;
+        self.pages.push(page_of(objects, page)?)?;
         self.turns.push(turn)?;
         Ok(())
     }

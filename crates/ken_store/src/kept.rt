@@ -5,8 +5,8 @@ ghost use Rattle.ken_store.specs.Keeping.{pages_in};
 ghost use Rattle.ken_store.specs.Turning.{record_of};
 
 use ken_frame::Frame;
-use ken_model::{Octets, Out, Shared, TryClone};
-use ken_record::{Effects, Page, Record, Sent};
+use ken_model::{Out, Shared, TryClone};
+use ken_record::{Effects, Page, PageBytes, Record, Sent};
 use std::alloc::{AllocError, Global};
 use std::fmt;
 use std::marker::Model;
@@ -17,7 +17,7 @@ use std::sync::Arc;
 #[derive(Drop)]
 pub(crate) enum Bytes {
     Frozen(Snapshot<Frame>),
-    Read(Snapshot<Octets>),
+    Read(Snapshot<PageBytes>),
 }
 
 /// A page that a record changed: its number, and for clauses its bytes.

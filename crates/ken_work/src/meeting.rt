@@ -10,7 +10,7 @@ use crate::items::News;
 use crate::patcher::PatchWorker;
 use crate::worker::TurnWorker;
 use ken_disk::Disk;
-use ken_links::{PopEnd, PushEnd, beside};
+use ken_links::{PopEnd, PushEnd, beside, is_drained};
 use ken_ship::SendWorker;
 use std::alloc::AllocError;
 
@@ -22,6 +22,9 @@ fn tell_all<A: News>(push: &mut PushEnd<A>, pop: &mut PopEnd<A>, known: &mut A::
     ensures told { WasTold A.says (popped pop.old) (popped pop.new) known.old known.new }
     ensures emptied { IsEmptied push.new pop.new }
 {
+    if is_drained(push, pop) {
+        return;
+    }
     beside(push, pop);
     for _item in 0..pop.known() {
         *known = pop.pop_known().fact();

@@ -13,7 +13,7 @@ use crate::faults::answered;
 use crate::items::{Frozen, Settled};
 use ken_disk::Disk;
 use ken_frame::{FRAME, Frame};
-use ken_links::{PopEnd, PushEnd, SLOTS, beside};
+use ken_links::{PopEnd, PushEnd, SLOTS, beside, is_drained};
 use ken_ship::NodeFault;
 use ken_store::PatchSide;
 use std::alloc::AllocError;
@@ -123,6 +123,9 @@ impl<D: Disk> PatchWorker<D> {
         ensures ok { OnOk result ((popped self.new.pages ≡ pushed ring.new) × (64 ≤ free ring.new)) }
         ensures err { OnErr result (popped self.new.pages ≡ popped self.old.pages) }
     {
+        if is_drained(ring, &mut self.pages) {
+            return Ok(());
+        }
         beside(ring, &mut self.pages);
         self.side.reserve(self.pages.known())?;
         self.hand_known();
