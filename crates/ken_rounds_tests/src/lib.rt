@@ -6,6 +6,10 @@ mod faulty;
 #[cfg(test)]
 mod gates;
 #[cfg(test)]
+mod meeting;
+#[cfg(test)]
 mod plain;
 #[cfg(test)]
 mod runs;
+#[cfg(test)]
+mod wires;

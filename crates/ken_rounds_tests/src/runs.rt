@@ -90,6 +90,15 @@ pub(crate) fn report<R: Threads + Wait + Sync, G: Gate + Sync>(
     drained(alloc, &mut run)
 }
 
+/// How many turns each of three nodes has made.
+pub(crate) fn turns(run: MemRun) -> [u64; 3] {
+    let mut turns = [0; 3];
+    for (turns, station) in turns.iter_mut().zip(run.into_stations()) {
+        *turns = station.node.turns().len() as u64;
+    }
+    turns
+}
+
 /// The lines of a report that tell of restarts.
 pub(crate) fn restarts(alloc: Global, report: &str) -> Result<String, AllocError> {
     let mut text = String::new(alloc);
