@@ -43,6 +43,7 @@ use Rattle.ken_run.specs.Devices.{IsTold, MayFailAt}
 use Rattle.ken_app.specs.declared.turn.TheConstants.{MAX_DRAWS}
 use Rattle.ken_run.proofs.Fewer.{few-turns}
 use Rattle.ken_run.specs.Sequences.{IsSubsequence, descents}
+use Rattle.ken_drive.proofs.CutsMet.{raised-met, unwatched-met}
 use Rattle.ken_drive.proofs.Recovering.{up-recovers, up-image}
 
 -- an element of a list
@@ -254,7 +255,7 @@ module _ {D O U A : Type 0} (views : Views D O U) (size : D → ℕ) (handles : 
           synced = subst (λ (n : ℕ). HasSynced told-of faults-in n disks) (played.place v).turns (synced g v (running.nodes v) s.node.stage disks up books.books.synced has);
           took = subst (λ (os : List Out). IfSome (views.took s.out) (λ told. told ≡ os)) (sym outs-are) (subst (λ (x : Station D O U). IfSome (views.took x.out) (λ told. told ≡ emitted_by v running.emissions)) is (running.stands.each v s made-low).emitted.took_it);
           often = s.restarts;
-          own = record { oracle = books.books.origin; own_disks = owned; few = books.books.most; outlet = may };
+          own = record { oracle = books.books.origin; own_disks = owned; few = books.books.most; met = unwatched-met views.fate terms v s.restarts disks (raised-met fate-of terms v s.restarts s.node.stage books.fates disks has); outlet = may };
           clocks = drawn (views.telling.clocks s.luck) g.handler.clocks books.drew.clocks (λ scripted. (tells scripted).clocks);
           words = drawn (views.telling.words s.luck) g.handler.words books.drew.words (λ scripted. (tells scripted).words);
           causes = causes;

@@ -11,6 +11,7 @@ pub mod EndingLists
 pub mod EndingSums
 pub mod RestartOrder
 pub mod EndingRun
+pub mod CutsMet
 pub mod Keeping
 pub mod Giving
 pub mod StartingDevices

@@ -26,13 +26,14 @@ use Rattle.ken_run.specs.declared.run.Run.{Run}
 use Rattle.ken_run.specs.declared.station.Station.{Station}
 use Rattle.ken_rounds.specs.Shaken.{AccountsRoundsFault, AreKept, IsDownForGood, LeavesRoundsFault, StopsRoundsBy}
 use Rattle.ken_run.specs.Accounts.{AccountsRunFault, AreAccounted, AreOwnDisks, HasBooks, IsAccounted, IsHeld, IsUsedUp, Terms, faults_of}
-use Rattle.ken_drive.specs.Driven.{DrivesBy, EndsBy, HasStoppedAt, IsKept, ShowsDown, Views}
+use Rattle.ken_drive.specs.Driven.{DrivesBy, EndsBy, HasMet, HasStoppedAt, HaveMet, IsKept, ShowsDown, Views}
 use Rattle.ken_drive.specs.Finishing.{WasKept, unwatched}
 use Rattle.ken_run.specs.Refusals.{AreRefused, HasFailedLast, IsWornOut, RefusedRunFault, StopsBy}
 use Rattle.ken_run.specs.Running.{IsRunning, IsStopped, LeavesRunFault}
 use Rattle.ken_drive.specs.Sparing.{FailsInARow, IsLetBy, LetsGoDown}
 use Rattle.ken_drive.specs.Starting.{StartsAccountsBy, StartsBy, fails_for, game_by, terms_of}
 use Rattle.ken_run.specs.Devices.{MayFailAt}
+use Rattle.ken_drive.proofs.CutsMet.{fewer-met, raised-met, unwatched-met}
 use Rattle.ken_drive.proofs.StartingAll.{one-of}
 
 -- ---- the calls of outlets that a script lets fail
@@ -103,7 +104,17 @@ module _ {D O U : Type 0} (views : Views D O U) (h : Handler) (script : Script) 
   held-gone v s kept held used was =
       let failed : min (s.restarts + 1) (2 ^ 64 - 1) ≤ faults_of views.faults (unwatched was.disks) = held.causes was.disks was.has in
       let few = rules.restarts in
-      record { disks = unwatched was.disks; luck = s.luck; out = s.out; is = was.is; cause = inl (omega (arith, failed, used, few), subst (λ (k : ℕ). AreOwnDisks views.fate terms.scripted (terms.origins v) k (unwatched was.disks)) used (owned v s was.disks was.has held.books)) }
+      record {
+        disks = unwatched was.disks;
+        luck = s.luck;
+        out = s.out;
+        is = was.is;
+        cause = inl (record {
+          failed = omega (arith, failed, used, few);
+          own = subst (λ (k : ℕ). AreOwnDisks views.fate terms.scripted (terms.origins v) k (unwatched was.disks)) used (owned v s was.disks was.has held.books);
+          met = subst (λ (k : ℕ). HaveMet views.fate terms v (k + 1) (unwatched was.disks)) used (unwatched-met views.fate terms v (s.restarts + 1) was.disks (held.fates was.disks was.has));
+        });
+      }
 
   pub held-let : (v : ℕ) (s : Station D O U) (disks : Disks (Watched D)) → scripted ≡ true → Held v s → s.restarts ≡ script.restarts → HasDisks disks s.node.stage → LetsGoDown script v
   held-let v s disks tells held used has =
@@ -117,14 +128,14 @@ module _ {D O U : Type 0} (views : Views D O U) (h : Handler) (script : Script) 
   worn-gone v s kept last was = record { disks = unwatched was.disks; luck = s.luck; out = s.out; is = was.is; cause = inr last.counted }
 
   -- its devices were kept
-  pub is-kept : (v : ℕ) (s : Station D O U) (kept : Option (Disks D × O × U)) → Books v s → MayFailAt scripted v (fails_for v script.outlets) (calls s.out) → WasKept s kept → IsKept views terms v kept
-  is-kept v s kept books may was = record {
+  pub is-kept : (v : ℕ) (s : Station D O U) (kept : Option (Disks D × O × U)) → Books v s → HasMet falls terms v s → MayFailAt scripted v (fails_for v script.outlets) (calls s.out) → WasKept s kept → IsKept views terms v kept
+  is-kept v s kept books met may was = record {
     disks = unwatched was.disks;
     luck = s.luck;
     out = s.out;
     is = was.is;
     often = s.restarts;
-    own = record { oracle = books.origin; own_disks = owned v s was.disks was.has books; few = books.most; outlet = may };
+    own = record { oracle = books.origin; own_disks = owned v s was.disks was.has books; few = books.most; met = unwatched-met views.fate terms v s.restarts was.disks (met was.disks was.has); outlet = may };
   }
 
   -- its outlet is the one of another station, of which the same was kept
@@ -157,10 +168,10 @@ module _ {D O U : Type 0} (views : Views D O U) (h : Handler) (script : Script) 
           ⊎_elim
           (λ (same : u ≡ v). subst (λ (k : ℕ). IsKept views terms k (kept k)) (sym same)
           (let mine = starts.1 v (omega arith) in
-          is-kept v accounts.0.station (kept v) accounts.0.held.books (other-out v accounts.0.station mine.station (kept v) accounts.0.was mine.was mine.own.fated.may) accounts.0.was))
+          is-kept v accounts.0.station (kept v) accounts.0.held.books (fewer-met falls terms v accounts.0.station.restarts accounts.0.station.node.stage accounts.0.held.fates) (other-out v accounts.0.station mine.station (kept v) accounts.0.was mine.was mine.own.fated.may) accounts.0.was))
           (λ other.
           let up = accounts.1 u (omega (arith, low, other)) in
-          is-kept u up.station (kept u) up.accounted.books (other-out u up.station given.station (kept u) up.was given.was given.own.fated.may) up.was)
+          is-kept u up.station (kept u) up.accounted.books (raised-met falls terms u up.station.restarts up.station.node.stage up.accounted.fates) (other-out u up.station given.station (kept u) up.was given.was given.own.fated.may) up.was)
           (cases_eq u v);
       others = λ u high. starts.2 u (omega (arith, high));
     })
@@ -216,7 +227,7 @@ module _ {D O U : Type 0} (views : Views D O U) (h : Handler) (script : Script) 
           each = λ u below.
               let there : u < length r.stations.items = omega (arith, width, below) in
               let d = one-of r.stations.items u there in
-              is-kept u (slice_index_or r.stations.items u d) (kept u) (stopped.books u d below) (stopped.refusals.each u d below).fails (given u d there);
+              is-kept u (slice_index_or r.stations.items u d) (kept u) (stopped.books u d below) (stopped.met u d below) (stopped.refusals.each u d below).fails (given u d there);
           others = λ u high. others u (omega (arith, width, high));
         }
     end-drives others Memory not stopped = absurd (not refl)
@@ -248,6 +259,24 @@ module _ {D O U A : Type 0} (told : Watched D → Option Story) (size : Watched 
       (λ (are : AreAccounted told count falls telling terms g made r). (are.each u d low).books)
       accounts
 
+  -- the cuts that each has met
+  met-up : (u : ℕ) (s : Station D O U) → IsAccounted told count falls telling terms g u s → HasMet falls terms u s
+  met-up u s is = raised-met falls terms u s.restarts s.node.stage is.fates
+
+  met-held : (u : ℕ) (s : Station D O U) → IsHeld told count falls telling terms g u s → HasMet falls terms u s
+  met-held u s is = fewer-met falls terms u s.restarts s.node.stage is.fates
+
+  met-of : (v made : ℕ) → AccountsRunFault told count falls telling terms g (Down v) made r → (u : ℕ) (d : Station D O U) → u < made → HasMet falls terms u (slice_index_or r.stations.items u d)
+  met-of v made accounts u d low =
+      ⊎_elim
+      (λ (used : IsUsedUp told count falls telling terms g made v r).
+      ⊎_elim
+      (λ (same : u ≡ v). subst (λ (k : ℕ). HasMet falls terms k (slice_index_or r.stations.items k d)) (sym same) (met-held v (slice_index_or r.stations.items v d) (used.held.held d)))
+      (λ other. met-up u (slice_index_or r.stations.items u d) (used.held.others u d low other))
+      (cases_eq u v))
+      (λ (are : AreAccounted told count falls telling terms g made r). met-up u (slice_index_or r.stations.items u d) (are.each u d low))
+      accounts
+
   stopped-at : (v made : ℕ) → made ≡ g.nodes → AccountsRunFault told count falls telling terms g (Down v) made r → LeavesRunFault told size took handles (Down v) g made r → StopsBy {T = Unit {0}} told count falls telling refused calls terms g (Err (Down v)) made r → RefusedRunFault refused calls terms (Down v) made r → HasStoppedAt told size count falls telling took handles refused calls terms g v r
   stopped-at v made all accounts leaves stops refusals =
       let at = width-of v made leaves in
@@ -256,6 +285,7 @@ module _ {D O U A : Type 0} (told : Watched D → Option Story) (size : Watched 
         width = at.1 ∙ all;
         refusals = subst (λ (k : ℕ). AreRefused refused calls terms k r) all refusals.0;
         books = λ u d low. books-of v made accounts u d (omega (arith, low, all));
+        met = λ u d low. met-of v made accounts u d (omega (arith, low, all));
         cause = ⊎_elim (λ (used : IsUsedUp told count falls telling terms g made v r). inl (λ d. (used.held.held d, used.none_left d))) (λ worn. inr worn) stops;
       }
 
@@ -275,12 +305,16 @@ module _ {D O U A : Type 0} (told : Watched D → Option Story) (size : Watched 
       (λ (held : IsHeld told count falls telling terms g u (slice_index_or r.stations.items u d)). held.books)
       (are.each u d low)
 
+  kept-met : (made : ℕ) → AreKept told count falls telling terms g made r → (u : ℕ) (d : Station D O U) → u < made → HasMet falls terms u (slice_index_or r.stations.items u d)
+  kept-met made are u d low = ⊎_elim (met-up u (slice_index_or r.stations.items u d)) (met-held u (slice_index_or r.stations.items u d)) (are.each u d low)
+
   shaken-at : (v made : ℕ) → made ≡ g.nodes → AccountsRoundsFault told count falls telling terms g (Down v) made r → LeavesRoundsFault told size took handles (Down v) g made r → StopsRoundsBy told count falls telling terms g {T = Unit {0}} refused calls (Err (Down v)) r → RefusedRunFault refused calls terms (Down v) made r → HasStoppedAt told size count falls telling took handles refused calls terms g v r
   shaken-at v made all accounts leaves stops refusals = record {
     known = subst (λ (k : ℕ). v < k) all leaves.0;
     width = leaves.1.stands.width ∙ all;
     refusals = subst (λ (k : ℕ). AreRefused refused calls terms k r) all refusals.0;
     books = λ u d low. kept-books made accounts.0 u d (omega (arith, low, all));
+    met = λ u d low. kept-met made accounts.0 u d (omega (arith, low, all));
     cause = stops;
   }
 

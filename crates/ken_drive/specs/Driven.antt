@@ -26,7 +26,7 @@ use Rattle.ken_run.specs.declared.faults.RunFault.TheVariants as run_faults
 use Rattle.ken_run.specs.declared.run.Run.{Run}
 use Rattle.ken_run.specs.declared.station.Station.{Station}
 use Rattle.ken_rounds.specs.Shaken.{IsDownForGood}
-use Rattle.ken_run.specs.Accounts.{AreAccounted, AreOwnDisks, HasBooks, Terms, faults_of}
+use Rattle.ken_run.specs.Accounts.{AreAccounted, AreFated, AreOwnDisks, HasBooks, HasFates, HaveFallen, Terms, faults_of}
 use Rattle.ken_drive.specs.Ended.{IsEnded, IsReportOf, IsRunOf}
 use Rattle.ken_drive.specs.Finishing.{WasKept}
 use Rattle.ken_run.specs.Patched.{HaveImages}
@@ -73,12 +73,17 @@ pub record HaveCauses (faults often turns : ℕ) (restarts numbers : List ℕ) :
   pub none : restarts ≡ [] → faults ≡ 0
   pub again : descents 0 numbers ≤ length restarts
 
+-- the disks of node v have met at least so many of its cuts, as far as they tell: with those that are left they are no more than the script's
+abbrev pub HaveMet : {D : Type 0} → (D → Option Fate) → Terms → ℕ → ℕ → Disks D → Type 0
+HaveMet fate terms v many disks = AreFated fate terms.scripted (HaveFallen (terms.cuts v) many) disks
+
 -- devices that are kept are those of node v, as far as they tell: its own oracle; its own disks, each where it belongs and with just the cuts
--- that it was handed, restarted so often; and its own outlet, with just the calls that it was handed
+-- that it was handed, restarted so often, and no more often than cuts were met; and its own outlet, with just the calls that it was handed
 pub record AreOwnDevices {D O U : Type 0} (views : Views D O U) (terms : Terms) (v often : ℕ) (disks : Disks D) (luck : O) (out : U) : Type 0 where
   pub oracle : IsOf terms.scripted views.telling luck v terms.seed
   pub own_disks : AreOwnDisks views.fate terms.scripted (terms.origins v) often disks
   pub few : often ≤ terms.most
+  pub met : HaveMet views.fate terms v often disks
   pub outlet : MayFailAt terms.scripted v (terms.fails v) (views.calls out)
 
 -- what is kept of node v after a run with this schedule, these emissions and restarts: whatever a crash leaves of its disks recovers to its
@@ -113,14 +118,19 @@ pub record IsKept {D O U : Type 0} (views : Views D O U) (terms : Terms) (v : �
   pub often : ℕ
   pub own : AreOwnDevices views terms v often disks luck out
 
--- what is kept of node v shows why it is down: its disks were restarted as often as it may be, and calls of them failed more often; or its
--- outlet refused often
+-- the disks of node v were restarted as often as it may be, and calls of them failed more often, each by a cut
+pub record HaveRunOut {D O U : Type 0} (views : Views D O U) (terms : Terms) (v : ℕ) (disks : Disks D) : Type 0 where
+  pub failed : terms.most < faults_of views.faults disks
+  pub own : AreOwnDisks views.fate terms.scripted (terms.origins v) terms.most disks
+  pub met : HaveMet views.fate terms v (terms.most + 1) disks
+
+-- what is kept of node v shows why it is down: its disks have run out of restarts, or its outlet refused often
 pub record ShowsDown {D O U : Type 0} (views : Views D O U) (terms : Terms) (v : ℕ) (kept : Option (Disks D × O × U)) : Type 0 where
   pub disks : Disks D
   pub luck : O
   pub out : U
   pub is : kept ≡ Some (disks, luck, out)
-  pub cause : ((terms.most < faults_of views.faults disks) × AreOwnDisks views.fate terms.scripted (terms.origins v) terms.most disks) ⊎ (65 ≤ views.refused out)
+  pub cause : HaveRunOut views terms v disks ⊎ (65 ≤ views.refused out)
 
 -- node v has gone down, as its devices show. Those of each node that was made are kept, and no others: all nodes were made, or v was the
 -- last one
@@ -132,6 +142,10 @@ pub record HasGoneDown {D O U : Type 0} (views : Views D O U) (g : Game) (terms 
   pub shows : ShowsDown views terms v (kept v)
   pub each : (u : ℕ) → u < made → IsKept views terms u (kept u)
   pub others : (u : ℕ) → made ≤ u → kept u ≡ None
+
+-- the disks of a node have met a cut for each of its restarts
+abbrev pub HasMet : {D O U : Type 0} → (Watched D → Option Fate) → Terms → ℕ → Station D O U → Type 0
+HasMet fate terms v s = HasFates fate terms.scripted (HaveFallen (terms.cuts v) s.restarts) s.node.stage
 
 -- what a run leaves that made its rounds, was drained and then told what it says, by the answer: it has ended, with a report and its accounts; or a node has
 -- failed too often
@@ -147,6 +161,7 @@ module _ {D O U A : Type 0} (told : Watched D → Option Story) (size : Watched 
     pub width : length r.stations.items ≡ g.nodes
     pub refusals : AreRefused refused calls terms g.nodes r
     pub books : (u : ℕ) (d : Station D O U) → u < g.nodes → HasBooks told count fate telling terms g u (slice_index_or r.stations.items u d)
+    pub met : (u : ℕ) (d : Station D O U) → u < g.nodes → HasMet fate terms u (slice_index_or r.stations.items u d)
     pub cause : IsDownForGood told count fate telling terms g v r ⊎ IsWornOut refused calls terms v r
 
   abbrev pub EndsBy : Result Lines RunFault → Run D O U A → Type 0
