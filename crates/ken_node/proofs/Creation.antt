@@ -35,17 +35,14 @@ use Rattle.ken_node.specs.declared.stage.Stage.TheVariants.{Uncreated, Created}
 use Rattle.ken_work.specs.declared.worker.TurnWorker.{TurnWorker}
 use Rattle.ken_whole.specs.New.{AreNew, owner_of}
 use Rattle.ken_work.specs.Parts.{AreOver}
-use Rattle.ken_node.specs.Created.{IsCreation, IsNewNode, first_order}
+use Rattle.ken_node.specs.Created.{CallsDisks, IsCreation, IsNewNode, first_order}
 use Rattle.ken_work.specs.Faults.{node_answer, store_answer}
 use Rattle.ken_work.specs.First.{AreFirst, IsNewRing}
-use Rattle.ken_node.specs.Stages.{IsUncreated}
+use Rattle.ken_node.specs.Stages.{IsUncreated, owner_in}
 use Rattle.ken_app.specs.Limits.{ComesTo, first}
 use Rattle.ken_work.specs.Workers.{Working}
 use Rattle.ken_work.proofs.StoreAnswers.{store_answer-node_answer}
-
--- whose disks these parts tell
-abbrev owner_in : Parts → Owner
-owner_in x = record { node = x.node; nodes = x.nodes; pages = x.size }
+use Rattle.ken_node.proofs.CreationCalls.{calls-unit}
 
 owner_is : (g : Game) (v : ℕ) (x : Parts) → AreFirst g v x → owner_in x ≡ owner_of g v
 owner_is g v x is =
@@ -126,10 +123,11 @@ module _ {D : Type 0} (told : D → Option Story) (size : D → ℕ) where
     pub created_ok : (g : Game) (v : ℕ) (x : Parts) (old : Disks D) (store : Store D) (t : TurnWorker D) (p : PatchWorker D) (s : SendWorker) → IsWithinLimits g → AreFirst g v x → AreOver x store (first_order x.nodes) t p s
         → Standing told size store (first_image_pages (first_heap x.size)) → store.turns.objects.begun ≡ None → store.turns.objects.value ≡ empty_heap (256 * x.size) → IsNew (owner_in x) store.turns
         → TellsAll told old (λ l i s. Tells (told (disks_in store).log) (λ l2. Tells (told (disks_in store).image) (λ i2. Creates {T = Store D} (owner_in x) (Ok store) l i s l2 i2)))
+        → CallsDisks {T = Store D} told count (owner_in x) (Ok store) old (disks_in store)
         → TellsStill (told old.log) (told (disks_in store).log) × TellsStill (told old.image) (told (disks_in store).image)
         → (disks_in store).second ≡ old.second → FailsBy count fate {T = Store D} (Ok store) old (disks_in store)
         → IsCreation {T = Unit {0}} told size count fate g v (Ok tt) old (Created t p s)
-    created_ok g v x old store t p s limits is over standing idle value new creates tells second faults = record {
+    created_ok g v x old store t p s limits is over standing idle value new creates calls tells second faults = record {
       ok = record { turns = t; patches = p; sends = s; stage_is = refl; new = new_workers g v x store t p s limits is over standing idle value new };
       disks = disks_in store;
       has = ap (λ (y : TurnSide D). disks_apart y store.patches) (sym over.side) ∙ ap (λ (y : PatchSide D). disks_apart t.side y) (sym (ap (λ (w : PatchWorker D). w.side) over.patches));
@@ -137,6 +135,7 @@ module _ {D : Type 0} (told : D → Option Story) (size : D → ℕ) where
       creates = λ l el i ei s es l2 el2 i2 ei2.
           let made = creates l el i ei s es l2 el2 i2 ei2 in
           subst (λ (o : Owner). Creates {T = Unit {0}} o (Ok tt) l i s l2 i2) (owner_is g v x is) (record { before = made.before; order = made.order; logs = made.logs; any_moment = made.any_moment; memory = tt; ok = made.ok });
+      calls = subst (λ (o : Owner). CallsDisks {T = Unit {0}} told count o (Ok tt) old (disks_in store)) (owner_is g v x is) (calls-unit {T = Store D} told count (owner_in x) (Ok store) old (disks_in store) calls);
       tells = tells;
       second = second;
       faults = faults;
@@ -150,10 +149,11 @@ module _ {D : Type 0} (told : D → Option Story) (size : D → ℕ) where
 
     pub created_err : (g : Game) (v : ℕ) (x : Parts) (old disks : Disks D) (fault : StoreFault) → IsWithinLimits g → v < g.nodes → AreFirst g v x
         → TellsAll told old (λ l i s. Tells (told disks.log) (λ l2. Tells (told disks.image) (λ i2. Creates {T = Store D} (owner_in x) (Err fault) l i s l2 i2)))
+        → CallsDisks {T = Store D} told count (owner_in x) (Err fault) old disks
         → TellsStill (told old.log) (told disks.log) × TellsStill (told old.image) (told disks.image)
         → disks.second ≡ old.second → FailsBy count fate {T = Store D} (Err fault) old disks
         → IsCreation {T = Unit {0}} told size count fate g v (node_answer (Err fault)) old (Uncreated disks x)
-    created_err g v x old disks fault limits known is creates tells second faults =
+    created_err g v x old disks fault limits known is creates calls tells second faults =
         let answer : Result (Unit {0}) StoreFault = Err fault in
         let back : answer ≡ store_answer (node_answer answer) = sym (store_answer-node_answer answer) in
         record {
@@ -165,6 +165,9 @@ module _ {D : Type 0} (told : D → Option Story) (size : D → ℕ) where
               let made = creates l el i ei s es l2 el2 i2 ei2 in
               subst (λ (r : Result (Unit {0}) StoreFault). Creates (owner_of g v) r l i s l2 i2) back
               (subst (λ (o : Owner). Creates o answer l i s l2 i2) (owner_is g v x is) (record { before = made.before; order = made.order; logs = made.logs; any_moment = made.any_moment; memory = made.memory; ok = tt }));
+          calls =
+              subst (λ (r : Result (Unit {0}) StoreFault). CallsDisks told count (owner_of g v) r old disks) back
+              (subst (λ (o : Owner). CallsDisks told count o answer old disks) (owner_is g v x is) (calls-unit {T = Store D} told count (owner_in x) (Err fault) old disks calls));
           tells = tells;
           second = second;
           faults = subst (λ (r : Result (Unit {0}) StoreFault). FailsBy count fate r old disks) back (fails_as fault old disks faults);

@@ -1,6 +1,6 @@
 -- A node on whose disks nothing was found, and which is created.
 use Rattle.std.proofs.Common.{◌≡◌, ℕ, List, [], inl, inr, ⊎_elim, refl, sym, ap, subst, ◌∙◌, arith, Option, Result, Ok, Err}
-use Rattle.std.specs.Prelude.{IfOk, IsSome, OnErr}
+use Rattle.std.specs.Prelude.{IfErr, IfOk, IsSome, OnErr}
 use Rattle.ken_disk.specs.declared.faults.DiskFault.TheVariants as disk
 use Rattle.ken_disk.specs.Causes.{HasCause}
 use Rattle.ken_disk.specs.Fates.{Fate, Suffers}
@@ -14,6 +14,7 @@ use Rattle.ken_links.specs.declared.pop_end.PopEnd.{PopEnd}
 use Rattle.ken_links.specs.declared.push_end.PushEnd.{PushEnd}
 use Rattle.ken_store.specs.declared.disks.Disks.{Disks}
 use Rattle.ken_store.specs.declared.disks.Which.{Which}
+use Rattle.ken_store.specs.declared.owner.Owner.{Owner}
 use Rattle.ken_store.specs.declared.disks.Which.TheVariants.{First}
 use Rattle.ken_store.specs.Answers.{AreAtRest, AreUnformatted, TellsAll, disks_from}
 use Rattle.ken_store.specs.Apart.{disks_apart}
@@ -26,17 +27,19 @@ use Rattle.ken_ship.specs.Parts.{Part, part_of}
 use Rattle.ken_work.specs.declared.parts.Parts.{Parts}
 use Rattle.ken_node.specs.declared.stage.Stage.{Stage}
 use Rattle.ken_node.specs.declared.stage.Stage.TheVariants.{Created, Moved, Uncreated}
-use Rattle.ken_node.specs.Created.{IsCreation}
+use Rattle.ken_whole.specs.New.{owner_of}
+use Rattle.ken_node.specs.Created.{CallsDisks, IsCreation}
 use Rattle.ken_node.specs.Down.{AreTold, IsDown}
 use Rattle.ken_work.specs.Faults.{IsFaultOfWorker, store_answer}
 use Rattle.ken_work.specs.First.{AreFirst, IsNewRing}
 use Rattle.ken_work.specs.Meeting.{IsEmptied}
 use Rattle.ken_node.specs.Restarting.{IsCreatedAnew, RecoversBy, none_made}
-use Rattle.ken_node.specs.Restarts.{IsUpAgain}
-use Rattle.ken_node.specs.Stages.{HasDisks, IsUncreated, emissions_in, refusals_in}
+use Rattle.ken_node.specs.Restarts.{AreUnfailed, IsUpAgain, WereFormatted}
+use Rattle.ken_node.specs.Stages.{HasDisks, IsUncreated, emissions_in, owner_in, refusals_in}
+use Rattle.ken_node.proofs.CreationCalls.{calls-since}
 use Rattle.ken_node.proofs.CreationDown.{creation_goes_down}
 use Rattle.ken_whole.proofs.NewWhole.{new_are_whole}
-use Rattle.ken_node.proofs.Recovered.{fresh-first, owner_in, some-is, tell-now}
+use Rattle.ken_node.proofs.Recovered.{fresh-first, owner-ready, some-is, tell-now}
 
 -- a new ring holds nothing
 new-empty : {T : Type 0} (push : PushEnd T) (pop : PopEnd T) → IsNewRing push pop → IsEmptied push pop
@@ -120,18 +123,38 @@ module _ {D : Type 0} (told : D → Option Story) (size count : D → ℕ) (fate
   second-since : (before new : Disks D) → AreSame told count fate before old → new.second ≡ old.second → IsUnfailed count fate before.second new.second
   second-since before new same is = record { count = ap count is ∙ same.second.count; falls = ap fate is ∙ same.second.falls }
 
-  pub anew-by : (before new : Disks D) → AreSame told count fate before old → HasDisks new stage → (answer : Result (Unit {0}) NodeFault) → IsFaultOfWorker (none_made answer) → IsCreation told size count fate g v answer old stage → RecoversBy told count fate (none_made answer) before new
-  anew-by before new same has answer sound c = subst (λ (y : Disks D). RecoversBy told count fate (none_made answer) before y) (has-one c.disks new stage c.has has) (by answer sound c.faults c.second)
+  none-since : (before : Disks D) → AreSame told count fate before old → AreUnformatted told old → AreUnformatted told before
+  none-since before same none l tl s ts = none l (same.log.story ∙ tl) s (same.second.story ∙ ts)
+
+  formatted-since : (before new : Disks D) → AreSame told count fate before old → AreUnformatted told old → CallsDisks {T = Unit {0}} told count (owner_of g v) (Ok tt) old new → new.second ≡ old.second → WereFormatted told count fate (owner_of g v) before new
+  formatted-since before new same none calls is = record {
+    none = none-since before same none;
+    calls = calls-since {T = Unit {0}} told count fate (owner_of g v) (Ok tt) before old new same calls;
+    second = ap told is ∙ same.second.story;
+  }
+
+  unfailed-all : (before new : Disks D) → AreSame told count fate before old → IsUnfailed count fate old.log new.log × IsUnfailed count fate old.image new.image → new.second ≡ old.second → AreUnfailed told count fate before new
+  unfailed-all before new same un is = record {
+    log = unfailed-since before.log old.log new.log same.log un.0;
+    image = unfailed-since before.image old.image new.image same.image un.1;
+    second = second-since before new same is;
+  }
+
+  pub anew-by : (before new : Disks D) → AreSame told count fate before old → AreUnformatted told old → HasDisks new stage → (answer : Result (Unit {0}) NodeFault) → IsFaultOfWorker (none_made answer) → IsCreation told size count fate g v answer old stage
+      → RecoversBy told count fate (owner_of g v) (none_made answer) before new
+  anew-by before new same none has answer sound c =
+      subst (λ (y : Disks D). RecoversBy told count fate (owner_of g v) (none_made answer) before y) (has-one c.disks new stage c.has has) (by answer sound c.faults c.calls c.second)
     where
-      by : (r : Result (Unit {0}) NodeFault) → IsFaultOfWorker (none_made r) → FailsBy count fate (store_answer r) old c.disks → c.disks.second ≡ old.second → RecoversBy told count fate (none_made r) before c.disks
-      by (Ok x) fine fails is = record { log = unfailed-since before.log old.log c.disks.log same.log fails.0; image = unfailed-since before.image old.image c.disks.image same.image fails.1; second = second-since before c.disks same is }
-      by (Err Memory) fine fails is = record { log = unfailed-since before.log old.log c.disks.log same.log fails.0; image = unfailed-since before.image old.image c.disks.image same.image fails.1; second = second-since before c.disks same is }
-      by (Err Disk) fine fails is = ⊎_elim
+      by : (r : Result (Unit {0}) NodeFault) → IsFaultOfWorker (none_made r) → FailsBy count fate (store_answer r) old c.disks → CallsDisks told count (owner_of g v) (store_answer r) old c.disks → c.disks.second ≡ old.second
+          → RecoversBy told count fate (owner_of g v) (none_made r) before c.disks
+      by (Ok x) fine fails calls is = record { unfailed = unfailed-all before c.disks same fails is; stories = inr (formatted-since before c.disks same none calls is) }
+      by (Err Memory) fine fails calls is = unfailed-all before c.disks same fails is
+      by (Err Disk) fine fails calls is = ⊎_elim
           (λ a. inl (failed-since before.log old.log c.disks.log same.log a.0, unfailed-since before.image old.image c.disks.image same.image a.1, second-since before c.disks same is))
           (λ a. inr (inl (unfailed-since before.log old.log c.disks.log same.log a.0, failed-since before.image old.image c.disks.image same.image a.1, second-since before c.disks same is)))
           fails
-      by (Err (Damaged n place)) fine fails is = absurd fine
-      by (Err Outlet) fine fails is = absurd fine
+      by (Err (Damaged n place)) fine fails calls is = absurd fine
+      by (Err Outlet) fine fails calls is = absurd fine
 
 -- a node that is down, on whose disks nothing was found
 module _ {D : Type 0} (told : D → Option Story) (size count : D → ℕ) (fate : D → Option Fate) (g : Game) (v : ℕ) (given : List Packet) (n : Node) (doubt : Doubt) (disks new : Disks D) (x : Parts) (d : IsDown told g v given n doubt (Uncreated disks x)) (rests : AreAtRest told disks)
@@ -164,7 +187,27 @@ module _ {D : Type 0} (told : D → Option Story) (size count : D → ℕ) (fate
     pub found-refusals : refusals_in stage ≡ (part_of x.sends).refusals
     found-refusals = anew-refusals told size count fate g v given new stage d.limits x found.2 made.answer made.creation
 
-    pub found-by : (after : Disks D) → HasDisks after stage → IsFaultOfWorker answer → RecoversBy told count fate answer disks after
+    pub found-by : (after : Disks D) → HasDisks after stage → IsFaultOfWorker answer → RecoversBy told count fate (owner_in x) answer disks after
     found-by after has sound =
-        subst (λ (r : Result ℕ NodeFault). RecoversBy told count fate r disks after) (sym made.is)
-        (anew-by told size count fate g v given new stage d.limits disks after same has made.answer (subst (λ (r : Result ℕ NodeFault). IsFaultOfWorker r) made.is sound) made.creation)
+        subst (λ (o : Owner). RecoversBy told count fate o answer disks after) (sym (owner-ready g v x d.of_node))
+        (subst (λ (r : Result ℕ NodeFault). RecoversBy told count fate (owner_of g v) r disks after) (sym made.is)
+        (anew-by told size count fate g v given new stage d.limits disks after same ready.1 has made.answer (subst (λ (r : Result ℕ NodeFault). IsFaultOfWorker r) made.is sound) made.creation))
+
+-- a node that was recovered only read its disks; so it is after an error, which is want of memory
+pub whole-by : {D : Type 0} (told : D → Option Story) (count : D → ℕ) (fate : D → Option Fate) (o : Owner) (answer : Result ℕ NodeFault) (old new : Disks D) → IfErr answer (λ fault. fault ≡ Memory) → AreSame told count fate old new
+    → RecoversBy told count fate o answer old new
+whole-by told count fate o answer old new sound same = by answer sound
+  where
+    unfailed : AreUnfailed told count fate old new
+    unfailed = record {
+      log = record { count = same.log.count; falls = same.log.falls };
+      image = record { count = same.image.count; falls = same.image.falls };
+      second = record { count = same.second.count; falls = same.second.falls };
+    }
+
+    by : (r : Result ℕ NodeFault) → IfErr r (λ fault. fault ≡ Memory) → RecoversBy told count fate o r old new
+    by (Ok x) fine = record { unfailed = unfailed; stories = inl (record { log = same.log.story; image = same.image.story; second = same.second.story }) }
+    by (Err Memory) fine = unfailed
+    by (Err Disk) fine = absurd (let no : ⊥ = cc fine in no)
+    by (Err Outlet) fine = absurd (let no : ⊥ = cc fine in no)
+    by (Err (Damaged n place)) fine = absurd (let no : ⊥ = cc fine in no)

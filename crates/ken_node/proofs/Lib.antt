@@ -1,3 +1,4 @@
+pub mod CreationCalls
 pub mod Creation
 pub mod FoundAgain
 pub mod RestartEvents

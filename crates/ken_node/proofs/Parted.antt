@@ -10,6 +10,8 @@ use Rattle.ken_core.specs.Packets.{Packet}
 use Rattle.ken_links.specs.declared.pop_end.PopEnd.{PopEnd}
 use Rattle.ken_links.specs.declared.push_end.PushEnd.{PushEnd}
 use Rattle.ken_store.specs.declared.disks.Disks.{Disks}
+use Rattle.ken_store.specs.declared.owner.Owner.{Owner}
+use Rattle.ken_store.specs.declared.turning.TurnSide.{TurnSide}
 use Rattle.ken_store.specs.Apart.{disks_apart}
 use Rattle.ken_ship.specs.declared.worker.SendWorker.{SendWorker}
 use Rattle.ken_ship.specs.Parts.{IsSameWorker as IsSameSender}
@@ -24,7 +26,7 @@ use Rattle.ken_node.specs.Down.{AreReady, IsDown, IsOfNode}
 use Rattle.ken_work.specs.Meeting.{AreEmpty, AreJoined, HaveMet}
 use Rattle.ken_work.specs.News.{AreInputs}
 use Rattle.ken_work.specs.Parts.{ArePartsOf}
-use Rattle.ken_node.specs.Stages.{HasDisks, turns_in}
+use Rattle.ken_node.specs.Stages.{HasDisks, owner_in, turns_in, worker_owner}
 use Rattle.ken_whole.specs.Whole.{AreOfRun}
 use Rattle.ken_work.specs.Workers.{IsSameWorker}
 use Rattle.ken_node.proofs.Creation.{size_is}
@@ -47,6 +49,25 @@ module _ {D : Type 0} (told : D → Option Story) (size : D → ℕ) where
     sender = sender.node ∙ run.sender;
     receivers = sender.nodes ∙ run.receivers;
   }
+
+  -- the store's side is the same
+  pub met-side : (t t2 : TurnWorker D) (p p2 : PatchWorker D) (s s2 : SendWorker) → HaveMet told size t t2 p p2 s s2 → t2.side ≡ t.side
+  met-side t t2 p p2 s s2 met = ap (λ (x : TurnWorker D). x.side) met.handler
+
+module _ {D : Type 0} (t t2 : TurnWorker D) where
+  -- and so is whose disks they are, also where they are taken apart
+  pub owner-met : IsSameWorker t t2 → t2.side ≡ t.side → worker_owner t2 ≡ worker_owner t
+  owner-met same side =
+      ap (λ (n : ℕ). let o : Owner = record { node = n; nodes = t2.nodes; pages = t2.side.owner.pages } in o) same.node
+      ∙ ap (λ (n : ℕ). let o : Owner = record { node = t.node; nodes = n; pages = t2.side.owner.pages } in o) same.nodes
+      ∙ ap (λ (x : TurnSide D). let o : Owner = record { node = t.node; nodes = t.nodes; pages = x.owner.pages } in o) side
+
+  pub owner-parted : (p : PatchWorker D) (s : SendWorker) (x : Parts) → IsSameWorker t t2 → t2.side ≡ t.side → ArePartsOf t2 p s x → owner_in x ≡ worker_owner t
+  owner-parted p s x same side parts =
+      ap (λ (n : ℕ). let o : Owner = record { node = n; nodes = x.nodes; pages = x.size } in o) parts.node
+      ∙ ap (λ (n : ℕ). let o : Owner = record { node = t2.node; nodes = n; pages = x.size } in o) parts.nodes
+      ∙ ap (λ (n : ℕ). let o : Owner = record { node = t2.node; nodes = t2.nodes; pages = n } in o) parts.size
+      ∙ owner-met same side
 
 -- and where they met, what they are made of is ready
 pub parts-ready : {D : Type 0} (g : Game) (v : ℕ) (t : TurnWorker D) (p : PatchWorker D) (s : SendWorker) (x : Parts) → IsWithinLimits g → AreOfRun g v t s → AreJoined t p s → AreEmpty t p s → ArePartsOf t p s x → AreReady g v x

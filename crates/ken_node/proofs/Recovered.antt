@@ -28,13 +28,10 @@ use Rattle.ken_node.specs.Down.{AreReady, AreTold, IsDown, LeavesLog, LeavesNode
 use Rattle.ken_work.specs.Faults.{IsFaultOfWorker, node_answer}
 use Rattle.ken_work.specs.First.{AreFirst}
 use Rattle.ken_node.specs.Restarting.{LeaveLess}
+use Rattle.ken_node.specs.Stages.{owner_in}
 use Rattle.ken_node.proofs.FoundAgain.{fresh-is-first, left-is-sound}
 use Rattle.ken_node.proofs.Mails.{log-mails}
 use Rattle.ken_node.proofs.Restarted.{same-less}
-
--- whose disks these parts tell
-abbrev pub owner_in : Parts → Owner
-owner_in x = record { node = x.node; nodes = x.nodes; pages = x.size }
 
 pub owner-ready : (g : Game) (v : ℕ) (x : Parts) → AreReady g v x → owner_in x ≡ owner_of g v
 owner-ready g v x is =

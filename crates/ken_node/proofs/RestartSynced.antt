@@ -1,5 +1,5 @@
 -- The creation and the restart of a node, and how often the disks of its logs were synced.
-use Rattle.std.proofs.Common.{◌≡◌, ℕ, ◌+◌, ◌*◌, ◌≤◌, inl, inr, ⊎_elim, List, [], refl, sym, ap, subst, ◌∙◌, arith, Option, Some, None, Result, Ok, Err}
+use Rattle.std.proofs.Common.{◌≡◌, ℕ, ◌+◌, ◌*◌, ◌≤◌, ⊎_elim, List, [], refl, sym, ap, subst, ◌∙◌, arith, Option, Some, None, Result, Ok, Err}
 use Rattle.std.specs.Prelude.{IsSome}
 use Rattle.ken_disk.specs.Fates.{Fate}
 use Rattle.ken_disk.specs.Story.{Story, IsAtRest, IsImage, Tells}
@@ -21,7 +21,7 @@ use Rattle.ken_store.specs.declared.store.Store.{Store}
 use Rattle.ken_store.specs.declared.turning.TurnSide.{TurnSide}
 use Rattle.ken_store.specs.Answers.{AreAtRest, AreUnformatted, TellsAll, disks_from, disks_in}
 use Rattle.ken_store.specs.Apart.{disks_apart}
-use Rattle.ken_store.specs.Creations.{CallsLog, Creates, FailsBy, Formats, MayFormat, TellsStill, first_header}
+use Rattle.ken_store.specs.Creations.{CallsLog, Creates, FailsBy, MayFormat, TellsStill, first_header}
 use Rattle.ken_store.specs.Numbers.{no_numbers}
 use Rattle.ken_store.specs.Reads.{AreSame, Fails, IsSame, ReadsDisks}
 use Rattle.ken_store.specs.Work.{HaveWorked, MayHaveChanged}
@@ -41,8 +41,9 @@ use Rattle.ken_node.specs.Down.{AreTold, Finds, MountedLog}
 use Rattle.ken_work.specs.First.{AreFirst}
 use Rattle.ken_node.specs.NodeCalls.{UnlessMemory}
 use Rattle.ken_node.specs.Restarting.{HaveCounts, LeaveLess}
-use Rattle.ken_node.specs.Stages.{HasDisks}
+use Rattle.ken_node.specs.Stages.{HasDisks, owner_in}
 use Rattle.ken_node.specs.Synced.{IsSynced, KeepSyncs, KeepsSyncs, LeavesSynced}
+use Rattle.ken_node.proofs.CreationCalls.{format-unit}
 use Rattle.ken_node.proofs.Fresh.{has-one}
 use Rattle.ken_node.proofs.Recovered.{read-less, some-is}
 use Rattle.ken_node.proofs.Restarted.{was-told}
@@ -51,18 +52,6 @@ use Rattle.ken_store.specs.Turning.{IsPassed}
 use Rattle.ken_store.proofs.Mounted.{front_none}
 
 -- ---- a creation
-
--- what is said of the log's disk doesn't depend on what is handed out
-abbrev as_unit : {T : Type 0} → Result T StoreFault → Result (Unit {0}) StoreFault
-as_unit (Ok x) = Ok tt
-as_unit (Err fault) = Err fault
-
-module _ {T : Type 0} (o : Owner) where
-  format-unit : (r : Result T StoreFault) (h s : Story) → MayFormat o r h s → MayFormat o (as_unit r) h s
-  format-unit (Ok x) h s made = record { calls = made.calls; in_doubt = λ no. absurd (let none : ⊥ = cc no in none) }
-  format-unit (Err store.Disk) h s made = ⊎_elim inl (λ (f : Formats {T = T} o (Err store.Disk) h s). inr (record { calls = f.calls; in_doubt = λ _. f.in_doubt refl })) made
-  format-unit (Err store.Memory) h s made = ⊎_elim inl (λ (f : Formats {T = T} o (Err store.Memory) h s). inr (record { calls = f.calls; in_doubt = λ no. absurd (let none : ⊥ = cc no in none) })) made
-  format-unit (Err (store.Damaged disk place)) h s made = ⊎_elim inl (λ (f : Formats {T = T} o (Err (store.Damaged disk place)) h s). inr (record { calls = f.calls; in_doubt = λ no. absurd (let none : ⊥ = cc no in none) })) made
 
 -- a crash leaves a log on a disk
 pub record LeavesOne {D : Type 0} (told : D → Option Story) (disk : D) : Type 0 where
@@ -130,27 +119,24 @@ module _ {D T : Type 0} (told : D → Option Story) (count : D → ℕ) (g : Gam
       (made.logs.each log (now_too l.0 l2 log made.logs.on in_log))
 
 -- whose disks the parts of a new node tell
-owner-first : (g : Game) (v : ℕ) (x : Parts) → AreFirst g v x → (let o : Owner = record { node = x.node; nodes = x.nodes; pages = x.size } in o) ≡ owner_of g v
+owner-first : (g : Game) (v : ℕ) (x : Parts) → AreFirst g v x → owner_in x ≡ owner_of g v
 owner-first g v x is =
     ap (λ (n : ℕ). let o : Owner = record { node = n; nodes = x.nodes; pages = x.size } in o) is.node
     ∙ ap (λ (n : ℕ). let o : Owner = record { node = v; nodes = n; pages = x.size } in o) is.nodes
     ∙ ap (λ (n : ℕ). let o : Owner = record { node = v; nodes = g.nodes; pages = n } in o) is.size
 
-abbrev owner_at : Parts → Owner
-owner_at x = record { node = x.node; nodes = x.nodes; pages = x.size }
-
 module _ {D : Type 0} (told : D → Option Story) (count : D → ℕ) (g : Game) (v : ℕ) (x : Parts) (first : AreFirst g v x) (old new : Disks D) (rests : AreAtRest told old) (unformatted : AreUnformatted told old) (tell : AreTold told old) where
   abbrev CreatesBy : {T : Type 0} → Owner → Result T StoreFault → Type 0
   CreatesBy o r = TellsAll told old (λ l i s. Tells (told new.log) (λ l2. Tells (told new.image) (λ i2. Creates o r l i s l2 i2)))
 
-  pub created-synced : {T : Type 0} (y : T) → CreatesBy (owner_at x) (Ok y) → TellsStill (told old.image) (told new.image) → new.second ≡ old.second → CallsLog told count (owner_at x) (Ok y) old.log new.log → LeavesSynced told count g v new
+  pub created-synced : {T : Type 0} (y : T) → CreatesBy (owner_in x) (Ok y) → TellsStill (told old.image) (told new.image) → new.second ≡ old.second → CallsLog told count (owner_in x) (Ok y) old.log new.log → LeavesSynced told count g v new
   created-synced {T} y creates tells second calls =
       let owner = owner-first g v x first in
       let now : CreatesBy (owner_of g v) (Ok y) = subst (λ (o : Owner). CreatesBy o (Ok y)) owner creates in
       created-leaves told count g v (Ok y) old new rests unformatted tell now tells second
       (λ one. created-work told count (owner_of g v) old.log new.log new.second (log-none told count g v (Ok y) old new rests unformatted tell now tells second) T y one (subst (λ (o : Owner). CallsLog told count o (Ok y) old.log new.log) owner calls))
 
-  pub uncreated-synced : {T : Type 0} (fate : D → Option Fate) (fault : StoreFault) → CreatesBy {T = T} (owner_at x) (Err fault) → TellsStill (told old.image) (told new.image) → new.second ≡ old.second → CallsLog {T = T} told count (owner_at x) (Err fault) old.log new.log
+  pub uncreated-synced : {T : Type 0} (fate : D → Option Fate) (fault : StoreFault) → CreatesBy {T = T} (owner_in x) (Err fault) → TellsStill (told old.image) (told new.image) → new.second ≡ old.second → CallsLog {T = T} told count (owner_in x) (Err fault) old.log new.log
       → FailsBy count fate {T = T} (Err fault) old new → LeavesSynced told count g v new
   uncreated-synced {T} fate store.Disk creates tells second calls fails =
       let owner = owner-first g v x first in

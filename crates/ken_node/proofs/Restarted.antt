@@ -9,6 +9,7 @@ use Rattle.ken_core.specs.Calls.{Doubt}
 use Rattle.ken_core.specs.Nodes.{Node}
 use Rattle.ken_core.specs.Packets.{Packet}
 use Rattle.ken_store.specs.declared.disks.Disks.{Disks}
+use Rattle.ken_store.specs.declared.owner.Owner.{Owner}
 use Rattle.ken_ship.specs.declared.faults.NodeFault.{NodeFault}
 use Rattle.ken_ship.specs.declared.faults.NodeFault.TheVariants.{Disk, Damaged, Outlet, Memory}
 use Rattle.ken_work.specs.declared.parts.Parts.{Parts}
@@ -70,9 +71,9 @@ module _ {D : Type 0} (told : D → Option Story) where
 
   module _ (count : D → ℕ) (fate : D → Option Fate) where
     -- what becomes of the disks in a restart
-    pub restarts-by : {T : Type 0} (pick : ℕ) (r : Result T NodeFault) (old mid new : Disks D) → WereRestarted told count fate pick old mid → RecoversBy told count fate r mid new → RestartsBy told count fate pick r old new
-    restarts-by pick (Ok x) old mid new were by = (mid, (were, by))
-    restarts-by pick (Err Disk) old mid new were by = (mid, (were, by))
-    restarts-by pick (Err (Damaged n place)) old mid new were by = (mid, (were, by))
-    restarts-by pick (Err Memory) old mid new were by = (by.log.count ∙ were.log.faults, by.image.count ∙ were.image.faults, by.second.count ∙ were.second.faults)
-    restarts-by pick (Err Outlet) old mid new were by = by
+    pub restarts-by : {T : Type 0} (o : Owner) (pick : ℕ) (r : Result T NodeFault) (old mid new : Disks D) → WereRestarted told count fate pick old mid → RecoversBy told count fate o r mid new → RestartsBy told count fate o pick r old new
+    restarts-by o pick (Ok x) old mid new were by = (mid, (were, by))
+    restarts-by o pick (Err Disk) old mid new were by = (mid, (were, by))
+    restarts-by o pick (Err (Damaged n place)) old mid new were by = (mid, (were, by))
+    restarts-by o pick (Err Memory) old mid new were by = (by.log.count ∙ were.log.faults, by.image.count ∙ were.image.faults, by.second.count ∙ were.second.faults)
+    restarts-by o pick (Err Outlet) old mid new were by = by

@@ -31,9 +31,10 @@ use Rattle.ken_node.specs.Down.{AreTold, IsDown}
 use Rattle.ken_work.specs.First.{AreFirst, IsNewRing}
 use Rattle.ken_work.specs.Parts.{AreUnchanged}
 use Rattle.ken_node.specs.Restarting.{GoesOn, IsPutBack}
+use Rattle.ken_node.specs.Stages.{owner_in}
 use Rattle.ken_node.specs.Restarts.{IsUpAgain}
 use Rattle.ken_node.proofs.GoesOn.{same-ready}
-use Rattle.ken_node.proofs.Recovered.{left-now, owner-ready, owner_in, read-less, tell-now}
+use Rattle.ken_node.proofs.Recovered.{left-now, owner-ready, read-less, tell-now}
 use Rattle.ken_node.proofs.Restarted.{down-on}
 use Rattle.ken_node.proofs.UpAgain.{up-again}
 

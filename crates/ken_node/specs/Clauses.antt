@@ -24,7 +24,7 @@ use Rattle.ken_node.specs.Down.{IsDown}
 use Rattle.ken_node.specs.NodeCalls.{DisksFailBy, EmitStepsBy, HearSteps, PatchStepsBy, SendSteps, SettleStepsBy, UnlessMemory}
 use Rattle.ken_node.specs.NodeTurns.{TurnStepsBy}
 use Rattle.ken_node.specs.Restarts.{IsUpAgain, RestartsBy, pick_of}
-use Rattle.ken_node.specs.Stages.{HasDisks}
+use Rattle.ken_node.specs.Stages.{HasDisks, disk_owner}
 use Rattle.ken_node.specs.Synced.{IsSynced, LeavesSynced}
 use Rattle.ken_work.specs.Calls.{Drew}
 use Rattle.ken_node.specs.Up.{IsUp}
@@ -96,4 +96,4 @@ module _ {D : Type 0} (told : D → Option Story) where
 module _ {D : Type 0} (told : Watched D → Option Story) (faults : Watched D → ℕ) (fate : Watched D → Option Fate) (hinted : Watched D → ℕ) where
   -- what became of its disks, all restarted with one pick
   abbrev pub RestartsDisks : {T : Type 0} → Stage (Watched D) → Result T NodeFault → Stage (Watched D) → Type 0
-  RestartsDisks old result new = (before after : Disks (Watched D)) → HasDisks before old → HasDisks after new → RestartsBy told faults fate (pick_of hinted before) result before after
+  RestartsDisks old result new = (before after : Disks (Watched D)) → HasDisks before old → HasDisks after new → RestartsBy told faults fate (disk_owner old) (pick_of hinted before) result before after

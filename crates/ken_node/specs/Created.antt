@@ -1,12 +1,14 @@
 -- The creation of a node: its workers, and what its disks saw.
 use Rattle.std.specs.Prelude.{◌≡◌, ℕ, replicate, Option, Result, OnOk, OnErr}
 use Rattle.ken_disk.specs.Fates.{Fate}
-use Rattle.ken_disk.specs.Story.{Story, Tells}
+use Rattle.ken_disk.specs.Story.{Story, Follows, Tells}
 use Rattle.ken_model.specs.Game.{Game}
 use Rattle.ken_order.specs.Consumed.{Consumed}
 use Rattle.ken_store.specs.declared.disks.Disks.{Disks}
+use Rattle.ken_store.specs.declared.faults.StoreFault.{StoreFault}
+use Rattle.ken_store.specs.declared.owner.Owner.{Owner}
 use Rattle.ken_store.specs.Answers.{TellsAll}
-use Rattle.ken_store.specs.Creations.{Creates, FailsBy, TellsStill}
+use Rattle.ken_store.specs.Creations.{CallsImage, CallsLog, Creates, FailsBy, MayFormat, TellsStill}
 use Rattle.ken_ship.specs.declared.faults.NodeFault.{NodeFault}
 use Rattle.ken_ship.specs.declared.worker.SendWorker.{SendWorker}
 use Rattle.ken_work.specs.declared.patcher.PatchWorker.{PatchWorker}
@@ -29,6 +31,12 @@ pub record IsNewNode {D : Type 0} (told : D → Option Story) (size : D → ℕ)
   pub stage_is : stage ≡ Created turns patches sends
   pub new : AreNew told size g v turns patches sends
 
+-- the calls that a creation made of the disks of the log and of the image, by its answer: those of a format, and no others
+pub record CallsDisks {D T : Type 0} (told : D → Option Story) (count : D → ℕ) (o : Owner) (result : Result T StoreFault) (old new : Disks D) : Type 0 where
+  pub format : Follows (MayFormat o result) (told old.log) (told new.log)
+  pub log : CallsLog told count o result old.log new.log
+  pub image : CallsImage told count o result old new
+
 -- what the creation of node v of a run on these disks comes to, by its answer
 pub record IsCreation {D T : Type 0} (told : D → Option Story) (size count : D → ℕ) (fate : D → Option Fate) (g : Game) (v : ℕ) (result : Result T NodeFault) (old : Disks D) (stage : Stage D) : Type 0 where
   pub ok : OnOk result (IsNewNode told size g v stage)
@@ -36,6 +44,7 @@ pub record IsCreation {D T : Type 0} (told : D → Option Story) (size count : D
   pub has : HasDisks disks stage
   pub err : OnErr result (IsUncreated g v disks stage)
   pub creates : TellsAll told old (λ l i s. Tells (told disks.log) (λ l2. Tells (told disks.image) (λ i2. Creates (owner_of g v) (store_answer result) l i s l2 i2)))
+  pub calls : CallsDisks told count (owner_of g v) (store_answer result) old disks
   pub tells : TellsStill (told old.log) (told disks.log) × TellsStill (told old.image) (told disks.image)
   pub second : disks.second ≡ old.second
   pub faults : FailsBy count fate (store_answer result) old disks

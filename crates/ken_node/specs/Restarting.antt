@@ -7,6 +7,7 @@ use Rattle.ken_model.specs.declared.states.State.{State}
 use Rattle.ken_record.specs.declared.effects.Effects.{Effects}
 use Rattle.ken_record.specs.declared.record.Record.{Record}
 use Rattle.ken_store.specs.declared.disks.Disks.{Disks}
+use Rattle.ken_store.specs.declared.owner.Owner.{Owner}
 use Rattle.ken_store.specs.declared.store.Store.{Store}
 use Rattle.ken_ship.specs.declared.faults.NodeFault.{NodeFault}
 use Rattle.ken_ship.specs.declared.faults.NodeFault.TheVariants.{Disk, Damaged, Outlet, Memory}
@@ -17,7 +18,7 @@ use Rattle.ken_node.specs.declared.stage.Stage.{Stage}
 use Rattle.ken_node.specs.declared.stage.Stage.TheVariants.{Uncreated, Created}
 use Rattle.ken_work.specs.declared.worker.TurnWorker.{TurnWorker}
 use Rattle.ken_node.specs.Created.{IsCreation}
-use Rattle.ken_node.specs.Restarts.{AreUnfailed, GoOnFrom, OneHasFailed}
+use Rattle.ken_node.specs.Restarts.{AreUnfailed, GoOn, GoOnFrom, OneHasFailed}
 use Rattle.ken_work.specs.Parts.{AreUnchanged}
 
 -- ---- a node is taken apart
@@ -46,12 +47,12 @@ pub record HaveCounts {D : Type 0} (count : D → ℕ) (old new : Disks D) : Typ
   pub second : count new.second ≡ count old.second
 
 -- what becomes of restarted disks, by the answer
-abbrev pub RecoversBy : {D T : Type 0} → (D → Option Story) → (D → ℕ) → (D → Option Fate) → Result T NodeFault → Disks D → Disks D → Type 0
-RecoversBy told count fate (Ok x) old new = AreUnfailed told count fate old new
-RecoversBy told count fate (Err Disk) old new = OneHasFailed told count fate old new
-RecoversBy told count fate (Err (Damaged n place)) old new = AreUnfailed told count fate old new
-RecoversBy told count fate (Err Memory) old new = AreUnfailed told count fate old new
-RecoversBy told count fate (Err Outlet) old new = ⊥
+abbrev pub RecoversBy : {D T : Type 0} → (D → Option Story) → (D → ℕ) → (D → Option Fate) → Owner → Result T NodeFault → Disks D → Disks D → Type 0
+RecoversBy told count fate o (Ok x) old new = GoOn told count fate o old new
+RecoversBy told count fate o (Err Disk) old new = OneHasFailed told count fate old new
+RecoversBy told count fate o (Err (Damaged n place)) old new = AreUnfailed told count fate old new
+RecoversBy told count fate o (Err Memory) old new = AreUnfailed told count fate old new
+RecoversBy told count fate o (Err Outlet) old new = ⊥
 
 -- ---- nothing is found on them, and the node is created
 

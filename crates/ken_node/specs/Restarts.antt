@@ -14,7 +14,9 @@ use Rattle.ken_core.specs.Nodes.{Node, first_node}
 use Rattle.ken_core.specs.Packets.{Packet, nothing}
 use Rattle.ken_outbox.specs.Waiting.{resumed}
 use Rattle.ken_store.specs.declared.disks.Disks.{Disks}
+use Rattle.ken_store.specs.declared.owner.Owner.{Owner}
 use Rattle.ken_store.specs.declared.store.Store.{Store}
+use Rattle.ken_store.specs.Answers.{AreUnformatted}
 use Rattle.ken_store.specs.Apart.{disks_apart}
 use Rattle.ken_store.specs.Creations.{HasFailed, IsUnfailed}
 use Rattle.ken_ship.specs.declared.faults.NodeFault.{NodeFault}
@@ -27,6 +29,7 @@ use Rattle.ken_node.specs.declared.stage.Stage.TheVariants.{Created}
 use Rattle.ken_node.specs.declared.watched.Watched.{Watched}
 use Rattle.ken_work.specs.declared.worker.TurnWorker.{TurnWorker}
 use Rattle.ken_work.specs.Parts.{nothing_told, kept_turns}
+use Rattle.ken_node.specs.Created.{CallsDisks}
 use Rattle.ken_node.specs.Down.{AreTold}
 use Rattle.ken_work.specs.Meeting.{AreEmpty, AreJoined}
 use Rattle.ken_whole.specs.Whole.{IsWhole}
@@ -98,10 +101,27 @@ module _ {D : Type 0} (told : D → Option Story) (count : D → ℕ) (fate : D 
       ⊎ ((IsUnfailed count fate old.log new.log × HasFailed count fate old.image new.image × IsUnfailed count fate old.second new.second)
       ⊎ (IsUnfailed count fate old.log new.log × IsUnfailed count fate old.image new.image × HasFailed count fate old.second new.second))
 
+  -- they tell what they told: nothing was written, and no sync was made
+  pub record TellTheSame (old new : Disks D) : Type 0 where
+    pub log : told new.log ≡ told old.log
+    pub image : told new.image ≡ told old.image
+    pub second : told new.second ≡ told old.second
+
+  -- no log was on them, and a store was created: the log and the image saw its calls, and the second log saw none
+  pub record WereFormatted (o : Owner) (old new : Disks D) : Type 0 where
+    pub none : AreUnformatted told old
+    pub calls : CallsDisks {T = Unit {0}} told count o (Ok tt) old new
+    pub second : told new.second ≡ told old.second
+
+  -- a node goes on with them, and none failed: it was recovered, and only read them, or it was created anew
+  pub record GoOn (o : Owner) (old new : Disks D) : Type 0 where
+    pub unfailed : AreUnfailed old new
+    pub stories : TellTheSame old new ⊎ WereFormatted o old new
+
   -- what became of them in a restart with this pick, by the answer: where memory ran out, only that no fault was counted
-  abbrev pub RestartsBy : {T : Type 0} → ℕ → Result T NodeFault → Disks D → Disks D → Type 0
-  RestartsBy pick (Ok x) old new = (mid : Disks D) × (WereRestarted pick old mid × AreUnfailed mid new)
-  RestartsBy pick (Err Disk) old new = (mid : Disks D) × (WereRestarted pick old mid × OneHasFailed mid new)
-  RestartsBy pick (Err (Damaged n place)) old new = (mid : Disks D) × (WereRestarted pick old mid × AreUnfailed mid new)
-  RestartsBy pick (Err Memory) old new = (count new.log ≡ count old.log) × (count new.image ≡ count old.image) × (count new.second ≡ count old.second)
-  RestartsBy pick (Err Outlet) old new = ⊥
+  abbrev pub RestartsBy : {T : Type 0} → Owner → ℕ → Result T NodeFault → Disks D → Disks D → Type 0
+  RestartsBy o pick (Ok x) old new = (mid : Disks D) × (WereRestarted pick old mid × GoOn o mid new)
+  RestartsBy o pick (Err Disk) old new = (mid : Disks D) × (WereRestarted pick old mid × OneHasFailed mid new)
+  RestartsBy o pick (Err (Damaged n place)) old new = (mid : Disks D) × (WereRestarted pick old mid × AreUnfailed mid new)
+  RestartsBy o pick (Err Memory) old new = (count new.log ≡ count old.log) × (count new.image ≡ count old.image) × (count new.second ≡ count old.second)
+  RestartsBy o pick (Err Outlet) old new = ⊥

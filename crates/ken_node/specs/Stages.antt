@@ -10,6 +10,7 @@ use Rattle.ken_record.specs.declared.effects.Effects.{Effects}
 use Rattle.ken_ship.specs.declared.worker.SendWorker.{SendWorker}
 use Rattle.ken_ship.specs.Parts.{part_of}
 use Rattle.ken_store.specs.declared.disks.Disks.{Disks}
+use Rattle.ken_store.specs.declared.owner.Owner.{Owner}
 use Rattle.ken_store.specs.Answers.{AreAtRest, AreUnformatted}
 use Rattle.ken_store.specs.Apart.{disks_apart}
 use Rattle.ken_work.specs.declared.parts.Parts.{Parts}
@@ -18,6 +19,14 @@ use Rattle.ken_node.specs.declared.stage.Stage.{Stage}
 use Rattle.ken_node.specs.declared.stage.Stage.TheVariants.{Uncreated, Created, Moved}
 use Rattle.ken_work.specs.declared.worker.TurnWorker.{TurnWorker}
 use Rattle.ken_work.specs.First.{AreFirst}
+
+-- whose disks these parts tell
+abbrev pub owner_in : Parts → Owner
+owner_in x = record { node = x.node; nodes = x.nodes; pages = x.size }
+
+-- or a handler
+abbrev pub worker_owner : {D : Type 0} → TurnWorker D → Owner
+worker_owner t = record { node = t.node; nodes = t.nodes; pages = t.side.owner.pages }
 
 module _ {D : Type 0} where
   -- node v of a run, which isn't created yet, with these disks
@@ -49,6 +58,12 @@ module _ {D : Type 0} where
   HasDisks disks (Uncreated d parts) = disks ≡ d
   HasDisks disks (Created t p s) = disks ≡ disks_apart t.side p.side
   HasDisks disks Moved = ⊥
+
+  -- whose its disks are
+  abbrev pub disk_owner : Stage D → Owner
+  disk_owner (Uncreated disks parts) = owner_in parts
+  disk_owner (Created t p s) = worker_owner t
+  disk_owner Moved = record { node = 0; nodes = 0; pages = 0 }
 
   -- what the disk of its image tells
   abbrev pub image_told : (D → Option Story) → Stage D → Option Story

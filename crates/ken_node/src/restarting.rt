@@ -18,7 +18,7 @@ ghost use Rattle.ken_work.specs.Meeting.{AreJoined};
 ghost use Rattle.ken_work.specs.News.{AreInputs};
 ghost use Rattle.ken_node.specs.Restarting.{GoesOn, HaveCounts, IsCreatedAnew, IsPutBack, LeaveLess, RecoversBy, none_made, stage_of};
 ghost use Rattle.ken_node.specs.Restarts.{RestartsBy, WereRestarted, pick_of};
-ghost use Rattle.ken_node.specs.Stages.{HasDisks, IsUncreated, MayBeCreated, emissions_in, refusals_in, turns_in};
+ghost use Rattle.ken_node.specs.Stages.{HasDisks, IsUncreated, MayBeCreated, disk_owner, emissions_in, owner_in, refusals_in, turns_in};
 ghost use Rattle.ken_node.specs.Synced.{IsSynced, KeepSyncs};
 ghost use Rattle.ken_whole.specs.Whole.{AreOfRun};
 
@@ -81,6 +81,7 @@ impl<D: Disk> Stage<D> {
         ensures emissions { emissions_in (stage_of result) ≡ emissions_in self }
         ensures refusals { refusals_in (stage_of result) ≡ refusals_in self }
         ensures disks { (old : Has D) → HasDisks old self → HasDisks old (stage_of result) }
+        ensures owner { disk_owner (stage_of result) ≡ disk_owner self }
     {
         match self {
             Stage::Uncreated(disks, parts) => Ok((disks, parts)),
@@ -102,6 +103,7 @@ fn parted<D: Disk>(
     ensures emissions { emissions_in (stage_of result) ≡ (part_of sends).emissions }
     ensures refusals { refusals_in (stage_of result) ≡ (part_of sends).refusals }
     ensures disks { HasDisks (disks_apart turns.side patches.side) (stage_of result) }
+    ensures owner { disk_owner (stage_of result) ≡ disk_owner (Stage.Created turns patches sends) }
 {
     match meet(&mut turns, &mut patches, &mut sends) {
         Ok(()) => Ok(Parts::of(turns, patches, sends)),
@@ -135,7 +137,7 @@ fn up_again<D: Disk>(
     ensures sound { IsFaultOfWorker result.1 }
     ensures emissions { emissions_in result.0 ≡ (part_of parts.sends).emissions }
     ensures refusals { refusals_in result.0 ≤ (part_of parts.sends).refusals }
-    ensures disks { (new : Has D) → HasDisks new result.0 → RestartsBy D.told D.faults D.fate pick result.1 disks new }
+    ensures disks { (new : Has D) → HasDisks new result.0 → RestartsBy D.told D.faults D.fate (owner_in parts) pick result.1 disks new }
 {
     match restart_all(&mut disks, pick) {
         Ok(()) => recovered(disks, parts),
@@ -154,7 +156,7 @@ fn recovered<D: Disk>(disks: Disks<D>, parts: Parts) -> (Stage<D>, Result<u64, N
     ensures sound { IsFaultOfWorker result.1 }
     ensures emissions { emissions_in result.0 ≡ (part_of parts.sends).emissions }
     ensures refusals { refusals_in result.0 ≤ (part_of parts.sends).refusals }
-    ensures disks { (new : Has D) → HasDisks new result.0 → RecoversBy D.told D.faults D.fate result.1 disks new }
+    ensures disks { (new : Has D) → HasDisks new result.0 → RecoversBy D.told D.faults D.fate (owner_in parts) result.1 disks new }
 {
     match recover(parts.alloc, disks, parts.node, parts.nodes, parts.size) {
         Ok(Recovered::Fresh(disks)) => created_anew(Stage::Uncreated(disks, parts)),

@@ -3,13 +3,15 @@ use Rattle.std.proofs.Common.{◌≡◌, ℕ, List, Result, Ok, Err, refl, subst
 use Rattle.ken_node.specs.declared.stage.Stage.TheVariants.{Uncreated}
 use Rattle.std.specs.Prelude.{OnOk}
 use Rattle.ken_record.specs.declared.record.Record.{Record}
+use Rattle.ken_store.specs.declared.disks.Disks.{Disks}
 use Rattle.ken_store.specs.declared.store.Recovered.{Recovered}
 use Rattle.ken_store.specs.declared.store.Recovered.TheVariants as found
 use Rattle.ken_store.specs.Answers.{disks_in}
 use Rattle.ken_ship.specs.declared.faults.NodeFault.{NodeFault}
 use Rattle.ken_work.specs.Faults.{IsFaultOfWorker}
-use Rattle.ken_node.specs.Restarting.{GoesOn}
-use Rattle.ken_node.proofs.Fresh.{found-by, found-down, found-emissions, found-refusals, found-up, uncreated}
+use Rattle.ken_node.specs.Restarting.{GoesOn, RecoversBy}
+use Rattle.ken_node.specs.Stages.{owner_in}
+use Rattle.ken_node.proofs.Fresh.{found-by, found-down, found-emissions, found-refusals, found-up, has-one, uncreated, whole-by}
 use Rattle.ken_node.proofs.Recovered.{IsFound, on-err, read-less, recovers-sound, state-mails, tell-now}
 use Rattle.ken_node.proofs.Restarted.{down-on}
 use Rattle.ken_node.proofs.WholeAgain.{backs-down, whole-up}
@@ -106,6 +108,16 @@ returns-in-Ok-Whole-clause-down g c = λ game v given n doubt d.
     let is : c.in-Ok-Whole.field-0 ≡ found.Whole c.in-Ok-Whole.store c.in-Ok-Whole.state c.in-Ok-Whole.records = cc in
     let f = subst (IsFound g.D.Disk.told g.D.Disk.size g.D.Disk.faults g.D.Disk.fate c.args.disks c.args.parts) is (record { answers = e.answers; records = e.records; ready = e.ready; reads = e.reads }) in
     backs-down g.D.Disk.told g.D.Disk.size g.D.Disk.faults g.D.Disk.fate game v given n doubt c.args.disks c.args.parts d (disks_in c.in-Ok-Whole.store) c.gone_on.result.0 c.gone_on.result.1 f.reads c.gone_on.ensures.err
+
+pub returns-in-Ok-Whole-clause-disks : goal.returns-in-Ok-Whole-clause-disks
+returns-in-Ok-Whole-clause-disks g c = λ after has.
+    let e = c.in-Ok-Whole.ensures in
+    let store = c.in-Ok-Whole.store in
+    let is : c.in-Ok-Whole.field-0 ≡ found.Whole store c.in-Ok-Whole.state c.in-Ok-Whole.records = cc in
+    let f = subst (IsFound g.D.Disk.told g.D.Disk.size g.D.Disk.faults g.D.Disk.fate c.args.disks c.args.parts) is (record { answers = e.answers; records = e.records; ready = e.ready; reads = e.reads }) in
+    let now : disks_in store ≡ after = has-one (disks_in store) after c.gone_on.result.0 c.gone_on.ensures.disks has in
+    subst (λ (y : Disks g.row.D.Denot). RecoversBy g.D.Disk.told g.D.Disk.faults g.D.Disk.fate (owner_in c.args.parts) c.gone_on.result.1 c.args.disks y) now
+    (whole-by g.D.Disk.told g.D.Disk.faults g.D.Disk.fate (owner_in c.args.parts) c.gone_on.result.1 c.args.disks (disks_in store) c.gone_on.ensures.memory f.reads)
 
 pub returns-in-Err-clause-down : goal.returns-in-Err-clause-down
 returns-in-Err-clause-down g c = λ game v given n doubt d.

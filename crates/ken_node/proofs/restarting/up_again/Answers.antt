@@ -1,5 +1,6 @@
 use Rattle.std.proofs.Common.{refl}
 use Rattle.ken_node.specs.declared.stage.Stage.TheVariants.{Uncreated}
+use Rattle.ken_node.specs.Stages.{owner_in}
 use Rattle.ken_node.proofs.RestartSynced.{less-synced, restarted-work, stage-synced}
 use Rattle.ken_node.proofs.Restarted.{down-on, restarts-by}
 use Rattle.ken_node.proofs.restarting.up_again.Goals as goal
@@ -26,7 +27,7 @@ returns-in-Ok-clause-down g c = λ game v given n doubt d.
 
 pub returns-in-Ok-clause-disks : goal.returns-in-Ok-clause-disks
 returns-in-Ok-clause-disks g c = λ new has.
-    restarts-by g.D.Disk.told g.D.Disk.faults g.D.Disk.fate c.args.pick c.recovered.result.1 c.args.disks c.restart_all.new.disks new c.in-Ok.ensures.ok (c.recovered.ensures.disks new has)
+    restarts-by g.D.Disk.told g.D.Disk.faults g.D.Disk.fate (owner_in c.args.parts) c.args.pick c.recovered.result.1 c.args.disks c.restart_all.new.disks new c.in-Ok.ensures.ok (c.recovered.ensures.disks new has)
 
 pub returns-in-Err-clause-down : goal.returns-in-Err-clause-down
 returns-in-Err-clause-down g c = λ game v given n doubt d. down-on g.D.Disk.told game v given n doubt c.args.disks c.restart_all.new.disks c.args.parts c.restart_all.ensures.leave d

@@ -4,8 +4,8 @@ use Rattle.std.specs.Prelude.{IfOk, OnErr}
 use Rattle.ken_node.specs.declared.stage.Stage.{Stage}
 use Rattle.ken_node.specs.declared.watched.Watched.{Watched}
 use Rattle.ken_node.specs.Down.{IsDown, MayRestart}
-use Rattle.ken_node.specs.Restarts.{IsUpAgain}
-use Rattle.ken_node.specs.Stages.{HasDisks}
+use Rattle.ken_node.specs.Restarts.{IsUpAgain, RestartsBy, pick_of}
+use Rattle.ken_node.specs.Stages.{HasDisks, disk_owner}
 use Rattle.ken_node.proofs.node.Node+Watched+D.restart.Goals as goal
 
 pub restarted-stage-requires : goal.restarted-stage-requires
@@ -26,7 +26,12 @@ returns-clause-down g c = λ game v given n doubt d.
 
 pub returns-clause-disks : goal.returns-clause-disks
 returns-clause-disks g c = λ old new has now.
-    c.restarted-stage.ensures.disks old new (subst (HasDisks old) (sym c.replace.ensures.value) has) (subst (HasDisks new) c.replace-2.ensures.after now)
+    let told = λ (w : Watched g.row.D.Denot). g.D.Disk.told w.disk in
+    let faults = λ (w : Watched g.row.D.Denot). g.D.Disk.faults w.disk in
+    let fate = λ (w : Watched g.row.D.Denot). g.D.Disk.fate w.disk in
+    let pick = pick_of (λ w. g.D.Disk.hinted w.disk) old in
+    subst (λ (s : Stage (Watched g.row.D.Denot)). RestartsBy told faults fate (disk_owner s) pick c.restarted-stage.result.1 old new) c.replace.ensures.value
+    (c.restarted-stage.ensures.disks old new (subst (HasDisks old) (sym c.replace.ensures.value) has) (subst (HasDisks new) c.replace-2.ensures.after now))
 
 pub returns-clause-synced : goal.returns-clause-synced
 returns-clause-synced g c = λ game v given n doubt d before.

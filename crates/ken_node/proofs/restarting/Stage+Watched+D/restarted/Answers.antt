@@ -1,10 +1,12 @@
 use Rattle.ken_node.proofs.RestartSynced.{stage-synced}
 use Rattle.ken_store.specs.declared.disks.Disks.{Disks}
+use Rattle.ken_store.specs.declared.owner.Owner.{Owner}
 use Rattle.ken_node.specs.declared.watched.Watched.{Watched}
 use Rattle.ken_node.specs.Synced.{LeavesSynced}
 use Rattle.std.proofs.Common.{ℕ, refl, subst}
 use Rattle.ken_node.specs.Down.{IsOfNode}
-use Rattle.ken_node.specs.Restarts.{RestartsBy}
+use Rattle.ken_node.specs.Restarts.{RestartsBy, pick_of}
+use Rattle.ken_node.specs.Stages.{owner_in}
 use Rattle.ken_node.proofs.Fresh.{has-one}
 use Rattle.ken_node.proofs.restarting.Stage+Watched+D.restarted.Goals as goal
 
@@ -22,7 +24,11 @@ returns-in-Ok-clause-down g c = λ game v given n doubt d. c.up_again.ensures.do
 pub returns-in-Ok-clause-disks : goal.returns-in-Ok-clause-disks
 returns-in-Ok-clause-disks g c = λ old new has now.
     let same = c.in-Ok.ensures.disks old has in
-    rw same (subst (λ (k : ℕ). RestartsBy (λ w. g.D.Disk.told w.disk) (λ w. g.D.Disk.faults w.disk) (λ w. g.D.Disk.fate w.disk) k c.up_again.result.1 c.in-Ok.disks new) c.pick_of-pick.ensures (c.up_again.ensures.disks new now))
+    let told = λ (w : Watched g.row.D.Denot). g.D.Disk.told w.disk in
+    let faults = λ (w : Watched g.row.D.Denot). g.D.Disk.faults w.disk in
+    let fate = λ (w : Watched g.row.D.Denot). g.D.Disk.fate w.disk in
+    rw same (subst (λ (o : Owner). RestartsBy told faults fate o (pick_of (λ w. g.D.Disk.hinted w.disk) c.in-Ok.disks) c.up_again.result.1 c.in-Ok.disks new) c.in-Ok.ensures.owner
+    (subst (λ (k : ℕ). RestartsBy told faults fate (owner_in c.in-Ok.parts) k c.up_again.result.1 c.in-Ok.disks new) c.pick_of-pick.ensures (c.up_again.ensures.disks new now)))
 
 pub returns-in-Err-clause-here : goal.returns-in-Err-clause-here
 returns-in-Err-clause-here g c = λ is.
