@@ -33,6 +33,7 @@ use Rattle.ken_node.specs.Down.{AreTold, IsDown}
 use Rattle.ken_work.specs.Faults.{IsFaultOfWorker, store_answer}
 use Rattle.ken_work.specs.First.{AreFirst, IsNewRing}
 use Rattle.ken_work.specs.Meeting.{IsEmptied}
+use Rattle.ken_work.specs.Parts.{CountsAnew}
 use Rattle.ken_node.specs.Restarting.{IsCreatedAnew, RecoversBy, none_made}
 use Rattle.ken_node.specs.Restarts.{AreUnfailed, IsUpAgain, WereFormatted}
 use Rattle.ken_node.specs.Stages.{HasDisks, IsUncreated, emissions_in, owner_in, refusals_in}
@@ -110,6 +111,11 @@ module _ {D : Type 0} (told : D → Option Story) (size count : D → ℕ) (fate
   anew-refusals x first (Err fault) c =
       ap refusals_in c.err.stage_is ∙ ap (λ (y : Part). y.refusals) c.err.first.part ∙ sym (ap (λ (y : Part). y.refusals) first.part)
 
+  -- so the count of refusals begins anew, or is as it was
+  pub anew-counts : (x : Parts) → AreFirst g v x → (answer : Result (Unit {0}) NodeFault) → IsCreation told size count fate g v answer old stage → CountsAnew (none_made answer) (part_of x.sends).refusals (refusals_in stage)
+  anew-counts x first (Ok y) c = ap refusals_in c.ok.stage_is ∙ ap (λ (y : Part). y.refusals) c.ok.new.part
+  anew-counts x first (Err fault) c = anew-refusals x first (Err fault) c
+
   -- what becomes of the disks
   unfailed-since : (a b e : D) → IsSame told count fate a b → IsUnfailed count fate b e → IsUnfailed count fate a e
   unfailed-since a b e same un = record { count = un.count ∙ same.count; falls = un.falls ∙ same.falls }
@@ -184,8 +190,10 @@ module _ {D : Type 0} (told : D → Option Story) (size count : D → ℕ) (fate
     pub found-emissions : emissions_in stage ≡ (part_of x.sends).emissions
     found-emissions = anew-emissions told size count fate g v given new stage d.limits x found.2 made.answer made.creation
 
-    pub found-refusals : refusals_in stage ≡ (part_of x.sends).refusals
-    found-refusals = anew-refusals told size count fate g v given new stage d.limits x found.2 made.answer made.creation
+    pub found-counts : CountsAnew answer (part_of x.sends).refusals (refusals_in stage)
+    found-counts =
+        subst (λ (r : Result ℕ NodeFault). CountsAnew r (part_of x.sends).refusals (refusals_in stage)) (sym made.is)
+        (anew-counts told size count fate g v given new stage d.limits x found.2 made.answer made.creation)
 
     pub found-by : (after : Disks D) → HasDisks after stage → IsFaultOfWorker answer → RecoversBy told count fate (owner_in x) answer disks after
     found-by after has sound =

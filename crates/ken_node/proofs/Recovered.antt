@@ -27,6 +27,7 @@ use Rattle.ken_whole.specs.New.{owner_of}
 use Rattle.ken_node.specs.Down.{AreReady, AreTold, IsDown, LeavesLog, LeavesNode, Left}
 use Rattle.ken_work.specs.Faults.{IsFaultOfWorker, node_answer}
 use Rattle.ken_work.specs.First.{AreFirst}
+use Rattle.ken_work.specs.Parts.{CountsAnew}
 use Rattle.ken_node.specs.Restarting.{LeaveLess}
 use Rattle.ken_node.specs.Stages.{owner_in}
 use Rattle.ken_node.proofs.FoundAgain.{fresh-is-first, left-is-sound}
@@ -112,6 +113,12 @@ module _ {D : Type 0} (told : D → Option Story) (g : Game) (v : ℕ) (given : 
       let below = turning.owner.node in
       let mails = log-mails t.owner.node (omega (arith, few, below)) t.owner t.log.header t.log.base t.records.items t.numbers few turning.log.header turning.items turning.numbers in
       subst (λ (u : ℕ). All (IsMailFrom u) state.messages) node (subst (λ (s : State). All (IsMailFrom t.owner.node) s.messages) (sym ready.tells) mails)
+
+-- after an error of the store the count of refusals is as it was
+pub counts-still : (fault : StoreFault) (k : ℕ) → CountsAnew {T = ℕ} (node_answer (Err fault)) k k
+counts-still store.Disk k = refl
+counts-still store.Memory k = refl
+counts-still (store.Damaged disk place) k = refl
 
 pub on-err : {T E : Type 0} (r : Result T E) (P : Type 0) → P → OnErr r P
 on-err (Ok x) P holds = tt

@@ -136,10 +136,11 @@ impl<D: Disk> Node<D> {
 }
 
 impl<D: Disk> Node<Watched<D>> {
-    ghost use Rattle.std.specs.Prelude.{◌≡◌, ◌≤◌};
+    ghost use Rattle.std.specs.Prelude.{◌≡◌};
     ghost use Rattle.ken_node.specs.Clauses.{ComesUp, KeepsSynced, RestartsDisks, StaysDown};
     ghost use Rattle.ken_node.specs.Down.{MayRestart};
     ghost use Rattle.ken_work.specs.Faults.{IsFaultOfWorker};
+    ghost use Rattle.ken_work.specs.Parts.{CountsAnew};
     ghost use Rattle.ken_node.specs.Stages.{emissions_in, refusals_in};
 
     /// Restarts the node: its workers meet, all its disks are restarted, and the node goes on with what they hold then. It
@@ -153,7 +154,7 @@ impl<D: Disk> Node<Watched<D>> {
         ensures synced { KeepsSynced ⟦<Watched<D> as Disk>⟧.told ⟦<Watched<D> as Disk>⟧.faults self.old.stage self.new.stage }
         ensures sound { IsFaultOfWorker result }
         ensures emissions { emissions_in self.new.stage ≡ emissions_in self.old.stage }
-        ensures refusals { refusals_in self.new.stage ≤ refusals_in self.old.stage }
+        ensures refusals { CountsAnew result (refusals_in self.old.stage) (refusals_in self.new.stage) }
         ensures disks { RestartsDisks ⟦<Watched<D> as Disk>⟧.told ⟦<Watched<D> as Disk>⟧.faults ⟦<Watched<D> as Disk>⟧.fate ⟦<Watched<D> as Disk>⟧.hinted
             self.old.stage result self.new.stage }
     {

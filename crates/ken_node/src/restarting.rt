@@ -16,6 +16,7 @@ ghost use Rattle.ken_node.specs.Down.{AreReady, AreTold, IsDown, IsOfNode, MayRe
 ghost use Rattle.ken_work.specs.Faults.{IsFaultOfWorker};
 ghost use Rattle.ken_work.specs.Meeting.{AreJoined};
 ghost use Rattle.ken_work.specs.News.{AreInputs};
+ghost use Rattle.ken_work.specs.Parts.{CountsAnew};
 ghost use Rattle.ken_node.specs.Restarting.{GoesOn, HaveCounts, IsCreatedAnew, IsPutBack, LeaveLess, RecoversBy, none_made, stage_of};
 ghost use Rattle.ken_node.specs.Restarts.{RestartsBy, WereRestarted, pick_of};
 ghost use Rattle.ken_node.specs.Stages.{HasDisks, IsUncreated, MayBeCreated, disk_owner, emissions_in, owner_in, refusals_in, turns_in};
@@ -58,7 +59,7 @@ impl<D: Disk> Stage<Watched<D>> {
         ensures here { result.0 ≡ Stage.Moved → ⊥ }
         ensures sound { IsFaultOfWorker result.1 }
         ensures emissions { emissions_in result.0 ≡ emissions_in self }
-        ensures refusals { refusals_in result.0 ≤ refusals_in self }
+        ensures refusals { CountsAnew result.1 (refusals_in self) (refusals_in result.0) }
         ensures disks { RestartsDisks ⟦<Watched<D> as Disk>⟧.told ⟦<Watched<D> as Disk>⟧.faults ⟦<Watched<D> as Disk>⟧.fate ⟦<Watched<D> as Disk>⟧.hinted
             self result.1 result.0 }
     {
@@ -136,7 +137,7 @@ fn up_again<D: Disk>(
     ensures here { result.0 ≡ Stage.Moved → ⊥ }
     ensures sound { IsFaultOfWorker result.1 }
     ensures emissions { emissions_in result.0 ≡ (part_of parts.sends).emissions }
-    ensures refusals { refusals_in result.0 ≤ (part_of parts.sends).refusals }
+    ensures refusals { CountsAnew result.1 (part_of parts.sends).refusals (refusals_in result.0) }
     ensures disks { (new : Has D) → HasDisks new result.0 → RestartsBy D.told D.faults D.fate (owner_in parts) pick result.1 disks new }
 {
     match restart_all(&mut disks, pick) {
@@ -155,7 +156,7 @@ fn recovered<D: Disk>(disks: Disks<D>, parts: Parts) -> (Stage<D>, Result<u64, N
     ensures here { result.0 ≡ Stage.Moved → ⊥ }
     ensures sound { IsFaultOfWorker result.1 }
     ensures emissions { emissions_in result.0 ≡ (part_of parts.sends).emissions }
-    ensures refusals { refusals_in result.0 ≤ (part_of parts.sends).refusals }
+    ensures refusals { CountsAnew result.1 (part_of parts.sends).refusals (refusals_in result.0) }
     ensures disks { (new : Has D) → HasDisks new result.0 → RecoversBy D.told D.faults D.fate (owner_in parts) result.1 disks new }
 {
     match recover(parts.alloc, disks, parts.node, parts.nodes, parts.size) {
@@ -209,7 +210,7 @@ fn gone_on<D: Disk>(
     ensures memory { IfErr result.1 (λ fault. fault ≡ NodeFault.Memory) }
     ensures here { result.0 ≡ Stage.Moved → ⊥ }
     ensures emissions { emissions_in result.0 ≡ (part_of parts.sends).emissions }
-    ensures refusals { refusals_in result.0 ≤ (part_of parts.sends).refusals }
+    ensures refusals { CountsAnew result.1 (part_of parts.sends).refusals (refusals_in result.0) }
     ensures disks { HasDisks (disks_in store) result.0 }
 {
     match parts.resume(state, records) {

@@ -1,5 +1,5 @@
 -- What a node's workers are made of: workers of these over a store, and these of workers that are taken apart.
-use Rattle.std.specs.Prelude.{◌≡◌, ℕ, ◌-◌, nat_lt, if◌then◌else◌, List, ◌∷◌, [], ◌++◌, length, map, drop, replicate, Option, Some, None, vec_capacity, vec_len}
+use Rattle.std.specs.Prelude.{◌≡◌, ℕ, ◌-◌, nat_lt, if◌then◌else◌, List, ◌∷◌, [], ◌++◌, length, map, drop, replicate, Option, Some, None, Result, Ok, Err, vec_capacity, vec_len}
 use Rattle.ken_model.specs.declared.states.State.{State}
 use Rattle.ken_record.specs.declared.effects.Effects.{Effects}
 use Rattle.ken_record.specs.declared.record.Record.{Record}
@@ -75,6 +75,12 @@ pub record AreUnchanged (old new : Parts) : Type 0 where
   pub same : IsSameParts old new
   pub turns : new.turns.items ≡ old.turns.items
   pub part : part_of new.sends ≡ part_of old.sends
+
+-- how often the output that is due was refused, before and after what may go on from a state: the count begins anew, and after an error
+-- it is as it was
+abbrev pub CountsAnew : {T E : Type 0} → Result T E → ℕ → ℕ → Type 0
+CountsAnew (Ok x) old new = new ≡ 0
+CountsAnew (Err fault) old new = new ≡ old
 
 -- they are what a state and the records of its log tell
 pub record HaveResumed (state : State) (records : List Record) (old new : Parts) : Type 0 where

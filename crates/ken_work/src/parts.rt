@@ -3,7 +3,7 @@ ghost use Rattle.std.specs.Prelude.{◌≡◌, ◌<◌, ◌≤◌, length, vec_c
 ghost use Rattle.std.specs.List.{All};
 ghost use Rattle.ken_model.specs.Game.{game_of};
 ghost use Rattle.ken_model.specs.Limits.{IsWithinLimits};
-ghost use Rattle.ken_work.specs.Parts.{AreOver, kept_turns, ArePartsOf, AreUnchanged, HaveResumed, IsSameParts, with_turn};
+ghost use Rattle.ken_work.specs.Parts.{AreOver, CountsAnew, kept_turns, ArePartsOf, AreUnchanged, HaveResumed, IsSameParts, with_turn};
 ghost use Rattle.ken_work.specs.First.{AreFirst};
 ghost use Rattle.ken_work.specs.News.{AreInputs};
 ghost use Rattle.ken_ship.specs.Fits.{IsMailFrom};
@@ -174,7 +174,7 @@ impl Parts {
         requires sent { length state.now.sent ≡ 8 }
         requires mails { All (IsMailFrom self.old.sends.backlog.node) state.now.messages }
         ensures rest { IsSameParts self.old self.new }
-        ensures refusals { (part_of self.new.sends).refusals ≤ (part_of self.old.sends).refusals }
+        ensures refusals { CountsAnew result (part_of self.old.sends).refusals (part_of self.new.sends).refusals }
         ensures ok { OnOk result (HaveResumed state.now records.now self.old self.new) }
         ensures err { OnErr result (AreUnchanged self.old self.new) }
     {

@@ -1,5 +1,5 @@
 use Rattle.ken_node.proofs.RestartSynced.{less-synced, read-work, same-tell, stage-synced}
-use Rattle.std.proofs.Common.{◌≡◌, ℕ, List, Result, Ok, Err, refl, subst, sym, arith}
+use Rattle.std.proofs.Common.{◌≡◌, ℕ, List, Result, Ok, Err, refl, subst, sym}
 use Rattle.ken_node.specs.declared.stage.Stage.TheVariants.{Uncreated}
 use Rattle.std.specs.Prelude.{OnOk}
 use Rattle.ken_record.specs.declared.record.Record.{Record}
@@ -8,11 +8,13 @@ use Rattle.ken_store.specs.declared.store.Recovered.{Recovered}
 use Rattle.ken_store.specs.declared.store.Recovered.TheVariants as found
 use Rattle.ken_store.specs.Answers.{disks_in}
 use Rattle.ken_ship.specs.declared.faults.NodeFault.{NodeFault}
+use Rattle.ken_ship.specs.Parts.{part_of}
 use Rattle.ken_work.specs.Faults.{IsFaultOfWorker}
+use Rattle.ken_work.specs.Parts.{CountsAnew}
 use Rattle.ken_node.specs.Restarting.{GoesOn, RecoversBy}
 use Rattle.ken_node.specs.Stages.{owner_in}
-use Rattle.ken_node.proofs.Fresh.{found-by, found-down, found-emissions, found-refusals, found-up, has-one, uncreated, whole-by}
-use Rattle.ken_node.proofs.Recovered.{IsFound, on-err, read-less, recovers-sound, state-mails, tell-now}
+use Rattle.ken_node.proofs.Fresh.{found-by, found-counts, found-down, found-emissions, found-up, has-one, uncreated, whole-by}
+use Rattle.ken_node.proofs.Recovered.{IsFound, counts-still, on-err, read-less, recovers-sound, state-mails, tell-now}
 use Rattle.ken_node.proofs.Restarted.{down-on}
 use Rattle.ken_node.proofs.WholeAgain.{backs-down, whole-up}
 use Rattle.ken_node.proofs.restarting.recovered.Goals as goal
@@ -76,8 +78,7 @@ returns-in-Ok-Fresh-clause-refusals g c =
     let f = subst (IsFound g.D.Disk.told g.D.Disk.size g.D.Disk.faults g.D.Disk.fate c.args.disks c.args.parts) is (record { answers = e.answers; records = e.records; ready = e.ready; reads = e.reads }) in
     let new = c.in-Ok-Fresh.disks in
     let made = c.created_anew.ensures.creation r.game r.node new (uncreated g.D.Disk.told g.D.Disk.size g.D.Disk.faults g.D.Disk.fate r.game r.node r.given r.stood_for r.doubt c.args.disks new c.args.parts r.down c.requires.rests f.answers f.reads) in
-    let same = found-refusals g.D.Disk.told g.D.Disk.size g.D.Disk.faults g.D.Disk.fate r.game r.node r.given r.stood_for r.doubt c.args.disks new c.args.parts r.down c.requires.rests f.answers f.reads f.ready c.created_anew.result.0 c.created_anew.result.1 made in
-    omega (arith, same)
+    found-counts g.D.Disk.told g.D.Disk.size g.D.Disk.faults g.D.Disk.fate r.game r.node r.given r.stood_for r.doubt c.args.disks new c.args.parts r.down c.requires.rests f.answers f.reads f.ready c.created_anew.result.0 c.created_anew.result.1 made
 
 pub returns-in-Ok-Fresh-clause-disks : goal.returns-in-Ok-Fresh-clause-disks
 returns-in-Ok-Fresh-clause-disks g c = λ after has.
@@ -131,6 +132,11 @@ returns-in-Err-clause-sound g c =
     let r = c.requires.down in
     subst (λ (a : Result ℕ NodeFault). IsFaultOfWorker a) (sym c.answered.ensures)
     (recovers-sound g.D.Disk.told r.game r.node r.given r.stood_for r.doubt c.args.disks c.args.parts r.down c.requires.rests c.in-Err.fault c.in-Err.ensures.answers)
+
+pub returns-in-Err-clause-refusals : goal.returns-in-Err-clause-refusals
+returns-in-Err-clause-refusals g c =
+    let k = (part_of c.args.parts.sends).refusals in
+    subst (λ (a : Result ℕ NodeFault). CountsAnew a k k) (sym c.answered.ensures) (counts-still c.in-Err.fault k)
 
 pub returns-in-Ok-Fresh-clause-synced : goal.returns-in-Ok-Fresh-clause-synced
 returns-in-Ok-Fresh-clause-synced g c = λ game v given n doubt d before.

@@ -5,7 +5,8 @@ use Rattle.ken_node.specs.declared.stage.Stage.{Stage}
 use Rattle.ken_node.specs.declared.watched.Watched.{Watched}
 use Rattle.ken_node.specs.Down.{IsDown, MayRestart}
 use Rattle.ken_node.specs.Restarts.{IsUpAgain, RestartsBy, pick_of}
-use Rattle.ken_node.specs.Stages.{HasDisks, disk_owner}
+use Rattle.ken_node.specs.Stages.{HasDisks, disk_owner, refusals_in}
+use Rattle.ken_work.specs.Parts.{CountsAnew}
 use Rattle.ken_node.proofs.node.Node+Watched+D.restart.Goals as goal
 
 pub restarted-stage-requires : goal.restarted-stage-requires
@@ -39,3 +40,10 @@ returns-clause-synced g c = λ game v given n doubt d before.
     let faults = λ (w : Watched g.row.D.Denot). g.D.Disk.faults w.disk in
     subst (IsSynced told faults game v) (sym c.replace-2.ensures.after)
     (c.restarted-stage.ensures.synced game v given n doubt (subst (IsDown told game v given n doubt) (sym c.replace.ensures.value) d) (subst (IsSynced told faults game v) (sym c.replace.ensures.value) before))
+
+pub returns-clause-refusals : goal.returns-clause-refusals
+returns-clause-refusals g c =
+    let answer = c.restarted-stage.result.1 in
+    let stage = c.restarted-stage.result.0 in
+    subst (λ (s : Stage (Watched g.row.D.Denot)). CountsAnew answer (refusals_in c.args.self.now.stage) (refusals_in s)) (sym c.replace-2.ensures.after)
+    (subst (λ (s : Stage (Watched g.row.D.Denot)). CountsAnew answer (refusals_in s) (refusals_in stage)) c.replace.ensures.value c.restarted-stage.ensures.refusals)

@@ -6,7 +6,8 @@ use Rattle.ken_node.specs.Synced.{LeavesSynced}
 use Rattle.std.proofs.Common.{ℕ, refl, subst}
 use Rattle.ken_node.specs.Down.{IsOfNode}
 use Rattle.ken_node.specs.Restarts.{RestartsBy, pick_of}
-use Rattle.ken_node.specs.Stages.{owner_in}
+use Rattle.ken_node.specs.Stages.{owner_in, refusals_in}
+use Rattle.ken_work.specs.Parts.{CountsAnew}
 use Rattle.ken_node.proofs.Fresh.{has-one}
 use Rattle.ken_node.proofs.restarting.Stage+Watched+D.restarted.Goals as goal
 
@@ -51,3 +52,6 @@ returns-in-Err-clause-synced g c = λ game v given n doubt d before.
     let told = λ (w : Watched g.row.D.Denot). g.D.Disk.told w.disk in
     let faults = λ (w : Watched g.row.D.Denot). g.D.Disk.faults w.disk in
     stage-synced told faults game v d.disks c.in-Err.stage (c.in-Err.ensures.disks d.disks d.has) (before d.disks d.has)
+
+pub returns-in-Ok-clause-refusals : goal.returns-in-Ok-clause-refusals
+returns-in-Ok-clause-refusals g c = subst (λ (k : ℕ). CountsAnew c.up_again.result.1 k (refusals_in c.up_again.result.0)) c.in-Ok.ensures.refusals c.up_again.ensures.refusals
