@@ -17,12 +17,14 @@ use Rattle.ken_core.specs.Calls.{Doubt}
 use Rattle.ken_core.specs.Nodes.{Node}
 use Rattle.ken_core.specs.Packets.{nothing}
 use Rattle.ken_store.specs.declared.disks.Disks.{Disks}
+use Rattle.ken_store.specs.declared.owner.Owner.{Owner}
 use Rattle.ken_ship.specs.declared.faults.NodeFault.{NodeFault}
 use Rattle.ken_ship.specs.declared.faults.NodeFault.TheVariants.{Disk, Damaged, Outlet, Memory}
+use Rattle.ken_node.specs.declared.stage.Stage.{Stage}
 use Rattle.ken_node.specs.declared.watched.Watched.{Watched}
 use Rattle.ken_node.specs.NodeCalls.{UnlessMemory}
-use Rattle.ken_node.specs.Restarts.{RestartsBy, WereRestarted}
-use Rattle.ken_node.specs.Stages.{HasDisks, emissions_in, turns_in}
+use Rattle.ken_node.specs.Restarts.{AreUnfailed, RestartsBy, WereRestarted}
+use Rattle.ken_node.specs.Stages.{HasDisks, disk_owner, emissions_in, turns_in}
 use Rattle.ken_node.specs.Synced.{IsSynced}
 use Rattle.ken_run.specs.declared.faults.RunFault.{RunFault}
 use Rattle.ken_run.specs.declared.run.Run.{Run}
@@ -67,13 +69,18 @@ restarted-sum told count fate pick a b w = let l = w.log.faults in let i = w.ima
 
 -- ---- a restart
 
+-- after Ok none of the restarted disks failed
+up-unfailed : {D : Type 0} (told : D → Option Story) (count : D → ℕ) (fate : D → Option Fate) (o : Owner) (pick : Disks D → ℕ) (old new : Stage D) → ((d d2 : Disks D) → HasDisks d old → HasDisks d2 new → RestartsBy told count fate {T = Unit {0}} o (pick d) (Ok tt) d d2)
+    → (d d2 : Disks D) → HasDisks d old → HasDisks d2 new → (mid : Disks D) × (WereRestarted told count fate (pick d) d mid × AreUnfailed told count fate mid d2)
+up-unfailed told count fate o pick old new by d d2 had has = let is = by d d2 had has in (is.0, (is.1.0, is.1.1.unfailed))
+
 module _ {D O U : Type 0} (told : Watched D → Option Story) (size : Watched D → ℕ) (count : Watched D → ℕ) (fate : Watched D → Option Fate) (telling : Telling O) (terms : Terms) (g : Game) (v : ℕ) (s s2 : Station D O U) (h : IsHeld told count fate telling terms g v s) (less : s.restarts < terms.most)
     (luck-is : s2.luck ≡ s.luck) (synced : IsSynced told count g v s2.node.stage) (emissions : emissions_in s2.node.stage ≡ emissions_in s.node.stage) where
   origin-still : IsOf terms.scripted telling s2.luck v terms.seed
   origin-still = subst (λ (o : O). IsOf terms.scripted telling o v terms.seed) (sym luck-is) h.books.origin
 
   pub restart-station : (pick : Disks (Watched D) → ℕ) (result : Result (Unit {0}) NodeFault) → RestartsStation told size result g v h.given h.stood_for h.doubt s s2
-      → ((d d2 : Disks (Watched D)) → HasDisks d s.node.stage → HasDisks d2 s2.node.stage → UnlessMemory result (RestartsBy told count fate (pick d) result d d2)) → AccountsStation told count fate telling terms g result v s2
+      → ((d d2 : Disks (Watched D)) → HasDisks d s.node.stage → HasDisks d2 s2.node.stage → UnlessMemory result (RestartsBy told count fate (disk_owner s.node.stage) (pick d) result d d2)) → AccountsStation told count fate telling terms g result v s2
   restart-station pick (Ok x) b disks =
       let n = h.stood_for in
       let up = b.1.0 in
@@ -88,10 +95,11 @@ module _ {D O U : Type 0} (told : Watched D → Option Story) (size : Watched D 
       let tried : s2.restarts ≡ s.restarts + 1 = b.1.2 in
       let long : length s2.lines.items ≡ length s.lines.items + 1 = ap (λ (ls : List ℕ). length ls) b.1.1 ∙ length_push s.lines.items turns in
       let few = h.books.few in
+      let none-failed = up-unfailed told count fate (disk_owner s.node.stage) pick s.node.stage s2.node.stage disks in
       record {
         books = record {
           synced = synced;
-          own = subst (λ (k : ℕ). HasOwnDisks fate terms.scripted (terms.origins v) k s2.node.stage) (sym tried) (own-up told count fate terms.scripted s.node.stage s2.node.stage h.down.disks h.down.has (terms.origins v) s.restarts h.books.own pick disks);
+          own = subst (λ (k : ℕ). HasOwnDisks fate terms.scripted (terms.origins v) k s2.node.stage) (sym tried) (own-up told count fate terms.scripted s.node.stage s2.node.stage h.down.disks h.down.has (terms.origins v) s.restarts h.books.own pick none-failed);
           origin = origin-still;
           lines = subst (λ (ls : List ℕ). NeverFall 0 ls (length (turns_in s2.node.stage))) (sym b.1.1) (subst (λ (k : ℕ). NeverFall 0 (s.lines.items ++ turns ∷ []) k) (counted ∙ sym high) (never-push 0 s.lines.items (length (turns_in s.node.stage)) turns h.books.lines (omega (arith, longer, counted, was))));
           few = omega (arith, few, long, tried);
@@ -103,10 +111,10 @@ module _ {D O U : Type 0} (told : Watched D → Option Story) (size : Watched D 
         causes = λ d2 h2.
             let by = disks h.down.disks d2 h.down.has h2 in
             let mid = restarted-sum told count fate (pick h.down.disks) h.down.disks by.0 by.1.0 in
-            let end = unfailed-sum told count fate by.0 d2 by.1.1 in
+            let end = unfailed-sum told count fate by.0 d2 by.1.1.unfailed in
             let so = h.causes h.down.disks h.down.has in
             omega (arith, mid, end, so, tried);
-        fates = subst (λ (k : ℕ). HasFates fate terms.scripted (AreRaised (terms.cuts v) k) s2.node.stage) (sym tried) (fates-raised told count fate terms.scripted s.node.stage s2.node.stage h.down.disks h.down.has (terms.cuts v) (s.restarts + 1) pick disks h.fates);
+        fates = subst (λ (k : ℕ). HasFates fate terms.scripted (AreRaised (terms.cuts v) k) s2.node.stage) (sym tried) (fates-raised told count fate terms.scripted s.node.stage s2.node.stage h.down.disks h.down.has (terms.cuts v) (s.restarts + 1) pick none-failed h.fates);
         calm = λ none. absurd (let empty : length s2.lines.items ≡ 0 = ap (λ (ls : List ℕ). length ls) none in omega (arith, empty, long));
         again =
             let again = h.again in
@@ -166,12 +174,12 @@ module _ {D O U A : Type 0} (told : Watched D → Option Story) (size : Watched 
   restart-accounts width low stations kept (Err (Damaged disk place)) by = tt
 
 -- a restart's error is its node's
-pub restart-disks-err : {D : Type 0} (told : D → Option Story) (count : D → ℕ) (fate : D → Option Fate) (pick : ℕ) (result : Result (Unit {0}) NodeFault) (fault : NodeFault) (a b : Disks D) → IsErrAnd result (λ e. e ≡ fault) → RestartsBy told count fate {T = ℕ} pick (Err fault) a b → UnlessMemory result (RestartsBy told count fate pick result a b)
-restart-disks-err told count fate pick (Ok x) fault a b same by = absurd same
-restart-disks-err told count fate pick (Err Disk) fault a b same by = subst (λ (x : NodeFault). RestartsBy told count fate {T = ℕ} pick (Err x) a b) (sym same) by
-restart-disks-err told count fate pick (Err Memory) fault a b same by = tt
-restart-disks-err told count fate pick (Err Outlet) fault a b same by = subst (λ (x : NodeFault). RestartsBy told count fate {T = ℕ} pick (Err x) a b) (sym same) by
-restart-disks-err told count fate pick (Err (Damaged disk place)) fault a b same by = subst (λ (x : NodeFault). RestartsBy told count fate {T = ℕ} pick (Err x) a b) (sym same) by
+pub restart-disks-err : {D : Type 0} (told : D → Option Story) (count : D → ℕ) (fate : D → Option Fate) (o : Owner) (pick : ℕ) (result : Result (Unit {0}) NodeFault) (fault : NodeFault) (a b : Disks D) → IsErrAnd result (λ e. e ≡ fault) → RestartsBy told count fate {T = ℕ} o pick (Err fault) a b → UnlessMemory result (RestartsBy told count fate o pick result a b)
+restart-disks-err told count fate o pick (Ok x) fault a b same by = absurd same
+restart-disks-err told count fate o pick (Err Disk) fault a b same by = subst (λ (x : NodeFault). RestartsBy told count fate {T = ℕ} o pick (Err x) a b) (sym same) by
+restart-disks-err told count fate o pick (Err Memory) fault a b same by = tt
+restart-disks-err told count fate o pick (Err Outlet) fault a b same by = subst (λ (x : NodeFault). RestartsBy told count fate {T = ℕ} o pick (Err x) a b) (sym same) by
+restart-disks-err told count fate o pick (Err (Damaged disk place)) fault a b same by = subst (λ (x : NodeFault). RestartsBy told count fate {T = ℕ} o pick (Err x) a b) (sym same) by
 
 -- ---- one call after another
 

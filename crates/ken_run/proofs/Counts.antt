@@ -3,6 +3,7 @@ use Rattle.std.proofs.Common.{ℕ, inl, inr, Option, Result, Ok, Err, subst, ari
 use Rattle.ken_disk.specs.Fates.{Fate}
 use Rattle.ken_disk.specs.Story.{Story}
 use Rattle.ken_store.specs.declared.disks.Disks.{Disks}
+use Rattle.ken_store.specs.declared.owner.Owner.{Owner}
 use Rattle.ken_ship.specs.declared.faults.NodeFault.{NodeFault}
 use Rattle.ken_ship.specs.declared.faults.NodeFault.TheVariants.{Disk, Damaged, Outlet, Memory}
 use Rattle.ken_node.specs.declared.stage.Stage.{Stage}
@@ -46,12 +47,12 @@ module _ {D : Type 0} (told : D → Option Story) (count : D → ℕ) (fate : D 
   restarted-kept pick a b is = let l = is.log.faults in let i = is.image.faults in let s = is.second.faults in record { log = omega (arith, l); image = omega (arith, i); second = omega (arith, s) }
 
   -- so in a restart, whatever it answers
-  pub restart-kept : {T : Type 0} (pick : ℕ) (result : Result T NodeFault) (a b : Disks D) → RestartsBy told count fate pick result a b → NoneFell count a b
-  restart-kept pick (Ok x) a b by = none-fell-then count a by.0 b (restarted-kept pick a by.0 by.1.0) (unfailed-kept by.0 b by.1.1)
-  restart-kept pick (Err Disk) a b by = none-fell-then count a by.0 b (restarted-kept pick a by.0 by.1.0) (failed-kept by.0 b by.1.1)
-  restart-kept pick (Err Memory) a b by = let l = by.0 in let i = by.1 in let s = by.2 in record { log = omega (arith, l); image = omega (arith, i); second = omega (arith, s) }
-  restart-kept pick (Err Outlet) a b by = absurd by
-  restart-kept pick (Err (Damaged disk place)) a b by = none-fell-then count a by.0 b (restarted-kept pick a by.0 by.1.0) (unfailed-kept by.0 b by.1.1)
+  pub restart-kept : {T : Type 0} (o : Owner) (pick : ℕ) (result : Result T NodeFault) (a b : Disks D) → RestartsBy told count fate o pick result a b → NoneFell count a b
+  restart-kept o pick (Ok x) a b by = none-fell-then count a by.0 b (restarted-kept pick a by.0 by.1.0) (unfailed-kept by.0 b by.1.1.unfailed)
+  restart-kept o pick (Err Disk) a b by = none-fell-then count a by.0 b (restarted-kept pick a by.0 by.1.0) (failed-kept by.0 b by.1.1)
+  restart-kept o pick (Err Memory) a b by = let l = by.0 in let i = by.1 in let s = by.2 in record { log = omega (arith, l); image = omega (arith, i); second = omega (arith, s) }
+  restart-kept o pick (Err Outlet) a b by = absurd by
+  restart-kept o pick (Err (Damaged disk place)) a b by = none-fell-then count a by.0 b (restarted-kept pick a by.0 by.1.0) (unfailed-kept by.0 b by.1.1)
 
 -- one restart more of a station that is down still
 pub raised-kept : {D O U : Type 0} (told : Watched D → Option Story) (count : Watched D → ℕ) (old mid new : Station D O U) → MayRestart told old.node.stage → IsDownStill told old mid

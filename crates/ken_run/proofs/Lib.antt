@@ -31,4 +31,5 @@ pub mod Refusals
 pub mod RefusalsFirst
 pub mod StartingNode
 pub mod Counts
+pub mod CountsAnew
 pub mod StartingRun

@@ -195,13 +195,13 @@ module _ {D O U : Type 0} (told : Watched D → Option Story) where
     pub emissions : emissions_in new.node.stage ≡ emissions_in old.node.stage
     pub rest : new ≡ record old { node = new.node; restarts = new.restarts; lines = new.lines }
 
-  -- and one that was held, with no more refusals
+  -- and one that was held, with as many refusals
   pub record IsHeldStill (count : Watched D → ℕ) (fate : Watched D → Option Fate) (telling : Telling O) (most : ℕ) (old new : Station D O U) : Type 0 where
     pub held : (terms : Terms) (g : Game) (v : ℕ) → most ≤ terms.most → IsHeld told count fate telling terms g v old → IsHeld told count fate telling terms g v new
-    pub refusals : refusals_in new.node.stage ≤ refusals_in old.node.stage
+    pub refusals : refusals_in new.node.stage ≡ refusals_in old.node.stage
 
   pub held-at-first : (count : Watched D → ℕ) (fate : Watched D → Option Fate) (telling : Telling O) (most : ℕ) (s : Station D O U) → IsHeldStill count fate telling most s s
-  held-at-first count fate telling most s = record { held = λ terms g v few is. is; refusals = omega arith }
+  held-at-first count fate telling most s = record { held = λ terms g v few is. is; refusals = refl }
 
   pub down-at-first : (s : Station D O U) → IsDownStill s s
   down-at-first s = record { down = λ g v given n doubt is. is; lines = refl; tries = omega arith; emissions = refl; rest = refl }

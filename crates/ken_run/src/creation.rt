@@ -1,6 +1,7 @@
 // The creation of a run, and of its nodes.
-ghost use Rattle.std.specs.Prelude.{◌≡◌, ◌≤◌, ◌^◌, ◌<◌, ◌+◌, [], replicate, IfOk};
+ghost use Rattle.std.specs.Prelude.{◌≡◌, ◌^◌, ◌<◌, ◌+◌, [], replicate, IfOk};
 ghost use Rattle.ken_node.specs.Stages.{refusals_in};
+ghost use Rattle.ken_work.specs.Parts.{CountsAnew};
 ghost use Rattle.ken_run.specs.Clauses.{AccountsJoined, AddsStation, JoinsRun, MayAdd, RefusesJoined};
 ghost use Rattle.ken_run.specs.StationClauses.{AccountsBegun, AccountsMade, AccountsRaised, Begins, IsMade, IsRaised, IsRestartOf, KeepsCounts, KeepsEmissions, MayBegin, MayComeBack, RefusedNone};
 
@@ -24,7 +25,7 @@ impl<D: Disk, O: Oracle, U: Outlet> Station<D, O, U> {
         ensures accounts { AccountsRaised D.Disk O.Oracle most self.old result self.new }
         ensures counts { KeepsCounts D.Disk self.old self.new }
         ensures emissions { KeepsEmissions self.old self.new }
-        ensures refusals { refusals_in self.new.node.stage ≤ refusals_in self.old.node.stage }
+        ensures refusals { CountsAnew result (refusals_in self.old.node.stage) (refusals_in self.new.node.stage) }
         ensures rest { IsRestartOf self.old self.new }
     {
         'tries: while self.restarts < most {

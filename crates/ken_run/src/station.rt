@@ -1,11 +1,12 @@
 // A node of a run with all that is its own.
-ghost use Rattle.std.specs.Prelude.{◌≡◌, ◌<◌, ◌≤◌, ◌+◌, ◌^◌, ◌⊎◌, [], length, IfOk, OnOk};
+ghost use Rattle.std.specs.Prelude.{◌≡◌, ◌<◌, ◌+◌, ◌^◌, ◌⊎◌, [], length, IfOk, OnOk};
 ghost use Rattle.ken_app.specs.Oracles.{HasAnswered};
 ghost use Rattle.ken_ship.specs.Causes.{HasCause};
 ghost use Rattle.ken_ship.specs.Emitting.{outlet_answer};
 ghost use Rattle.ken_ship.specs.Fates.{Follows, Suffers};
 ghost use Rattle.ken_node.specs.NodeCalls.{UnlessMemory};
 ghost use Rattle.ken_node.specs.Stages.{refusals_in};
+ghost use Rattle.ken_work.specs.Parts.{CountsAnew};
 ghost use Rattle.ken_run.specs.Ends.{WereGiven};
 ghost use Rattle.ken_run.specs.StationClauses.{
   AccountsBack,
@@ -141,7 +142,7 @@ impl<D: Disk, O: Oracle, U: Outlet> Station<D, O, U> {
         requires tries { self.old.restarts + 1 < 2 ^ 64 }
         ensures back { ComesBack D.Disk self.old result self.new }
         ensures emissions { KeepsEmissions self.old self.new }
-        ensures refusals { refusals_in self.new.node.stage ≤ refusals_in self.old.node.stage }
+        ensures refusals { CountsAnew result (refusals_in self.old.node.stage) (refusals_in self.new.node.stage) }
         ensures accounts { AccountsBack D.Disk O.Oracle self.old result self.new }
         ensures counts { KeepsCounts D.Disk self.old self.new }
         ensures rest { IsRestartOf self.old self.new }

@@ -2,7 +2,9 @@
 use Rattle.std.proofs.Common.{◌≡◌, ◌∙◌, ◌<◌, slice_index_or, slice_set, refl, sym, ap, subst, arith}
 use Rattle.std.specs.Vec.{with_item}
 use Rattle.ken_node.specs.Down.{IsDown}
+use Rattle.ken_node.specs.Stages.{refusals_in}
 use Rattle.ken_run.proofs.AccountsRestarts.{held-before, restart-accounts}
+use Rattle.ken_run.proofs.CountsAnew.{counts-less}
 use Rattle.ken_run.proofs.Leaving.{restart-leaves, restart-tried, tries-after, tries-is}
 use Rattle.ken_run.proofs.Refusals.{call-refused, restart-tells-none}
 use Rattle.ken_run.proofs.run.Run.restart_once.Goals as goal
@@ -71,7 +73,7 @@ returns-clause-refused g c = λ terms made low are.
     call-refused g.U.Outlet.faults g.U.Outlet.fate terms made c.args.self.now (record c.args.self.now { stations = with_item c.args.self.now.stations c.from.result c.restart.new.self }) c.args.node c.index_mut.result.now c.restart.new.self low (subst (λ n. c.args.node < n) (sym stopped.stands.width) stopped.known) is (ap (λ k. slice_set c.args.self.now.stations.items k c.restart.new.self) c.from.ensures) are c.restart.result
     (restart-tells-none (λ w. g.D.Disk.told w.disk) (λ w. g.D.Disk.size w.disk) c.requires.may.game c.args.node stopped.given (stopped.nodes c.args.node) stopped.doubt c.index_mut.result.now c.restart.new.self c.restart.result
     (c.restart.ensures.back c.requires.may.game c.args.node stopped.given (stopped.nodes c.args.node) stopped.doubt (subst (λ x. IsDown (λ w. g.D.Disk.told w.disk) c.requires.may.game c.args.node stopped.given (stopped.nodes c.args.node) stopped.doubt x.node.stage) is (stopped.down c.index_mut.result.now))))
-    c.restart.ensures.refusals (ap (λ x. x.out) c.restart.ensures.rest)
+    (counts-less c.restart.result (refusals_in c.index_mut.result.now.node.stage) (refusals_in c.restart.new.self.node.stage) c.restart.ensures.refusals) (ap (λ x. x.out) c.restart.ensures.rest)
 
 pub returns-clause-restarted : goal.returns-clause-restarted
 returns-clause-restarted g c =

@@ -4,6 +4,8 @@ use Rattle.ken_ship.specs.declared.faults.NodeFault.TheVariants.{Disk}
 use Rattle.ken_core.specs.Calls.{no_doubt}
 use Rattle.ken_core.specs.Nodes.{first_node}
 use Rattle.ken_node.specs.Created.{IsCreation}
+use Rattle.ken_node.specs.Stages.{refusals_in}
+use Rattle.ken_run.proofs.CountsAnew.{counts-none}
 use Rattle.ken_run.proofs.StartingNode.{accounted-at-once, blank-are-told, held-at-once, unrefused-after, created-at-once, created-by-restarts, failed-creation, may-be-created}
 use Rattle.ken_run.proofs.station.Station.create.Goals as goal
 
@@ -39,8 +41,7 @@ returns-in-Err-Disk-clause-refusals g c = λ game v born.
     let creation = subst (λ x. IsCreation {T = Unit {0}} (λ w. g.D.Disk.told w.disk) (λ w. g.D.Disk.size w.disk) (λ w. g.D.Disk.faults w.disk) (λ w. g.D.Disk.fate w.disk) game v (Err x) born.over.disks c.create.new.self.stage) c.in-Err-Disk.field-0-is (c.in-Err-Disk.ensures.creation game v born.over.disks born.over.uncreated) in
     let none =
     unrefused-after (λ w. g.D.Disk.told w.disk) (λ w. g.D.Disk.size w.disk) (λ w. g.D.Disk.faults w.disk) (λ w. g.D.Disk.fate w.disk) game v c.args.most c.args.self.now (record c.args.self.now { node = c.create.new.self }) born refl (Err Disk) creation in
-    let less = c.raise.ensures.refusals in
-    omega (arith, none, less)
+    counts-none c.raise.result (refusals_in c.create.new.self.stage) (refusals_in c.raise.new.self.node.stage) none c.raise.ensures.refusals
 
 pub returns-in-Err-clause-refusals : goal.returns-in-Err-clause-refusals
 returns-in-Err-clause-refusals g c = λ game v born.

@@ -1,5 +1,5 @@
 -- Restarts until one answers.
-use Rattle.std.proofs.Common.{Err, subst, arith}
+use Rattle.std.proofs.Common.{Err, subst, ◌∙◌, arith}
 use Rattle.ken_run.specs.Accounts.{AccountsStation}
 use Rattle.ken_run.specs.Stations.{RestartsStation}
 use Rattle.ken_run.proofs.Counts.{counts-same, raised-kept}
@@ -31,7 +31,13 @@ pub returns-in-Ok-clause-accounts : goal.returns-in-Ok-clause-accounts
 returns-in-Ok-clause-accounts g c = λ terms game v held few. let left = c.tries-test.true in c.in-Ok.ensures.accounts terms game v (c.tries.invariant.1.held terms game v few held) (omega (arith, left, few))
 
 pub returns-in-Ok-clause-refusals : goal.returns-in-Ok-clause-refusals
-returns-in-Ok-clause-refusals g c = let before = c.tries.invariant.1.refusals in let less = c.restart.ensures.refusals in omega (arith, before, less)
+returns-in-Ok-clause-refusals g c = c.in-Ok.ensures.refusals
+
+pub returns-in-Err-Damaged-clause-refusals : goal.returns-in-Err-Damaged-clause-refusals
+returns-in-Err-Damaged-clause-refusals g c = c.in-Err-Damaged.ensures.refusals ∙ c.tries.invariant.1.refusals
+
+pub returns-in-Err-clause-refusals : goal.returns-in-Err-clause-refusals
+returns-in-Err-clause-refusals g c = c.in-Err.ensures.refusals ∙ c.tries.invariant.1.refusals
 
 pub returns-clause-accounts : goal.returns-clause-accounts
 returns-clause-accounts g c = λ terms game v held few. c.tries.invariant.1.held terms game v few held
@@ -48,7 +54,7 @@ tries-preserved g c = (
         let left = c.tries-test.true in
         subst (λ x. AccountsStation (λ w. g.D.Disk.told w.disk) (λ w. g.D.Disk.faults w.disk) (λ w. g.D.Disk.fate w.disk) g.O.Oracle.telling terms game (Err x) v c.restart.new.self) c.in-Err-Disk.field-0-is
         (c.in-Err-Disk.ensures.accounts terms game v (c.tries.invariant.1.held terms game v few held) (omega (arith, left, few)));
-    refusals = let before = c.tries.invariant.1.refusals in let less = c.restart.ensures.refusals in omega (arith, before, less);
+    refusals = c.in-Err-Disk.ensures.refusals ∙ c.tries.invariant.1.refusals;
   },
   raised-kept (λ w. g.D.Disk.told w.disk) (λ w. g.D.Disk.faults w.disk) c.args.self.now c.tries.self c.restart.new.self c.requires c.tries.invariant.0 c.tries.invariant.2 c.restart.ensures.counts,
 )
