@@ -24,6 +24,7 @@ use Rattle.ken_wire.specs.declared.wire_net.WireNet.{WireNet}
 use Rattle.ken_threads.specs.declared.crew.Crew.{Crew}
 use Rattle.ken_threads.specs.Rounds.{Rounded}
 use Rattle.ken_rounds.specs.declared.lending.Tally.{Tally}
+use Rattle.ken_rounds.specs.Growth.{GrowsRounds}
 use Rattle.ken_rounds.specs.Lending.{AreLent, HaveCome, station_at}
 use Rattle.ken_rounds.specs.Quota.{ServesBy}
 use Rattle.ken_rounds.specs.Raising.{Answered, AnswersBy, HadMemoryAll, IsOut, IsOutAt, refused, used_up, WasRaised}
@@ -108,6 +109,16 @@ module _ {D R O U A : Type 0} {b : base.Ghosts (WireNet R)} (d : disk.Ghosts D) 
       let rd = rounded a.made in
       round.all-served w e o u handles rd.wires g made r running whole crews crews2 tallies now faults c0 t0 s0 lent rd come a.had last (a.raised.0 ∙ now-count a.made a.had) most r2 same restarts stations (leaves (Ok x) a) (all-on a.made a.had x a)
   serves (Err fault) a = tt
+
+  pub grows : (result : Result (Unit {0}) RunFault) → AnswersBy d o most ran faults result now last → GrowsRounds 1 r result r2
+  grows (Ok x) a =
+      let rd = rounded a.made in
+      round.all-grown w e o u handles rd.wires g made r running whole crews crews2 tallies now faults c0 t0 s0 lent rd come a.had last (a.raised.0 ∙ now-count a.made a.had) most r2 same restarts stations (λ v low. inl (all-on a.made a.had x a v low))
+  grows (Err (run_faults.Down v)) a =
+      let rd = rounded a.made in
+      round.all-grown w e o u handles rd.wires g made r running whole crews crews2 tallies now faults c0 t0 s0 lent rd come a.had last (out-count a.made a.had v a.raised) most r2 same restarts stations (out-at a.made a.had v a.raised)
+  grows (Err run_faults.Memory) a = tt
+  grows (Err (run_faults.Damaged v disk place)) a = undamaged v disk place a
 
   module _ (terms : Terms) (few : most ≡ terms.most) (before : AreAccounted w.told w.faults w.fate o.telling terms g made r) where
     pub accounts : (result : Result (Unit {0}) RunFault) → AnswersBy d o most ran faults result now last → AccountsRoundsBy w.told w.faults w.fate o.telling terms g result made r2

@@ -4,6 +4,7 @@ mod Counts
 mod Crews
 mod Ends
 mod Group
+mod Growth
 mod Joined
 mod Node
 mod Puts

@@ -3,6 +3,7 @@ use Rattle.std.proofs.Common.{◌≡◌, ◌∙◌, ℕ, ◌≤◌, ◌⊎◌, L
 use Rattle.ken_disk.specs.declared.disk.Disk as disk
 use Rattle.ken_app.specs.declared.oracle.Oracle as oracle
 use Rattle.ken_model.specs.Game.{Game}
+use Rattle.ken_model.specs.History.{IsPrefixOf}
 use Rattle.ken_net.specs.declared.base.Base as base
 use Rattle.ken_net.specs.declared.lossy.Lossy.{Lossy}
 use Rattle.ken_core.specs.declared.events.Event.{Event}
@@ -11,6 +12,7 @@ use Rattle.ken_core.specs.Nodes.{Node}
 use Rattle.ken_core.specs.Packets.{nothing, one_after_other, Outgoing, Packet}
 use Rattle.ken_core.specs.Packets as core
 use Rattle.ken_core.specs.Runs.{NodeRun}
+use Rattle.ken_record.specs.declared.effects.Effects.{Effects}
 use Rattle.ken_ship.specs.declared.faults.NodeFault.{NodeFault}
 use Rattle.ken_ship.specs.declared.faults.NodeFault.TheVariants.{Disk, Outlet}
 use Rattle.ken_ship.specs.declared.outlet.Outlet as outlet
@@ -18,7 +20,7 @@ use Rattle.ken_ship.specs.Fates.{Fate}
 use Rattle.ken_whole.proofs.Runs.{after-nothing, run-append}
 use Rattle.ken_node.specs.declared.watched.Watched.{Watched}
 use Rattle.ken_node.specs.Down.{IsDown}
-use Rattle.ken_node.specs.Stages.{refusals_in}
+use Rattle.ken_node.specs.Stages.{refusals_in, turns_in}
 use Rattle.ken_node.specs.Up.{IsUp}
 use Rattle.ken_run.specs.declared.station.Station.{Station}
 use Rattle.ken_run.specs.Accounts.{AccountsStation, IsAccounted, IsHeld, Terms}
@@ -27,11 +29,14 @@ use Rattle.ken_run.specs.Creating.{RaisesStation}
 use Rattle.ken_run.specs.Refusals.{HasFailedLast, IsRefused}
 use Rattle.ken_run.specs.Devices.{MayFailAt}
 use Rattle.ken_run.specs.StationClauses.{IsRestartOf, KeepsEmissions}
+use Rattle.ken_run.proofs.AccountsCalls.{up-turns}
 use Rattle.ken_wire.specs.declared.wire_net.WireNet.{WireNet}
 use Rattle.ken_beside.proofs.Over.{run-over}
 use Rattle.ken_threads.specs.declared.crew.Faults.{Faults}
 use Rattle.ken_rounds.specs.Faults.{ComeTo, has_fallen}
+use Rattle.ken_rounds.specs.Growth.{GrowsByFew}
 use Rattle.ken_rounds.specs.Raising.{GoesOn, IsOut, again, as_it_was, refused, used_up, WasRaised}
+use Rattle.ken_rounds.proofs.Growth.{few-one, few-same, run-keeps}
 use Rattle.ken_rounds.proofs.Node.{HasGoneDown, NodeIs, StateIs}
 
 -- a node was restarted until a restart answered, or so often, by the answer: in words of what its disks tell
@@ -157,6 +162,38 @@ module _ {R D O U : Type 0} {b : base.Ghosts (WireNet R)} (d : disk.Ghosts (Watc
           node = restarted most raised;
           state = inr (record { last = down.last; among = down.among; doubt = down.doubt; down = (raised.back g v down.last played.after_it down.doubt down.down).0 });
         }
+
+    -- its turns begin with those that it had
+    turns-then : (m : Node) → Either m → turns_in e.node.stage ≡ m.turning.turns
+    turns-then m (inl is_up) = up-turns d.told d.size g v m e.node.stage is_up
+    turns-then m (inr gone) = gone.down.turns
+
+    pub turns-go-on : IsUp d.told d.size g v n a.node.stage → NodeThen Either → IsPrefixOf (turns_in a.node.stage) (turns_in e.node.stage)
+    turns-go-on was_up t =
+        subst (λ (ts : List Effects). IsPrefixOf ts (turns_in e.node.stage)) (sym (up-turns d.told d.size g v n a.node.stage was_up))
+        (subst (IsPrefixOf n.turning.turns) (sym (turns-then t.after_it t.state)) (run-keeps g (Contains played.given) v n t.events played.out t.after_it t.run))
+
+    -- its restart lines are as they were, with one more where a restart answered
+    same-lines : e ≡ c → GrowsByFew 1 c.lines.items e.lines.items
+    same-lines same = few-same c.lines.items e.lines.items (ap (λ (x : Station D O U). x.lines.items) same)
+
+    lines-on : (most : ℕ) → WentOn d o most fault c e → GrowsByFew 1 c.lines.items e.lines.items
+    lines-on most (inl (none, same)) = same-lines same
+    lines-on most (inr (is, raised)) =
+        let down = fell is in
+        let answered = raised.back g v down.last played.after_it down.doubt down.down in
+        few-one c.lines.items e.lines.items answered.0 answered.1.1
+
+    lines-out : (most : ℕ) → WentOut d o most fault c e → GrowsByFew 1 c.lines.items e.lines.items
+    lines-out most (inl (out, same)) = same-lines same
+    lines-out most (inr (is, raised)) =
+        let down = fell is in
+        few-same c.lines.items e.lines.items (raised.back g v down.last played.after_it down.doubt down.down).1
+
+    pub lines-grow : (most : ℕ) → WentOn d o most fault c e ⊎ (WentOut d o most fault c e ⊎ (e ≡ c)) → GrowsByFew 1 c.lines.items e.lines.items
+    lines-grow most (inl on) = lines-on most on
+    lines-grow most (inr (inl out)) = lines-out most out
+    lines-grow most (inr (inr same)) = same-lines same
 
 -- ---- accounts
 

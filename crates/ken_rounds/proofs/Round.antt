@@ -43,6 +43,7 @@ use Rattle.ken_threads.specs.Seating.{crew_at}
 use Rattle.ken_rounds.specs.declared.lending.Tally.{Tally}
 use Rattle.ken_rounds.specs.Crews.{CrewPlayed}
 use Rattle.ken_rounds.specs.Faults.{ComeTo, HadMemory, has_fallen, is_disk}
+use Rattle.ken_rounds.specs.Growth.{GrowsByFew, HasGrown, HaveGrown}
 use Rattle.ken_rounds.specs.Lending.{AreLent, HasCome, HaveCome, station_at}
 use Rattle.ken_rounds.specs.Manned.{CameBack, IsMannedBy}
 use Rattle.ken_rounds.specs.Quota.{AreServed, CountsRose, IsServed, MeetsQuota}
@@ -53,7 +54,7 @@ use Rattle.ken_rounds.proofs.Counts.{counts-down, counts-rose-then, counts-up, h
 use Rattle.ken_rounds.proofs.Crews.{crew-played}
 use Rattle.ken_rounds.proofs.Group as group
 use Rattle.ken_rounds.proofs.Node.{HasGoneDown, node-is, state-is}
-use Rattle.ken_rounds.proofs.Raised.{NodePlayed, NodeThen, RaisedAs, not-looked-at, or-either, WentOn, went-on, WentOut, went-out, accounted-on, kept-not-looked-at, kept-out, refused-on, refused-out, refused-same}
+use Rattle.ken_rounds.proofs.Raised.{NodePlayed, NodeThen, RaisedAs, not-looked-at, or-either, WentOn, went-on, WentOut, went-out, accounted-on, kept-not-looked-at, kept-out, lines-grow, refused-on, refused-out, refused-same, turns-go-on}
 use Rattle.ken_rounds.proofs.Refused.{refused, worn_out}
 use Rattle.ken_rounds.proofs.Served.{has-made, HasMade, meets-quota}
 use Rattle.ken_rounds.proofs.Turns.{handler-makes}
@@ -336,6 +337,27 @@ module _ {R D O U A : Type 0} {b : base.Ghosts (WireNet R)} (d : disk.Ghosts (Wa
             each = λ v other low. subst (λ (s : Station D O U). IsSomehow d.told d.size g w v (of v).after_it s.node.stage) (sym (at v other low)) (somehow v low ((of v).state low).0);
           } in
           (shaken, λ v other low below. subst (λ (s : Station D O U). IsUp d.told d.size g v (of v).after_it s.node.stage) (sym (at v other low)) (((of v).state low).1 below))
+
+      -- ---- what the round added to them
+
+      grown : (v : ℕ) (low : v < made) → Became v → HasGrown 1 (was v) (then v)
+      grown v low became =
+          let played = node-played v low in
+          let t = then-either v low became in
+          let lines =
+          lines-grow d o u g v (running.nodes v) (rounded.acks2 v) (rounded.mail2 v) (crew2 v).faults (fault v) (come-to v low) (was v) (is v) (then v) played most became in
+          record {
+            turns = turns-go-on d o u g v (running.nodes v) (rounded.acks2 v) (rounded.mail2 v) (crew2 v).faults (fault v) (come-to v low) (was v) (is v) (then v) played (up-before v low) t;
+            lines = subst (λ (ls : List ℕ). GrowsByFew 1 ls (then v).lines.items) (ap (λ x. x.items) (back v low).lines) lines;
+            mail = record { puts = puts_of played.by_sender; after = t.node.mail };
+            acks = record { puts = puts_of played.by_handler; after = t.node.acks };
+          }
+
+      pub all-grown : ((v : ℕ) → v < made → Became v) → HaveGrown 1 r r2
+      all-grown all v other known =
+          let low : v < made = (let width = running.stands.width in omega (arith, known, width)) in
+          let there : slice_index_or r.stations.items v other ≡ was v = get_or_default r.stations.items v other s0 known in
+          subst (λ (s : Station D O U). HasGrown 1 s (slice_index_or r2.stations.items v other)) (sym there) (subst (HasGrown 1 (was v)) (sym (at v other low)) (grown v low (all v low)))
 
       -- ---- their turns
 

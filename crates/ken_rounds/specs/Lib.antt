@@ -1,6 +1,7 @@
 pub mod Clauses
 pub mod Crews
 pub mod Faults
+pub mod Growth
 pub mod Lending
 pub mod Manned
 pub mod Quota

@@ -1,10 +1,11 @@
 -- One round after another.
-use Rattle.std.proofs.Common.{◌∙◌, refl, arith}
+use Rattle.std.proofs.Common.{◌∙◌, refl, sym, arith}
 use Rattle.std.proofs.lemmas.Result.{err_from_is_err_and}
 use Rattle.ken_run.specs.declared.run.Run.{Run}
 use Rattle.ken_run.specs.Clauses.{Drains}
 use Rattle.ken_run.proofs.AccountsCalls.{up-has}
 use Rattle.ken_rounds.specs.Clauses.{KeepsRest}
+use Rattle.ken_rounds.proofs.Growth.{all-grown-then, grown-more, grown-none, grows-then}
 use Rattle.ken_rounds.proofs.Served.{served-fewer, served-none, served-then}
 use Rattle.ken_rounds.proofs.rounds.threaded.Goals as goal
 
@@ -17,6 +18,8 @@ loop-round-init g c = record {
   accounts = λ terms game made up whole accounted. accounted;
   refused = λ terms game made up whole are. are;
   quota = λ game made up whole v d low. served-none (λ w. g.D.Disk.faults w.disk) game _;
+  growth = λ v d low. grown-none _;
+  within = omega arith;
   rest = record { nodes = refl; app = refl; restarts = refl; waiting = refl };
 }
 
@@ -32,6 +35,7 @@ pub loop-round-preserved : goal.loop-round-preserved
 loop-round-preserved g c =
     let before = c.loop-round.invariant in
     let one = c.in_ok-one_round.ensures in
+    let wide = (before.leaves c.requires.game c.requires.made c.requires.running c.requires.all).stands.width ∙ sym c.requires.running.stands.width in
     record {
       leaves = λ game made up whole. one.leaves game made (before.leaves game made up whole) whole;
       accounts = λ terms game made up whole accounted. one.accounts terms game made (before.leaves game made up whole) whole (before.accounts terms game made up whole accounted);
@@ -40,6 +44,8 @@ loop-round-preserved g c =
           let mid = before.leaves game made up whole in
           served-then (λ w. g.D.Disk.faults w.disk) game c.loop-round._round _ _ _ (up-has (λ w. g.D.Disk.told w.disk) (λ w. g.D.Disk.size w.disk) game v (mid.nodes v) _ (mid.up v d low))
           (before.quota game made up whole v d low) (one.quota game made (before.leaves game made up whole) whole v d low);
+      growth = all-grown-then c.args.run.now c.loop-round.run c.one_round.new.run wide c.loop-round._round before.growth one.growth;
+      within = let more = c.loop-round-test.true in omega (arith, more);
       rest = rest-then before.rest one.rest;
     }
 
@@ -92,3 +98,16 @@ returns-clause-quota g c = λ game made up whole v d low.
 
 pub returns-clause-rest : goal.returns-clause-rest
 returns-clause-rest g c = c.loop-round.invariant.rest
+
+pub returns-in_err-one_round-clause-growth : goal.returns-in_err-one_round-clause-growth
+returns-in_err-one_round-clause-growth g c =
+    let p = err_from_is_err_and c.from_residual.result c.from_residual.ensures.1 in
+    let before = c.loop-round.invariant in
+    let wide = (before.leaves c.requires.game c.requires.made c.requires.running c.requires.all).stands.width ∙ sym c.requires.running.stands.width in
+    let more = c.loop-round-test.true in
+    rw (p.1, p.2) (grows-then c.args.run.now c.loop-round.run c.one_round.new.run wide c.loop-round._round c.args.rounds (omega (arith, more)) before.growth c.in_err-one_round.field-0.0 c.in_err-one_round.ensures.growth)
+
+pub returns-clause-growth : goal.returns-clause-growth
+returns-clause-growth g c = λ v d low.
+    let within = c.loop-round.invariant.within in
+    grown-more _ _ _ _ (omega (arith, within)) (c.loop-round.invariant.growth v d low)

@@ -1,5 +1,6 @@
-use Rattle.std.proofs.Common.{Ok}
+use Rattle.std.proofs.Common.{◌≤◌, Ok}
 use Rattle.ken_rounds.specs.Clauses.{AccountsRounds, KeepsRest, LeavesRounds, QuotaRounds, RefusesRounds}
+use Rattle.ken_rounds.specs.Growth.{HaveGrown}
 use Rattle.ken_rounds.proofs.rounds.threaded.Given as goal
 
 abbrev pub invariant-loop-round : goal.invariant-loop-round
@@ -8,5 +9,7 @@ invariant-loop-round g l = record {
   accounts : AccountsRounds g.D.Disk g.O.Oracle g.U.Outlet g.A.App {T = Unit {0}} l.fn.run (Ok tt) l.run;
   refused : RefusesRounds g.D.Disk g.U.Outlet g.A.App {T = Unit {0}} l.fn.run (Ok tt) l.run;
   quota : QuotaRounds g.D.Disk g.U.Outlet g.A.App {T = Unit {0}} l._round l.fn.run (Ok tt) l.run;
+  growth : HaveGrown l._round l.fn.run l.run;
+  within : l._round ≤ l.rounds;
   rest : KeepsRest l.fn.run l.run;
 }

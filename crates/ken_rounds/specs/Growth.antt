@@ -1,0 +1,42 @@
+-- What rounds add to the nodes of a run.
+use Rattle.std.specs.Prelude.{◌≡◌, ℕ, ◌+◌, ◌<◌, ◌≤◌, List, length, slice_index_or, Result, Ok, Err}
+use Rattle.ken_model.specs.History.{IsPrefixOf}
+use Rattle.ken_net.specs.Puts.{Put}
+use Rattle.ken_net.specs.Standings.{Leaving, after_puts}
+use Rattle.ken_node.specs.Stages.{turns_in}
+use Rattle.ken_run.specs.declared.faults.RunFault.{RunFault}
+use Rattle.ken_run.specs.declared.faults.RunFault.TheVariants as run_faults
+use Rattle.ken_run.specs.declared.run.Run.{Run}
+use Rattle.ken_run.specs.declared.station.Station.{Station}
+
+-- a list has what it had, and behind that so many more at most
+pub record GrowsByFew {T : Type 0} (most : ℕ) (old new : List T) : Type 0 where
+  pub front : IsPrefixOf old new
+  pub few : length new ≤ length old + most
+
+-- links go on: packets were put on them, and nothing else was done
+pub record GoOn (old new : Leaving) : Type 0 where
+  pub puts : List Put
+  pub after : new ≡ record old { links = after_puts puts old.links }
+
+module _ {D O U : Type 0} (rounds : ℕ) where
+  -- a node keeps its turns, and the lines of its restarts, of which each round adds one at most; and its links go on
+  pub record HasGrown (old new : Station D O U) : Type 0 where
+    pub turns : IsPrefixOf (turns_in old.node.stage) (turns_in new.node.stage)
+    pub lines : GrowsByFew rounds old.lines.items new.lines.items
+    pub mail : GoOn old.mail new.mail
+    pub acks : GoOn old.acks new.acks
+
+module _ {D O U A : Type 0} (rounds : ℕ) where
+  -- so does each node of a run
+  abbrev pub HaveGrown : Run D O U A → Run D O U A → Type 0
+  HaveGrown old new =
+      (v : ℕ) (d : Station D O U) → v < length old.stations.items
+      → HasGrown rounds (slice_index_or old.stations.items v d) (slice_index_or new.stations.items v d)
+
+  -- also one that is down, and each other one then. After want of memory nothing is said
+  abbrev pub GrowsRounds : {T : Type 0} → Run D O U A → Result T RunFault → Run D O U A → Type 0
+  GrowsRounds old (Ok x) new = HaveGrown old new
+  GrowsRounds old (Err (run_faults.Down v)) new = HaveGrown old new
+  GrowsRounds old (Err run_faults.Memory) new = Unit {0}
+  GrowsRounds old (Err (run_faults.Damaged v disk place)) new = ⊥
