@@ -1,60 +1,41 @@
 -- What a round adds to a node, and rounds one after the other.
-use Rattle.std.proofs.Common.{◌≡◌, ◌∙◌, ℕ, ◌+◌, ◌<◌, ◌≤◌, ◌⊎◌, inl, inr, List, [], ◌∷◌, ◌++◌, length, true, false, Err, refl, sym, ap, subst, arith, slice_set, append-nil, length-append}
+use Rattle.std.proofs.Common.{◌≡◌, ◌∙◌, ℕ, ◌+◌, ◌-◌, ◌<◌, ◌≤◌, ◌==◌, if◌then◌else◌, List, [], ◌∷◌, ◌++◌, length, Contains, Some, Err, slice_get, slice_set, refl, sym, ap, subst, arith, append-nil, length-append}
+use Rattle.std.specs.List.{All}
+use Rattle.std.proofs.lemmas.Grind.{flat_map-append}
+use Rattle.std.proofs.lemmas.List.Elements.{All-append, All-contains_itself, All-nil, All-weaker}
+use Rattle.std.proofs.lemmas.List.Sums.{sum_by-append}
+use Rattle.ken_model.specs.declared.messages.Message.{Message}
 use Rattle.ken_model.specs.Game.{Game}
 use Rattle.ken_model.specs.History.{IsPrefixOf}
+use Rattle.ken_model.specs.Network.{Turn}
 use Rattle.ken_net.specs.Puts.{Put}
 use Rattle.ken_net.specs.Standings.{Leaving, Standing, after_put, after_puts, link_to}
 use Rattle.ken_record.specs.declared.effects.Effects.{Effects}
 use Rattle.ken_core.specs.declared.events.Event.{Event}
-use Rattle.ken_core.specs.declared.events.Event.TheVariants.{Seal, SealCut, Patch, SyncImage, Turnover, Send, Ack, TakeAck, Emit, Crash, Recover}
-use Rattle.ken_core.specs.declared.events.Outcome.TheVariants.{Whole, Landed, Lost}
 use Rattle.ken_core.specs.Nodes.{Node}
-use Rattle.ken_core.specs.Packets.{Outgoing, Packet}
-use Rattle.ken_core.specs.Runs.{NodeRun}
-use Rattle.ken_core.specs.Steps.{NodeStep}
-use Rattle.ken_core.specs.Turns.{effects_of}
+use Rattle.ken_core.specs.Packets.{Answer, Mail, Outgoing, Packet}
+use Rattle.ken_core.specs.Packets as core
+use Rattle.ken_core.specs.Runs.{IsPut, NodeRun}
+use Rattle.ken_core.specs.Turns.{consumed_from, mails_in, mails_to, sealed}
+use Rattle.ken_core.proofs.Made.{KeepsTurns, run_keeps_turns, run_puts_true, run_turns}
+use Rattle.ken_core.proofs.Numbers.{consumed-sealed, mails_to-sealed}
+use Rattle.ken_core.proofs.Sent.{slice_get-append}
 use Rattle.ken_weave.proofs.Lists.{front_same, front_then}
+use Rattle.ken_node.specs.NodeCalls.{AreSpelled}
+use Rattle.ken_node.specs.Stages.{turns_in}
 use Rattle.ken_run.specs.declared.faults.RunFault.{RunFault}
 use Rattle.ken_run.specs.declared.faults.RunFault.TheVariants as run_faults
 use Rattle.ken_run.specs.declared.run.Run.{Run}
 use Rattle.ken_run.specs.declared.station.Station.{Station}
-use Rattle.ken_rounds.specs.Growth.{GoOn, GrowsByFew, GrowsRounds, HasGrown, HaveGrown}
+use Rattle.ken_run.proofs.Lifted.{after-length}
+use Rattle.ken_beside.specs.Puts.{puts_of}
+use Rattle.ken_rounds.specs.Growth.{GoOn, GrowsByFew, GrowsRounds, HasGrown, HaveGrown, IsOwn, IsOwnPut}
+use Rattle.ken_rounds.proofs.Puts.{spelled-by}
 
--- ---- turns
+-- ---- lines of restarts
 
 front-is : {A : Type 0} (xs ys : List A) → ys ≡ xs → IsPrefixOf xs ys
 front-is xs ys same = ([], same ∙ sym (append-nil xs))
-
-abbrev turns-of : Node → List Effects
-turns-of n = n.turning.turns
-
-abbrev Keeps : Node → Node → Type 0
-Keeps n n2 = IsPrefixOf (turns-of n) (turns-of n2)
-
--- a node keeps the turns that it has at each step
-step-keeps : (g : Game) (put : Packet → Type 0) (v : ℕ) (n : Node) (e : Event) (n2 : Node) → NodeStep g put v n e n2 → Keeps n n2
-step-keeps g put v n (Seal node from draws pages) n2 s = (effects_of v n.turning.turns s.0 ∷ [], ap turns-of s.1.1)
-step-keeps g put v n (SealCut node from draws pages true) n2 s = (effects_of v n.turning.turns s.0 ∷ [], ap turns-of s.1.1)
-step-keeps g put v n (SealCut node from draws pages false) n2 s = front-is (turns-of n) (turns-of n2) (ap turns-of s.1.1)
-step-keeps g put v n (Patch node page) n2 s = front-is (turns-of n) (turns-of n2) (ap turns-of s.1.1.1.2)
-step-keeps g put v n (SyncImage node) n2 s = front-is (turns-of n) (turns-of n2) (ap turns-of s.1)
-step-keeps g put v n (Turnover node Whole told) n2 s = front-is (turns-of n) (turns-of n2) (ap turns-of s.1)
-step-keeps g put v n (Turnover node Landed told) n2 s = front-is (turns-of n) (turns-of n2) (ap turns-of s.1)
-step-keeps g put v n (Turnover node Lost told) n2 s = front-is (turns-of n) (turns-of n2) (ap turns-of s.1)
-step-keeps g put v n (Send node to i) n2 s = front-is (turns-of n) (turns-of n2) (ap turns-of s.1.3)
-step-keeps g put v n (Ack node from) n2 s = front-is (turns-of n) (turns-of n2) (ap turns-of s.3)
-step-keeps g put v n (TakeAck node from through) n2 s = front-is (turns-of n) (turns-of n2) (ap turns-of s.3)
-step-keeps g put v n (Emit node) n2 s = front-is (turns-of n) (turns-of n2) (ap turns-of s.1.2)
-step-keeps g put v n (Crash node pages) n2 s = front-is (turns-of n) (turns-of n2) (ap turns-of s.1)
-step-keeps g put v n (Recover node) n2 s = front-is (turns-of n) (turns-of n2) (ap turns-of s.2)
-
--- and in a run
-pub run-keeps : (g : Game) (put : Packet → Type 0) (v : ℕ) (n : Node) (es : List Event) (out : Outgoing) (n2 : Node) → NodeRun g put v n es out n2 → Keeps n n2
-run-keeps g put v n [] out n2 r = front-is (turns-of n) (turns-of n2) (ap turns-of r.1)
-run-keeps g put v n (e ∷ es) out n2 r =
-    front_then (turns-of n) (turns-of r.0) (turns-of n2) (step-keeps g put v n e r.0 r.1.1.1) (run-keeps g put v r.0 es r.1.0 n2 r.1.1.3)
-
--- ---- lines of restarts
 
 pub few-same : {A : Type 0} (xs ys : List A) → ys ≡ xs → GrowsByFew 1 xs ys
 few-same xs ys same = record { front = front-is xs ys same; few = let long = ap length same in omega (arith, long) }
@@ -67,20 +48,88 @@ few-one xs ys x one = record {
 
 -- ---- links
 
+-- what a node may put, it may put with more turns
+own-later : (v : ℕ) (turns turns2 : List Effects) (packet : Packet) → IsPrefixOf turns turns2 → IsOwn v turns packet → IsOwn v turns2 packet
+own-later v turns turns2 (Mail m) front own = record {
+  from = own.from;
+  number = own.number;
+  sent =
+      ap (λ (es : List Effects). slice_get (mails_to v m.to es) (m.number - 1)) front.1
+      ∙ ap (λ (ms : List Message). slice_get ms (m.number - 1)) (flat_map-append (mails_in v m.to) turns front.0)
+      ∙ slice_get-append (mails_to v m.to turns) (mails_to v m.to front.0) (m.number - 1) m own.sent;
+}
+own-later v turns turns2 (Answer a) front own = record {
+  from = own.from;
+  most =
+      let most = own.most in
+      let parts : consumed_from a.to (turns ++ front.0) ≡ consumed_from a.to turns + consumed_from a.to front.0 = sum_by-append (λ (e : Effects). if e.from == a.to then 1 else 0) turns front.0 in
+      omega (arith, most, parts, ap (consumed_from a.to) front.1);
+}
+
+put-later : (nodes v : ℕ) (turns turns2 : List Effects) → IsPrefixOf turns turns2 → (p : Put) → IsOwnPut nodes v turns p → IsOwnPut nodes v turns2 p
+put-later nodes v turns turns2 front p is = record { packet = is.packet; spelled = is.spelled; to = is.to; own = own-later v turns turns2 is.packet front is.own }
+
 puts-then : (ps qs : List Put) (links : List Standing) → after_puts (ps ++ qs) links ≡ after_puts qs (after_puts ps links)
 puts-then [] qs links = refl
 puts-then (p ∷ ps) qs links = puts-then ps qs (slice_set links p.to (after_put p (link_to p.to links)))
 
-go-on-none : (l : Leaving) → GoOn l l
-go-on-none l = record { puts = []; after = refl }
+go-on-none : (turns : List Effects) (l : Leaving) → GoOn turns l l
+go-on-none turns l = record { puts = []; own = All-nil (IsOwnPut (length l.links) l.from turns); after = refl }
 
-go-on-then : (a b c : Leaving) → GoOn a b → GoOn b c → GoOn a c
-go-on-then a b c one two = record {
-  puts = one.puts ++ two.puts;
-  after =
-      two.after ∙ ap (λ (l : Leaving). record l { links = after_puts two.puts l.links }) one.after
-      ∙ ap (λ (ls : List Standing). record a { links = ls }) (sym (puts-then one.puts two.puts a.links));
-}
+go-on-then : (turns turns2 : List Effects) (a b c : Leaving) → IsPrefixOf turns turns2 → GoOn turns a b → GoOn turns2 b c → GoOn turns2 a c
+go-on-then turns turns2 a b c front one two =
+    let from : b.from ≡ a.from = ap (λ (l : Leaving). l.from) one.after in
+    let width : length b.links ≡ length a.links = ap (λ (l : Leaving). length l.links) one.after ∙ after-length one.puts a.links in
+    let first : All (IsOwnPut (length a.links) a.from turns2) one.puts =
+    All-weaker (IsOwnPut (length a.links) a.from turns) (IsOwnPut (length a.links) a.from turns2) (put-later (length a.links) a.from turns turns2 front) one.puts one.own in
+    let last : All (IsOwnPut (length a.links) a.from turns2) two.puts =
+    subst (λ (k : ℕ). All (IsOwnPut k a.from turns2) two.puts) width (subst (λ (v : ℕ). All (IsOwnPut (length b.links) v turns2) two.puts) from two.own) in
+    record {
+      puts = one.puts ++ two.puts;
+      own = All-append (IsOwnPut (length a.links) a.from turns2) one.puts two.puts first last;
+      after =
+          two.after ∙ ap (λ (l : Leaving). record l { links = after_puts two.puts l.links }) one.after
+          ∙ ap (λ (ls : List Standing). record a { links = ls }) (sym (puts-then one.puts two.puts a.links));
+    }
+
+-- those of a node in a run, whose puts are among what the run put
+module _ (g : Game) (given : Packet → Type 0) (v : ℕ) (ts : List Turn) (n : Node) (events : List Event) (out : Outgoing) (m : Node) (run : NodeRun g given v n events out m) (keeps : KeepsTurns v ts n)
+    (turns : List Effects) (are : turns ≡ m.turning.turns) where
+  abbrev made : List Turn
+  made = ts ++ run_turns g given v n events out m run
+
+  turns-made : turns ≡ sealed v made
+  turns-made = are ∙ run_keeps_turns g given v ts n events out m run keeps
+
+  own-packet : (packet : Packet) → IsPut packet out.puts → IsOwn v turns packet
+  own-packet (Mail m2) put =
+      let by = run_puts_true g given v ts n events out m run (Mail m2) keeps put in
+      record {
+        from = by.from;
+        number = by.number;
+        sent = ap (λ (ms : List Message). slice_get ms (m2.number - 1)) (ap (mails_to v m2.to) turns-made ∙ mails_to-sealed v m2.to made) ∙ by.stands;
+      }
+  own-packet (Answer a) put =
+      let by = run_puts_true g given v ts n events out m run (Answer a) keeps put in
+      record { from = by.from; most = let most = by.most in omega (arith, most, ap (consumed_from a.to) turns-made ∙ consumed-sealed a.to v made) }
+
+  own-puts : (by : List core.Put) → AreSpelled g.nodes (puts_of by) by → ((packet : Packet) → IsPut packet by → IsPut packet out.puts) → All (IsOwnPut g.nodes v turns) (puts_of by)
+  own-puts by spelled among =
+      All-weaker (Contains (puts_of by)) (IsOwnPut g.nodes v turns)
+      (λ p there.
+      let s = spelled-by g.nodes (puts_of by) by p spelled there in
+      let one : IsOwnPut g.nodes v turns p = record { packet = s.put.packet; spelled = s.spells.packet; to = s.spells.to; own = own-packet s.put.packet (among s.put.packet (record { put = s.put; one = s.one; is = refl })) } in one)
+      (puts_of by) (All-contains_itself (puts_of by))
+
+  pub go-on : (links links2 : Leaving) (by : List core.Put) → links.from ≡ v → length links.links ≡ g.nodes → AreSpelled g.nodes (puts_of by) by → ((packet : Packet) → IsPut packet by → IsPut packet out.puts)
+      → links2 ≡ record links { links = after_puts (puts_of by) links.links } → GoOn turns links links2
+  go-on links links2 by from width spelled among after = record {
+    puts = puts_of by;
+    own =
+        subst (λ (k : ℕ). All (IsOwnPut k links.from turns) (puts_of by)) (sym width)
+        (subst (λ (u : ℕ). All (IsOwnPut g.nodes u turns) (puts_of by)) (sym from) (own-puts by spelled among));
+    after = after;
+  }
 
 -- ---- rounds
 
@@ -89,8 +138,8 @@ module _ {D O U : Type 0} where
   grown-none a = record {
     turns = front_same _;
     lines = record { front = front_same _; few = omega arith };
-    mail = go-on-none a.mail;
-    acks = go-on-none a.acks;
+    mail = go-on-none (turns_in a.node.stage) a.mail;
+    acks = go-on-none (turns_in a.node.stage) a.acks;
   }
 
   pub grown-then : (rounds : ℕ) (a b c : Station D O U) → HasGrown rounds a b → HasGrown 1 b c → HasGrown (rounds + 1) a c
@@ -100,8 +149,8 @@ module _ {D O U : Type 0} where
       front = front_then _ _ _ one.lines.front two.lines.front;
       few = let first = one.lines.few in let second = two.lines.few in omega (arith, first, second);
     };
-    mail = go-on-then a.mail b.mail c.mail one.mail two.mail;
-    acks = go-on-then a.acks b.acks c.acks one.acks two.acks;
+    mail = go-on-then (turns_in b.node.stage) (turns_in c.node.stage) a.mail b.mail c.mail two.turns one.mail two.mail;
+    acks = go-on-then (turns_in b.node.stage) (turns_in c.node.stage) a.acks b.acks c.acks two.turns one.acks two.acks;
   }
 
   pub grown-more : (some many : ℕ) (a b : Station D O U) → some ≤ many → HasGrown some a b → HasGrown many a b

@@ -52,12 +52,12 @@ module _ {X : Type 0} (of : Put → List X) (to : ℕ) where
   came-with (p ∷ ps) x there = one-more p ps x (p.to == to) refl (came-with ps x) there
 
 -- a put that spells one of these
-record IsSpelledBy (nodes : ℕ) (p : Put) (qs : List core.Put) : Type 0 where
-  put : core.Put
-  one : Contains qs put
-  spells : IsSpelled nodes p put
+pub record IsSpelledBy (nodes : ℕ) (p : Put) (qs : List core.Put) : Type 0 where
+  pub put : core.Put
+  pub one : Contains qs put
+  pub spells : IsSpelled nodes p put
 
-spelled-by : (nodes : ℕ) (ps : List Put) (qs : List core.Put) (p : Put) → AreSpelled nodes ps qs → Contains ps p → IsSpelledBy nodes p qs
+pub spelled-by : (nodes : ℕ) (ps : List Put) (qs : List core.Put) (p : Put) → AreSpelled nodes ps qs → Contains ps p → IsSpelledBy nodes p qs
 spelled-by nodes [] qs p are there = let low = there.1 in absurd (omega (arith, low))
 spelled-by nodes (x ∷ ps) [] p are there = absurd are
 spelled-by nodes (x ∷ ps) (q ∷ qs) p are there = elim (in_front x ps p there) [

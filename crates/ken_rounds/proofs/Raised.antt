@@ -17,6 +17,7 @@ use Rattle.ken_ship.specs.declared.faults.NodeFault.{NodeFault}
 use Rattle.ken_ship.specs.declared.faults.NodeFault.TheVariants.{Disk, Outlet}
 use Rattle.ken_ship.specs.declared.outlet.Outlet as outlet
 use Rattle.ken_ship.specs.Fates.{Fate}
+use Rattle.ken_flow.proofs.Puts.{run_grows}
 use Rattle.ken_whole.proofs.Runs.{after-nothing, run-append}
 use Rattle.ken_node.specs.declared.watched.Watched.{Watched}
 use Rattle.ken_node.specs.Down.{IsDown}
@@ -36,7 +37,7 @@ use Rattle.ken_threads.specs.declared.crew.Faults.{Faults}
 use Rattle.ken_rounds.specs.Faults.{ComeTo, has_fallen}
 use Rattle.ken_rounds.specs.Growth.{GrowsByFew}
 use Rattle.ken_rounds.specs.Raising.{GoesOn, IsOut, again, as_it_was, refused, used_up, WasRaised}
-use Rattle.ken_rounds.proofs.Growth.{few-one, few-same, run-keeps}
+use Rattle.ken_rounds.proofs.Growth.{few-one, few-same}
 use Rattle.ken_rounds.proofs.Node.{HasGoneDown, NodeIs, StateIs}
 
 -- a node was restarted until a restart answered, or so often, by the answer: in words of what its disks tell
@@ -164,14 +165,14 @@ module _ {R D O U : Type 0} {b : base.Ghosts (WireNet R)} (d : disk.Ghosts (Watc
         }
 
     -- its turns begin with those that it had
-    turns-then : (m : Node) → Either m → turns_in e.node.stage ≡ m.turning.turns
+    pub turns-then : (m : Node) → Either m → turns_in e.node.stage ≡ m.turning.turns
     turns-then m (inl is_up) = up-turns d.told d.size g v m e.node.stage is_up
     turns-then m (inr gone) = gone.down.turns
 
     pub turns-go-on : IsUp d.told d.size g v n a.node.stage → NodeThen Either → IsPrefixOf (turns_in a.node.stage) (turns_in e.node.stage)
     turns-go-on was_up t =
         subst (λ (ts : List Effects). IsPrefixOf ts (turns_in e.node.stage)) (sym (up-turns d.told d.size g v n a.node.stage was_up))
-        (subst (IsPrefixOf n.turning.turns) (sym (turns-then t.after_it t.state)) (run-keeps g (Contains played.given) v n t.events played.out t.after_it t.run))
+        (subst (IsPrefixOf n.turning.turns) (sym (turns-then t.after_it t.state)) (run_grows g (Contains played.given) v n t.events played.out t.after_it t.run))
 
     -- its restart lines are as they were, with one more where a restart answered
     same-lines : e ≡ c → GrowsByFew 1 c.lines.items e.lines.items

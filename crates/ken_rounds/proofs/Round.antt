@@ -10,10 +10,12 @@ use Rattle.ken_model.specs.Handler.{Handler}
 use Rattle.ken_net.specs.declared.base.Base as base
 use Rattle.ken_net.specs.declared.lossy.Lossy.{Lossy}
 use Rattle.ken_net.specs.declared.net.Net as net
-use Rattle.ken_net.specs.Standings.{KeepsOwn}
+use Rattle.ken_net.specs.Standings.{KeepsOwn, Leaving, after_puts}
 use Rattle.ken_core.specs.Clusters.{WasPut}
 use Rattle.ken_core.specs.Nodes.{Node}
 use Rattle.ken_core.specs.Packets.{nothing, Packet}
+use Rattle.ken_core.specs.Packets as core
+use Rattle.ken_core.specs.Runs.{IsPut}
 use Rattle.ken_ship.specs.declared.faults.NodeFault.{NodeFault}
 use Rattle.ken_ship.specs.declared.faults.NodeFault.TheVariants.{Damaged, Disk, Memory, Outlet}
 use Rattle.ken_ship.specs.declared.outlet.Outlet as outlet
@@ -22,6 +24,8 @@ use Rattle.ken_node.specs.declared.stage.Stage.{Stage}
 use Rattle.ken_node.specs.declared.stage.Stage.TheVariants.{Created}
 use Rattle.ken_node.specs.declared.watched.Watched.{Watched}
 use Rattle.ken_node.specs.Down.{MayRestart}
+use Rattle.ken_node.specs.NodeCalls.{AreSpelled}
+use Rattle.ken_node.specs.Stages.{turns_in}
 use Rattle.ken_node.specs.Up.{IsUp}
 use Rattle.ken_run.specs.declared.run.Run.{Run}
 use Rattle.ken_run.specs.declared.station.Station.{Station}
@@ -43,7 +47,7 @@ use Rattle.ken_threads.specs.Seating.{crew_at}
 use Rattle.ken_rounds.specs.declared.lending.Tally.{Tally}
 use Rattle.ken_rounds.specs.Crews.{CrewPlayed}
 use Rattle.ken_rounds.specs.Faults.{ComeTo, HadMemory, has_fallen, is_disk}
-use Rattle.ken_rounds.specs.Growth.{GrowsByFew, HasGrown, HaveGrown}
+use Rattle.ken_rounds.specs.Growth.{GoOn, GrowsByFew, HasGrown, HaveGrown}
 use Rattle.ken_rounds.specs.Lending.{AreLent, HasCome, HaveCome, station_at}
 use Rattle.ken_rounds.specs.Manned.{CameBack, IsMannedBy}
 use Rattle.ken_rounds.specs.Quota.{AreServed, CountsRose, IsServed, MeetsQuota}
@@ -53,8 +57,9 @@ use Rattle.ken_rounds.proofs.Accounts.{accounted, held}
 use Rattle.ken_rounds.proofs.Counts.{counts-down, counts-rose-then, counts-up, has-returned}
 use Rattle.ken_rounds.proofs.Crews.{crew-played}
 use Rattle.ken_rounds.proofs.Group as group
+use Rattle.ken_rounds.proofs.Growth.{go-on}
 use Rattle.ken_rounds.proofs.Node.{HasGoneDown, node-is, state-is}
-use Rattle.ken_rounds.proofs.Raised.{NodePlayed, NodeThen, RaisedAs, not-looked-at, or-either, WentOn, went-on, WentOut, went-out, accounted-on, kept-not-looked-at, kept-out, lines-grow, refused-on, refused-out, refused-same, turns-go-on}
+use Rattle.ken_rounds.proofs.Raised.{NodePlayed, NodeThen, RaisedAs, not-looked-at, or-either, WentOn, went-on, WentOut, went-out, accounted-on, kept-not-looked-at, kept-out, lines-grow, refused-on, refused-out, refused-same, turns-go-on, turns-then}
 use Rattle.ken_rounds.proofs.Refused.{refused, worn_out}
 use Rattle.ken_rounds.proofs.Served.{has-made, HasMade, meets-quota}
 use Rattle.ken_rounds.proofs.Turns.{handler-makes}
@@ -340,17 +345,27 @@ module _ {R D O U A : Type 0} {b : base.Ghosts (WireNet R)} (d : disk.Ghosts (Wa
 
       -- ---- what the round added to them
 
+      goes-on-by : (v : ℕ) (low : v < made) → Became v → (links links2 : Leaving) (by : List core.Put) → links.from ≡ v → length links.links ≡ g.nodes → AreSpelled g.nodes (puts_of by) by
+          → ((packet : Packet) → IsPut packet by → IsPut packet (node-played v low).out.puts) → links2 ≡ record links { links = after_puts (puts_of by) links.links } → GoOn (turns_in (then v).node.stage) links links2
+      goes-on-by v low became =
+          let played = node-played v low in
+          let t = then-either v low became in
+          let accord = running.stands.accord in
+          go-on g (Contains played.given) v (accord.history v) (running.nodes v) t.events played.out t.after_it t.run (accord.made.nodes v).turns (turns_in (then v).node.stage)
+          (turns-then d o u g v (running.nodes v) (rounded.acks2 v) (rounded.mail2 v) (crew2 v).faults (fault v) (come-to v low) (was v) (is v) (then v) played t.after_it t.state)
+
       grown : (v : ℕ) (low : v < made) → Became v → HasGrown 1 (was v) (then v)
       grown v low became =
           let played = node-played v low in
           let t = then-either v low became in
+          let links = running.stands.each v s0 low in
           let lines =
           lines-grow d o u g v (running.nodes v) (rounded.acks2 v) (rounded.mail2 v) (crew2 v).faults (fault v) (come-to v low) (was v) (is v) (then v) played most became in
           record {
             turns = turns-go-on d o u g v (running.nodes v) (rounded.acks2 v) (rounded.mail2 v) (crew2 v).faults (fault v) (come-to v low) (was v) (is v) (then v) played (up-before v low) t;
             lines = subst (λ (ls : List ℕ). GrowsByFew 1 ls (then v).lines.items) (ap (λ x. x.items) (back v low).lines) lines;
-            mail = record { puts = puts_of played.by_sender; after = t.node.mail };
-            acks = record { puts = puts_of played.by_handler; after = t.node.acks };
+            mail = goes-on-by v low became (was v).mail (then v).mail played.by_sender links.mail.from links.mail.to_each t.node.sender_spelled t.node.among.right t.node.mail;
+            acks = goes-on-by v low became (was v).acks (then v).acks played.by_handler links.acks.from links.acks.to_each t.node.handler_spelled t.node.among.left t.node.acks;
           }
 
       pub all-grown : ((v : ℕ) → v < made → Became v) → HaveGrown 1 r r2
