@@ -87,7 +87,7 @@ pub record AreOwnDevices {D O U : Type 0} (views : Views D O U) (terms : Terms) 
   pub outlet : MayFailAt terms.scripted v (terms.fails v) (views.calls out)
 
 -- what is kept of node v after a run with this schedule, these emissions and restarts: whatever a crash leaves of its disks recovers to its
--- place in the abstract network, and where it made a turn after its last restart, if any, its image alone is its heap; its outlet took what it
+-- place in the abstract network, and where it made more turns than each of its restart lines says, its image alone is its heap; its outlet took what it
 -- emitted; what its turns drew is among what its oracle answered, in order; and its logs were synced for each turn
 pub record KeepsNode {D O U : Type 0} (views : Views D O U) (g : Game) (terms : Terms) (v : ℕ) (schedule : List Step) (emissions : List Emission) (restarts : List RestartLine) (kept : Option (Disks D × O × U)) : Type 0 where
   pub disks : Disks D
