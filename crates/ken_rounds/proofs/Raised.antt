@@ -21,7 +21,9 @@ use Rattle.ken_flow.proofs.Puts.{run_grows}
 use Rattle.ken_whole.proofs.Runs.{after-nothing, run-append}
 use Rattle.ken_node.specs.declared.watched.Watched.{Watched}
 use Rattle.ken_node.specs.Down.{IsDown}
+use Rattle.ken_work.specs.Parts.{CountsAnew}
 use Rattle.ken_node.specs.Stages.{refusals_in, turns_in}
+use Rattle.ken_run.proofs.CountsAnew.{counts-less}
 use Rattle.ken_node.specs.Up.{IsUp}
 use Rattle.ken_run.specs.declared.station.Station.{Station}
 use Rattle.ken_run.specs.Accounts.{AccountsStation, IsAccounted, IsHeld, Terms}
@@ -46,7 +48,7 @@ pub record RaisedAs {D O U : Type 0} (d : disk.Ghosts (Watched D)) (o : oracle.G
   pub accounts : (terms : Terms) (g : Game) (v : ℕ) → IsHeld d.told d.faults d.fate o.telling terms g v old → most ≤ terms.most → AccountsStation d.told d.faults d.fate o.telling terms g result v new
   pub counts : KeepCounts d.faults old.node.stage new.node.stage
   pub emissions : KeepsEmissions old new
-  pub refusals : refusals_in new.node.stage ≤ refusals_in old.node.stage
+  pub refusals : CountsAnew result (refusals_in old.node.stage) (refusals_in new.node.stage)
   pub rest : IsRestartOf old new
 
 -- what became of a node: it goes on, or it is down for good, or its fault wasn't looked at
@@ -235,9 +237,9 @@ fewer-failed faults fate often less out low is = record {
 
 module _ {D O U : Type 0} (d : disk.Ghosts (Watched D)) (o : oracle.Ghosts O) (u : outlet.Ghosts U) (terms : Terms) (v most : ℕ) (fault : Option NodeFault) (c e : Station D O U) (was : IsRefused u.faults u.fate terms v c) where
   restart-refused : {result : Result (Unit {0}) NodeFault} → RaisedAs d o most result c e → IsRefused u.faults u.fate terms v e
-  restart-refused raised =
+  restart-refused {result} raised =
       let out : e.out ≡ c.out = ap (λ (x : Station D O U). x.out) raised.rest in
-      let fewer = raised.refusals in
+      let fewer = counts-less result (refusals_in c.node.stage) (refusals_in e.node.stage) raised.refusals in
       record {
         few = let few = was.few in omega (arith, few, fewer);
         failed = fewer-failed u.faults u.fate (refusals_in c.node.stage) (refusals_in e.node.stage) e.out fewer (subst (HasFailedLast u.faults u.fate (refusals_in c.node.stage)) (sym out) was.failed);

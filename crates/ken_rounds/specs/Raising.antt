@@ -1,8 +1,9 @@
 -- What becomes of nodes by the faults that their workers kept in a round.
-use Rattle.std.specs.Prelude.{◌≡◌, ◌≢◌, ℕ, ◌<◌, ◌≤◌, List, length, slice_index_or, Option, Some, None, Result, Ok, Err}
+use Rattle.std.specs.Prelude.{◌≡◌, ◌≢◌, ℕ, ◌<◌, List, length, slice_index_or, Option, Some, None, Result, Ok, Err}
 use Rattle.std.specs.declared.alloc.AllocError.{AllocError}
 use Rattle.ken_disk.specs.declared.disk.Disk as disk
 use Rattle.ken_app.specs.declared.oracle.Oracle as oracle
+use Rattle.ken_work.specs.Parts.{CountsAnew}
 use Rattle.ken_node.specs.Stages.{refusals_in}
 use Rattle.ken_ship.specs.declared.faults.NodeFault.{NodeFault}
 use Rattle.ken_ship.specs.declared.faults.NodeFault.TheVariants.{Disk, Damaged, Outlet, Memory}
@@ -27,7 +28,7 @@ module _ {D O U : Type 0} (d : disk.Ghosts D) (o : oracle.Ghosts O) (most : ℕ)
     pub accounts : AccountsRaised d o most old result new
     pub counts : KeepsCounts d old new
     pub emissions : KeepsEmissions old new
-    pub refusals : refusals_in new.node.stage ≤ refusals_in old.node.stage
+    pub refusals : CountsAnew result (refusals_in old.node.stage) (refusals_in new.node.stage)
     pub rest : IsRestartOf old new
 
   -- a node goes on: it had no fault, or was restarted
