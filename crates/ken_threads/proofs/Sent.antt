@@ -29,7 +29,10 @@ use Rattle.ken_net.specs.contracts.lossy.Lossy as lossy
 use Rattle.ken_net.specs.declared.base.Base as base
 use Rattle.ken_order.specs.contracts.order.Order as order
 use Rattle.ken_pages.specs.contracts.heap.PageHeap as heap
+use Rattle.ken_record.specs.contracts.base.Base as log_base
 use Rattle.ken_record.specs.contracts.effects.Effects as effects
+use Rattle.ken_record.specs.contracts.page.Page as page
+use Rattle.ken_record.specs.contracts.page.PageBytes as page_bytes
 use Rattle.ken_record.specs.contracts.sent.Sent as sent
 use Rattle.ken_ship.specs.contracts.items.Sealed as sealed
 use Rattle.ken_ship.specs.contracts.items.Told as told
@@ -113,16 +116,26 @@ out_syncs = search held depth 60 fits 20000
 ruleset listed = (list_sends, sent_sends, sent_syncs, out_sends, out_syncs, held)
 
 pub kept_sends : IsSend kept.the_row
-kept_sends = search (frame_sends, frame_syncs, listed) depth 60 fits 20000
+kept_sends = search listed depth 60 fits 20000
+
+-- what a log begins with: its pages share frames
+pub page_bytes_sends : IsSend page_bytes.the_row
+page_bytes_sends = search (frame_sends, frame_syncs, held) depth 60 fits 20000
+
+pub page_sends : IsSend page.the_row
+page_sends = search (page_bytes_sends, held) depth 60 fits 20000
+
+pub log_base_sends : IsSend log_base.the_row
+log_base_sends = search (page_sends, out_sends, held) depth 60 fits 20000
 
 pub turn_side_sends : (D : RattleType) → IsSend D → IsSend (turn_side.the_row D)
-turn_side_sends D d = search (heap_sends, kept_sends, held) depth 60 fits 20000
+turn_side_sends D d = search (heap_sends, kept_sends, log_base_sends, held) depth 60 fits 20000
 
 pub patch_side_sends : (D : RattleType) → IsSend D → IsSend (patch_side.the_row D)
 patch_side_sends D d = search (frame_sends, frame_syncs, held) depth 60 fits 20000
 
 pub patch_worker_sends : (D : RattleType) → IsSend D → IsSend (patch_worker.the_row D)
-patch_worker_sends D d = search (patch_side_sends, frame_sends, frame_syncs, ring.the_send, held) depth 60 fits 20000
+patch_worker_sends D d = search (frame_sends, frame_syncs, ring.the_send, held) depth 60 fits 20000
 
 pub order_sends : IsSend order.the_row
 order_sends = search sendable depth 60
