@@ -1,5 +1,5 @@
 -- A round of a run, by its answer.
-use Rattle.std.proofs.Common.{◌≡◌, ◌∙◌, ℕ, ◌<◌, ◌≤◌, ◌⊎◌, List, length, Option, None, Result, Ok, Err, inl, inr, ⊎_elim, slice_index_or, sym, subst, arith}
+use Rattle.std.proofs.Common.{◌≡◌, ◌∙◌, ℕ, ◌<◌, ◌≤◌, ◌⊎◌, List, length, Option, Some, None, Result, Ok, Err, inl, inr, ⊎_elim, slice_index_or, sym, subst, arith}
 use Rattle.std.specs.declared.alloc.AllocError.{AllocError}
 use Rattle.std.proofs.lemmas.Bool.{cases_eq, cases_lt}
 use Rattle.ken_disk.specs.declared.disk.Disk as disk
@@ -25,6 +25,7 @@ use Rattle.ken_threads.specs.declared.crew.Crew.{Crew}
 use Rattle.ken_threads.specs.Rounds.{Rounded}
 use Rattle.ken_rounds.specs.declared.lending.Tally.{Tally}
 use Rattle.ken_rounds.specs.Growth.{GrowsRounds}
+use Rattle.ken_rounds.specs.Heeded.{HasGivenOutAt, HeedsRounds}
 use Rattle.ken_rounds.specs.Lending.{AreLent, HaveCome, station_at}
 use Rattle.ken_rounds.specs.Quota.{ServesBy}
 use Rattle.ken_rounds.specs.Raising.{Answered, AnswersBy, HadMemoryAll, IsOut, IsOutAt, refused, used_up, WasRaised}
@@ -120,6 +121,40 @@ module _ {D R O U A : Type 0} {b : base.Ghosts (WireNet R)} (d : disk.Ghosts D) 
   grows (Err run_faults.Memory) a = tt
   grows (Err (run_faults.Damaged v disk place)) a = undamaged v disk place a
 
+  module _ (own_most : most ≡ r.restarts) where
+    -- node v has used up its restarts
+    used-up-at : (v : ℕ) (a : Answered d o most ran faults (Err (run_faults.Down v)) now last) → fault v ≡ Some Disk → WasRaised d o most (Err Disk) (is v) (then v) → IsUsedUpOf v r2
+    used-up-at v a disk raised =
+        let rd = rounded a.made in
+        let low = known-at a.made a.had v a.raised in
+        let may = round.may-rise w e o u handles rd.wires g made r running whole crews crews2 tallies now faults c0 t0 s0 lent rd come a.had v low disk in
+        let used = ((means (Err Disk) (is v) (then v) raised).back may.game may.node may.given may.stood_for may.doubt may.down).2 in
+        λ other. subst (λ (s : Station D O U). r2.restarts ≤ s.restarts) (sym (round.at w e o u handles rd.wires g made r running whole crews crews2 tallies now faults c0 t0 s0 lent rd come a.had last (out-count a.made a.had v a.raised) most r2 same restarts stations v other low)) (omega (arith, used, own_most, restarts))
+
+    heeded-by : (v : ℕ) (a : Answered d o most ran faults (Err (run_faults.Down v)) now last) → IsOut d o most (fault v) (is v) (then v) → HasGivenOutAt u v r r2 ⊎ IsUsedUpOf v r2
+    heeded-by v a (refused out as_it_was) =
+        let rd = rounded a.made in
+        inl (round.given-out-at w e o u handles rd.wires g made r running whole crews crews2 tallies now faults c0 t0 s0 lent rd come a.had last (out-count a.made a.had v a.raised) most r2 same restarts stations v (known-at a.made a.had v a.raised) out as_it_was)
+    heeded-by v a (used_up disk raised) = inr (used-up-at v a disk raised)
+
+    pub heeds : (result : Result (Unit {0}) RunFault) → AnswersBy d o most ran faults result now last → HeedsRounds u r result r2
+    heeds (Ok x) a =
+        let rd = rounded a.made in
+        let width = running.stands.width in
+        round.all-heeded w e o u handles rd.wires g made r running whole crews crews2 tallies now faults c0 t0 s0 lent rd come a.had last (a.raised.0 ∙ now-count a.made a.had) most r2 same restarts stations
+        (length r.stations.items) (omega (arith, width)) (λ v low. all-on a.made a.had x a v (omega (arith, width, low)))
+    heeds (Err (run_faults.Down v)) a =
+        let rd = rounded a.made in
+        let width = running.stands.width in
+        let known = known-at a.made a.had v a.raised in (
+          omega (arith, width, known),
+          round.all-heeded w e o u handles rd.wires g made r running whole crews crews2 tallies now faults c0 t0 s0 lent rd come a.had last (out-count a.made a.had v a.raised) most r2 same restarts stations
+              v (omega (arith, known)) (λ x below. before-at a.made a.had v a.raised x below),
+          heeded-by v a (a.raised.own s0),
+        )
+    heeds (Err run_faults.Memory) a = tt
+    heeds (Err (run_faults.Damaged v disk place)) a = undamaged v disk place a
+
   module _ (terms : Terms) (few : most ≡ terms.most) (before : AreAccounted w.told w.faults w.fate o.telling terms g made r) where
     pub accounts : (result : Result (Unit {0}) RunFault) → AnswersBy d o most ran faults result now last → AccountsRoundsBy w.told w.faults w.fate o.telling terms g result made r2
     accounts (Ok x) a =
@@ -163,12 +198,7 @@ module _ {D R O U A : Type 0} {b : base.Ghosts (WireNet R)} (d : disk.Ghosts D) 
     out-by v a (refused out as_it_was) =
         let rd = rounded a.made in
         inl (round.is-worn-out w e o u handles rd.wires g made r running whole crews crews2 tallies now faults c0 t0 s0 lent rd come a.had last (out-count a.made a.had v a.raised) most r2 same restarts stations terms before v (known-at a.made a.had v a.raised) out as_it_was)
-    out-by v a (used_up disk raised) =
-        let rd = rounded a.made in
-        let low = known-at a.made a.had v a.raised in
-        let may = round.may-rise w e o u handles rd.wires g made r running whole crews crews2 tallies now faults c0 t0 s0 lent rd come a.had v low disk in
-        let used = ((means (Err Disk) (is v) (then v) raised).back may.game may.node may.given may.stood_for may.doubt may.down).2 in
-        inr (λ other. subst (λ (s : Station D O U). r2.restarts ≤ s.restarts) (sym (round.at w e o u handles rd.wires g made r running whole crews crews2 tallies now faults c0 t0 s0 lent rd come a.had last (out-count a.made a.had v a.raised) most r2 same restarts stations v other low)) (omega (arith, used, own_most, restarts)))
+    out-by v a (used_up disk raised) = inr (used-up-at own_most v a disk raised)
 
     pub refuses : (result : Result (Unit {0}) RunFault) → AnswersBy d o most ran faults result now last → RefusedRunBy u.faults u.fate terms result made r2
     refuses (Ok x) a = all-refused a.had a.made (a.raised.0 ∙ now-count a.made a.had) (λ v low. inl (all-on a.made a.had x a v low))

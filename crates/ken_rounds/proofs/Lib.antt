@@ -5,6 +5,7 @@ mod Crews
 mod Ends
 mod Group
 mod Growth
+mod Heeded
 mod Joined
 mod Node
 mod Puts

@@ -25,7 +25,7 @@ use Rattle.ken_node.specs.declared.stage.Stage.TheVariants.{Created}
 use Rattle.ken_node.specs.declared.watched.Watched.{Watched}
 use Rattle.ken_node.specs.Down.{MayRestart}
 use Rattle.ken_node.specs.NodeCalls.{AreSpelled}
-use Rattle.ken_node.specs.Stages.{turns_in}
+use Rattle.ken_node.specs.Stages.{emissions_in, turns_in}
 use Rattle.ken_node.specs.Up.{IsUp}
 use Rattle.ken_run.specs.declared.run.Run.{Run}
 use Rattle.ken_run.specs.declared.station.Station.{Station}
@@ -48,6 +48,7 @@ use Rattle.ken_rounds.specs.declared.lending.Tally.{Tally}
 use Rattle.ken_rounds.specs.Crews.{CrewPlayed}
 use Rattle.ken_rounds.specs.Faults.{ComeTo, HadMemory, has_fallen, is_disk}
 use Rattle.ken_rounds.specs.Growth.{GoOn, GrowsByFew, HasGrown, HaveGrown}
+use Rattle.ken_rounds.specs.Heeded.{AreHeededBelow, HasGivenOut, HasGivenOutAt, IsHeeded}
 use Rattle.ken_rounds.specs.Lending.{AreLent, HasCome, HaveCome, station_at}
 use Rattle.ken_rounds.specs.Manned.{CameBack, IsMannedBy}
 use Rattle.ken_rounds.specs.Quota.{AreServed, CountsRose, IsServed, MeetsQuota}
@@ -58,6 +59,7 @@ use Rattle.ken_rounds.proofs.Counts.{counts-down, counts-rose-then, counts-up, h
 use Rattle.ken_rounds.proofs.Crews.{crew-played}
 use Rattle.ken_rounds.proofs.Group as group
 use Rattle.ken_rounds.proofs.Growth.{go-on}
+use Rattle.ken_rounds.proofs.Heeded.{node-heeds, NodeHeeds}
 use Rattle.ken_rounds.proofs.Node.{HasGoneDown, node-is, state-is}
 use Rattle.ken_rounds.proofs.Raised.{NodePlayed, NodeThen, RaisedAs, not-looked-at, or-either, WentOn, went-on, WentOut, went-out, accounted-on, kept-not-looked-at, kept-out, lines-grow, refused-on, refused-out, refused-same, turns-go-on, turns-then}
 use Rattle.ken_rounds.proofs.Refused.{refused, worn_out}
@@ -185,6 +187,16 @@ module _ {R D O U A : Type 0} {b : base.Ghosts (WireNet R)} (d : disk.Ghosts (Wa
     may-rise disk =
         let went = node-played.state.down (let so = subst (ComeTo (crew2 v).faults) disk come-to in so.1) in
         record { game = g; node = v; given = went.last; stood_for = node-played.after_it; doubt = went.doubt; down = went.down }
+
+    -- each refusal of its outlet counts, but for the one after which it stopped
+    abbrev Heeded : Type 0
+    Heeded =
+        NodeHeeds d e u (crew v) (crew2 v) (rounded.mail v) (rounded.mail2 v) has-come.turns has-come.patches has-come.sends (was v) (is v) manned back (has-come.met not-memory)
+
+    is-heeded : Heeded
+    is-heeded =
+        node-heeds d e u (crew v) (crew2 v) (rounded.mail v) (rounded.mail2 v) has-come.turns has-come.patches has-come.sends (was v) (is v) manned back (has-come.met not-memory)
+        (no-memory (crew2 v).faults (fault v) not-memory come-to).externaliser (rounded.ran v c0 in-crews).externaliser
 
     module _ (terms : Terms) where
       pub is-accounted : IsAccounted d.told d.faults d.fate o.telling terms g v (was v) → has_fallen (crew2 v).faults ≡ false → IsAccounted d.told d.faults d.fate o.telling terms g v (is v)
@@ -415,6 +427,61 @@ module _ {R D O U A : Type 0} {b : base.Ghosts (WireNet R)} (d : disk.Ghosts (Wa
           let is_up : IsUp d.told d.size g v (now.nodes v) (then v).node.stage = subst (λ (s : Station D O U). IsUp d.told d.size g v (now.nodes v) s.node.stage) here (now.up v other low) in
           let one = served v low (λ old made_it. meets-quota d.told d.size g now.nodes now.emissions now.stands.limits now.stands.accord v 16 old (then v).node.stage is_up made_it) (all v low) in
           subst (λ (s : Station D O U). IsServed d.faults g (16 * 1) s (slice_index_or r2.stations.items v other)) (sym there) (subst (IsServed d.faults g (16 * 1) (was v)) (sym here) one)
+
+      -- ---- their outlets' refusals, each of which counts
+
+      -- where it isn't restarted
+      heeded-still : (v : ℕ) (low : v < made) → fault v ≡ None → IsHeeded u 0 (was v) (is v)
+      heeded-still v low no_fault =
+          ⊎_elim
+          (λ (well : (((crew2 v).faults).externaliser ≡ None) × IsHeeded u 0 (was v) (is v)). well.1)
+          (λ (badly : (((crew2 v).faults).externaliser ≡ Some Outlet) × HasGivenOut u (was v) (is v)). absurd ((let so = subst (ComeTo (crew2 v).faults) no_fault (come-to v low) in so.2) badly.0))
+          (is-heeded v low)
+
+      emitted-more : (v : ℕ) (low : v < made) → length (emissions_in (was v).node.stage) ≤ length (emissions_in (is v).node.stage)
+      emitted-more v low =
+          ⊎_elim
+          (λ (well : (((crew2 v).faults).externaliser ≡ None) × IsHeeded u 0 (was v) (is v)). well.1.emitted)
+          (λ (badly : (((crew2 v).faults).externaliser ≡ Some Outlet) × HasGivenOut u (was v) (is v)). badly.1.heeded.emitted)
+          (is-heeded v low)
+
+      heeded : (v : ℕ) (low : v < made) → WentOn d o most (fault v) (is v) (then v) → IsHeeded u 0 (was v) (then v)
+      heeded v low (inl (no_fault, alike)) = subst (IsHeeded u 0 (was v)) (sym alike) (heeded-still v low no_fault)
+      heeded v low (inr (disk, raised)) =
+          let fallen = (let so = subst (ComeTo (crew2 v).faults) disk (come-to v low) in so.1) in
+          let went = (node-played v low).state.down fallen in
+          let again = (raised.back g v went.last (node-played v low).after_it went.doubt went.down).1.2 in
+          let tries = (back v low).restarts in
+          let more = emitted-more v low in
+          let kept = ap length raised.emissions in
+          record {
+            tries = omega (arith, tries, again);
+            emitted = omega (arith, more, kept);
+            rises = λ still. let same = still.restarts in absurd (omega (arith, same, tries, again));
+            refused = λ still. let same = still.restarts in absurd (omega (arith, same, tries, again));
+          }
+
+      pub all-heeded : (limit : ℕ) → limit ≤ made → ((v : ℕ) → v < limit → WentOn d o most (fault v) (is v) (then v)) → AreHeededBelow u limit r r2
+      all-heeded limit few all v other below =
+          let low : v < made = omega (arith, few, below) in
+          let there : slice_index_or r.stations.items v other ≡ was v = get_or_default r.stations.items v other s0 (in-stations v low) in
+          subst (λ (s : Station D O U). IsHeeded u 0 s (slice_index_or r2.stations.items v other)) (sym there) (subst (IsHeeded u 0 (was v)) (sym (at v other low)) (heeded v low (all v below)))
+
+      -- the outlet of one that is down refused once more than it counts
+      gave-out : (v : ℕ) (low : v < made) → fault v ≡ Some Outlet → HasGivenOut u (was v) (is v)
+      gave-out v low out =
+          ⊎_elim
+          (λ (well : (((crew2 v).faults).externaliser ≡ None) × IsHeeded u 0 (was v) (is v)).
+          let so = subst (ComeTo (crew2 v).faults) out (come-to v low) in
+          let no : None ≡ Some Outlet = sym well.0 ∙ so.1 in
+          absurd cc)
+          (λ (badly : (((crew2 v).faults).externaliser ≡ Some Outlet) × HasGivenOut u (was v) (is v)). badly.1)
+          (is-heeded v low)
+
+      pub given-out-at : (v : ℕ) (low : v < made) → fault v ≡ Some Outlet → then v ≡ is v → HasGivenOutAt u v r r2
+      given-out-at v low out alike other =
+          let there : slice_index_or r.stations.items v other ≡ was v = get_or_default r.stations.items v other s0 (in-stations v low) in
+          subst (λ (s : Station D O U). HasGivenOut u s (slice_index_or r2.stations.items v other)) (sym there) (subst (HasGivenOut u (was v)) (sym (at v other low ∙ alike)) (gave-out v low out))
 
       -- ---- their accounts
 

@@ -2,6 +2,7 @@ pub mod Clauses
 pub mod Crews
 pub mod Faults
 pub mod Growth
+pub mod Heeded
 pub mod Lending
 pub mod Manned
 pub mod Quota

@@ -3,6 +3,7 @@ ghost use Rattle.std.specs.Prelude.{◌≡◌, ◌≤◌, length};
 ghost use Rattle.ken_run.specs.Clauses.{Drains};
 ghost use Rattle.ken_rounds.specs.Clauses.{AccountsRounds, KeepsRest, LeavesRounds, QuotaRounds, RefusesRounds, StopsRounds};
 ghost use Rattle.ken_rounds.specs.Growth.{GrowsRounds};
+ghost use Rattle.ken_rounds.specs.Heeded.{HeedsRounds};
 ghost use Rattle.ken_rounds.specs.Raising.{AnswersBy, MayAnswer};
 
 use crate::lending::{bring_all_back, lend_all};
@@ -57,6 +58,7 @@ where
     ensures accounts { AccountsRounds D.Disk O.Oracle U.Outlet A.App run.old result run.new }
     ensures refused { RefusesRounds D.Disk U.Outlet A.App run.old result run.new }
     ensures stops { StopsRounds D.Disk O.Oracle U.Outlet A.App run.old result run.new }
+    ensures heeds { HeedsRounds U.Outlet run.old result run.new }
     ensures quota { QuotaRounds D.Disk U.Outlet A.App 1 run.old result run.new }
     ensures growth { GrowsRounds 1 run.old result run.new }
     ensures rest { KeepsRest run.old run.new }
@@ -98,6 +100,7 @@ where
     ensures accounts { AccountsRounds D.Disk O.Oracle U.Outlet A.App run.old result run.new }
     ensures refused { RefusesRounds D.Disk U.Outlet A.App run.old result run.new }
     ensures stops { StopsRounds D.Disk O.Oracle U.Outlet A.App run.old result run.new }
+    ensures heeds { HeedsRounds U.Outlet run.old result run.new }
     ensures quota { QuotaRounds D.Disk U.Outlet A.App rounds run.old result run.new }
     ensures growth { GrowsRounds rounds run.old result run.new }
     ensures rest { KeepsRest run.old run.new }

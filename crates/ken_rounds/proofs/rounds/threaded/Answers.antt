@@ -1,11 +1,12 @@
 -- One round after another.
-use Rattle.std.proofs.Common.{◌∙◌, refl, sym, arith}
+use Rattle.std.proofs.Common.{◌∙◌, length, refl, sym, arith}
 use Rattle.std.proofs.lemmas.Result.{err_from_is_err_and}
 use Rattle.ken_run.specs.declared.run.Run.{Run}
 use Rattle.ken_run.specs.Clauses.{Drains}
 use Rattle.ken_run.proofs.AccountsCalls.{up-has}
 use Rattle.ken_rounds.specs.Clauses.{KeepsRest}
 use Rattle.ken_rounds.proofs.Growth.{all-grown-then, grown-more, grown-none, grows-then}
+use Rattle.ken_rounds.proofs.Heeded.{all-heeded-then, fault-heeded-then, heeded-none}
 use Rattle.ken_rounds.proofs.Served.{served-fewer, served-none, served-then}
 use Rattle.ken_rounds.proofs.rounds.threaded.Goals as goal
 
@@ -19,6 +20,7 @@ loop-round-init g c = record {
   refused = λ terms game made up whole are. are;
   quota = λ game made up whole v d low. served-none (λ w. g.D.Disk.faults w.disk) game _;
   growth = λ v d low. grown-none _;
+  heeds = λ v d low. heeded-none g.U.Outlet _;
   within = omega arith;
   rest = record { nodes = refl; app = refl; restarts = refl; waiting = refl };
 }
@@ -45,6 +47,8 @@ loop-round-preserved g c =
           served-then (λ w. g.D.Disk.faults w.disk) game c.loop-round._round _ _ _ (up-has (λ w. g.D.Disk.told w.disk) (λ w. g.D.Disk.size w.disk) game v (mid.nodes v) _ (mid.up v d low))
           (before.quota game made up whole v d low) (one.quota game made (before.leaves game made up whole) whole v d low);
       growth = all-grown-then c.args.run.now c.loop-round.run c.one_round.new.run wide c.loop-round._round before.growth one.growth;
+      heeds = all-heeded-then g.U.Outlet c.args.run.now c.loop-round.run c.one_round.new.run wide before.heeds (length c.args.run.now.stations.items) (omega (arith, wide))
+          (λ v d low. one.heeds v d (omega (arith, wide, low)));
       within = let more = c.loop-round-test.true in omega (arith, more);
       rest = rest-then before.rest one.rest;
     }
@@ -111,3 +115,13 @@ pub returns-clause-growth : goal.returns-clause-growth
 returns-clause-growth g c = λ v d low.
     let within = c.loop-round.invariant.within in
     grown-more _ _ _ _ (omega (arith, within)) (c.loop-round.invariant.growth v d low)
+
+pub returns-in_err-one_round-clause-heeds : goal.returns-in_err-one_round-clause-heeds
+returns-in_err-one_round-clause-heeds g c =
+    let p = err_from_is_err_and c.from_residual.result c.from_residual.ensures.1 in
+    let before = c.loop-round.invariant in
+    let wide = (before.leaves c.requires.game c.requires.made c.requires.running c.requires.all).stands.width ∙ sym c.requires.running.stands.width in
+    rw (p.1, p.2) (fault-heeded-then g.U.Outlet c.args.run.now c.loop-round.run c.one_round.new.run wide before.heeds c.in_err-one_round.field-0.0 c.in_err-one_round.ensures.heeds)
+
+pub returns-clause-heeds : goal.returns-clause-heeds
+returns-clause-heeds g c = c.loop-round.invariant.heeds
