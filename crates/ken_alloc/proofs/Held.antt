@@ -15,7 +15,7 @@ use Rattle.ken_alloc.specs.declared.walk.Gap.{Gap}
 use Rattle.ken_model.specs.Layout.{part, head_bytes, HasHead, IsGap, IsLaid, AreCells, StandsFor}
 use Rattle.ken_alloc.specs.Changes.{room_start, room_end, with_zeros_at, after_free}
 use Rattle.ken_model.specs.Reading.{value_of}
-use Rattle.ken_alloc.specs.Objects.{Heap, heap_of, IsHeld, IsBlock, rewritten}
+use Rattle.ken_alloc.specs.Objects.{FramedHeap, heap_of, IsHeld, IsBlock, rewritten}
 use Rattle.ken_alloc.specs.Kept.{KeepsOutside}
 use Rattle.ken_alloc.specs.Walk.{IsWalk, first_of, fit_from, hole_from}
 use Rattle.ken_alloc.proofs.Kept.{KeepsOutside-same, KeepsOutside-wider, KeepsOutside-after, part_after}
@@ -28,8 +28,8 @@ use Rattle.ken_alloc.proofs.Rooms.{room_end-fit, room-hole}
 use Rattle.ken_model.proofs.Unique.{IsSized, IsSized-from_stands, StandsFor-value}
 use Rattle.ken_alloc.proofs.Walks.{walk_all}
 
-pub stands_seen : (p : Paged) (h : Heap) → IsHeld p → heap_of p ≡ h → StandsFor p.bytes h.value
-stands_seen p h held is = subst (λ (g : Heap). StandsFor p.bytes g.value) is held.now
+pub stands_seen : (p : Paged) (h : FramedHeap) → IsHeld p → heap_of p ≡ h → StandsFor p.bytes h.value
+stands_seen p h held is = subst (λ (g : FramedHeap). StandsFor p.bytes g.value) is held.now
 
 -- a block of a heap, and the cells after it
 pub record IsSeen (xs : List ℕ) (place : ℕ) (bs : List Block) : Type 0 where
@@ -224,8 +224,8 @@ on_err_any (Ok x) P p = tt
 on_err_any (Err e) P p = p
 
 -- the value that is seen is the one that is held
-pub value_seen : (p : Paged) (h : Heap) → heap_of p ≡ h → value_of p.bytes ≡ h.value
-value_seen p h is = ap (λ (g : Heap). g.value) is
+pub value_seen : (p : Paged) (h : FramedHeap) → heap_of p ≡ h → value_of p.bytes ≡ h.value
+value_seen p h is = ap (λ (g : FramedHeap). g.value) is
 
 -- a gap that was found
 pub fit_seen : (xs : List ℕ) (v : Value) (n : ℕ) (r : Option Gap) (gap : Gap) → value_of xs ≡ v → r ≡ Some gap → r ≡ fit_from 16 (length xs) (value_of xs).blocks n → Some gap ≡ fit_from 16 (length xs) v.blocks n

@@ -8,3 +8,4 @@ pub mod Begins
 pub mod Walks
 pub mod Held
 pub mod Laid
+pub mod Covered

@@ -14,8 +14,19 @@ pub record Heap : Type 0 where
   pub bytes : List ℕ
   pub begun : Option (List ℕ)
 
-abbrev pub heap_of : Paged → Heap
-heap_of p = record { value = value_of p.bytes; bytes = p.bytes; begun = p.begun }
+-- a heap, with how many frames are spare and for each page whether the turn has a frame of its own for it
+pub record FramedHeap : Type 0 where
+  pub value : Value
+  pub bytes : List ℕ
+  pub begun : Option (List ℕ)
+  pub spare : ℕ
+  pub own : List Bool
+
+abbrev pub heap_in : FramedHeap → Heap
+heap_in h = record { value = h.value; bytes = h.bytes; begun = h.begun }
+
+abbrev pub heap_of : Paged → FramedHeap
+heap_of p = record { value = value_of p.bytes; bytes = p.bytes; begun = p.begun; spare = p.spare; own = p.own }
 
 -- the bytes stand for the value, and so do those at `begin`
 pub record IsHeld (p : Paged) : Type 0 where

@@ -1,9 +1,10 @@
 // Blocks of zeros, made in a gap.
-ghost use Rattle.std.specs.Prelude.{◌≡◌, ◌+◌, ◌<◌, ◌≤◌, ◌^◌, length, replicate, IsSome, OnOk, OnErr};
+ghost use Rattle.std.specs.Prelude.{◌≡◌, ◌+◌, ◌<◌, ◌≤◌, ◌^◌, length, replicate, IsSome, OnOk, OnErr, IsOk};
 ghost use Rattle.ken_frame.specs.Written.{written};
 ghost use Rattle.ken_model.specs.Heap.{rounded};
 ghost use Rattle.ken_alloc.specs.Changes.{with_gap, with_zeros_at};
 ghost use Rattle.ken_alloc.specs.Kept.{KeepsOutside};
+ghost use Rattle.ken_alloc.specs.Frames.{LosesNone, frames_of, lacks, taken, gap_head, alloc_len};
 
 use crate::head;
 use crate::walk::Gap;
@@ -21,6 +22,9 @@ fn fill(pages: &mut PageHeap, at: u64, len: u64) -> Result<(), AllocError>
     ensures bytes { OnOk result (pages.new.bytes ≡ written pages.old.bytes at (replicate len 0)) }
     ensures others { KeepsOutside at (at + len) pages.old.bytes pages.new.bytes }
     ensures begun { pages.new.begun ≡ pages.old.begun }
+    ensures frames { OnOk result (frames_of pages.new ≡ taken at len (frames_of pages.old)) }
+    ensures covered { lacks at len (frames_of pages.old) ≤ pages.old.spare → IsOk result }
+    ensures kept { LosesNone (frames_of pages.old) (frames_of pages.new) }
 {
     let mut done = 0;
     while done < len {
@@ -41,6 +45,9 @@ fn close(pages: &mut PageHeap, from: u64, to: u64) -> Result<(), AllocError>
     ensures bytes { OnOk result (pages.new.bytes ≡ with_gap from to pages.old.bytes) }
     ensures others { KeepsOutside from to pages.old.bytes pages.new.bytes }
     ensures begun { pages.new.begun ≡ pages.old.begun }
+    ensures frames { OnOk result (frames_of pages.new ≡ taken from (gap_head from to) (frames_of pages.old)) }
+    ensures covered { lacks from (gap_head from to) (frames_of pages.old) ≤ pages.old.spare → IsOk result }
+    ensures kept { LosesNone (frames_of pages.old) (frames_of pages.new) }
 {
     if from == to {
         return Ok(());
@@ -63,6 +70,11 @@ pub(crate) fn carve(pages: &mut PageHeap, gap: Gap, len: u64) -> Result<(), Allo
     ensures bytes { OnOk result (pages.new.bytes ≡ with_zeros_at (gap.from + 16) len gap.to pages.old.bytes) }
     ensures stays { OnErr result (KeepsOutside (gap.from + 16) gap.to pages.old.bytes pages.new.bytes) }
     ensures begun { pages.new.begun ≡ pages.old.begun }
+    ensures frames { OnOk result
+        (frames_of pages.new ≡ taken gap.from (alloc_len (gap.from + 16) len gap.to) (frames_of pages.old)) }
+    ensures covered { lacks gap.from (alloc_len (gap.from + 16) len gap.to) (frames_of pages.old) ≤ pages.old.spare →
+        IsOk result }
+    ensures kept { LosesNone (frames_of pages.old) (frames_of pages.new) }
 {
     let span = HEAD + rounded(len);
     close(pages, gap.from + span, gap.to)?;

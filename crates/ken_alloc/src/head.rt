@@ -1,8 +1,9 @@
 // Heads of cells in pages.
-ghost use Rattle.std.specs.Prelude.{◌≡◌, ◌+◌, ◌%◌, ◌≤◌, length, drop, IsSome, OnOk, OnErr};
+ghost use Rattle.std.specs.Prelude.{◌≡◌, ◌+◌, ◌%◌, ◌≤◌, length, drop, IsSome, OnOk, OnErr, IsOk};
 ghost use Rattle.byteorder.specs.Endian.{big_number};
 ghost use Rattle.ken_frame.specs.Written.{written};
 ghost use Rattle.ken_model.specs.Layout.{head_bytes};
+ghost use Rattle.ken_alloc.specs.Frames.{HasMoreSpare, frames_of, lacks, taken};
 
 use byteorder::{BigEndian, ByteOrder};
 use ken_model::{Head, PAGE};
@@ -45,6 +46,9 @@ pub(crate) fn write(pages: &mut PageHeap, at: u64, head: Head) -> Result<(), All
     ensures bytes { OnOk result (pages.new.bytes ≡ written pages.old.bytes at (head_bytes head.span head.len)) }
     ensures begun { pages.new.begun ≡ pages.old.begun }
     ensures unchanged { OnErr result (pages.new.bytes ≡ pages.old.bytes) }
+    ensures frames { OnOk result (frames_of pages.new ≡ taken at 16 (frames_of pages.old)) }
+    ensures covered { lacks at 16 (frames_of pages.old) ≤ pages.old.spare → IsOk result }
+    ensures more { OnErr result (HasMoreSpare (frames_of pages.old) (frames_of pages.new)) }
 {
     pages.write(at, &head.bytes())
 }

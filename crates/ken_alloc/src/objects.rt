@@ -1,17 +1,18 @@
 // Objects in a heap.
-ghost use Rattle.std.specs.Prelude.{◌≡◌, ℕ, ◌+◌, ◌*◌, ◌<◌, ◌≤◌, length, take, drop, replicate, Some, None, IfOk, OnOk, OnErr, IfErr, IfSome, IsSome, IsSomeAnd, is_some, ◌^◌};
+ghost use Rattle.std.specs.Prelude.{◌≡◌, ℕ, ◌+◌, ◌*◌, ◌<◌, ◌≤◌, length, take, drop, replicate, Some, None, IfOk, OnOk, OnErr, IfErr, IfSome, IsSome, IsOk, IsSomeAnd, is_some, ◌^◌, false};
 ghost use Rattle.std.specs.Arc.{arc_value};
 ghost use Rattle.byteorder.specs.Endian.{big_bytes};
 ghost use Rattle.ken_frame.specs.Written.{written};
 ghost use Rattle.ken_model.specs.declared.values.Value.{Value};
 ghost use Rattle.ken_model.specs.Network.{empty_heap};
 ghost use Rattle.ken_model.specs.Heap.{IsHeap, first_gap, without_block, block_at, place_past};
-ghost use Rattle.ken_pages.specs.Paged.{dirty_pages, page_of, frozen_pages, shared_pages};
+ghost use Rattle.ken_pages.specs.Paged.{dirty_pages, page_of, frozen_pages, shared_pages, own_count, without_own};
 ghost use Rattle.ken_model.specs.Layout.{StandsFor, first_bytes, first_heap};
 ghost use Rattle.ken_model.specs.Broken.{BreaksAt};
 ghost use Rattle.ken_model.specs.Reading.{value_of};
-ghost use Rattle.ken_alloc.specs.Objects.{IsBlock, with_zeros, rewritten, place_of_front};
-ghost use Rattle.ken_alloc.specs.Changes.{after_alloc, after_free};
+ghost use Rattle.ken_alloc.specs.Objects.{Heap, heap_in, IsBlock, with_zeros, rewritten, place_of_front};
+ghost use Rattle.ken_alloc.specs.Changes.{after_alloc, after_free, room_start};
+ghost use Rattle.ken_alloc.specs.Frames.{HasMoreSpare, LosesNone, frames_in, lacks, taken, alloc_lacks, alloc_taken};
 
 use crate::walk::{self, Found};
 use crate::{Broken, adopt, carve, copy, format, fronts, head};
@@ -30,9 +31,9 @@ pub struct Objects {
 }
 
 impl Model for Objects {
-    ghost use Rattle.ken_alloc.specs.Objects.{Heap, heap_of, IsHeld};
+    ghost use Rattle.ken_alloc.specs.Objects.{FramedHeap, heap_of, IsHeld};
 
-    ghost Value = { Heap };
+    ghost Value = { FramedHeap };
 
     ghost view = { λ o. heap_of o.pages };
 
@@ -72,6 +73,7 @@ impl Objects {
     pub fn adopt(pages: PageHeap) -> Result<Objects, Broken>
         requires { pages.begun ≡ None }
         ensures same { IfOk result (λ o. (o.bytes ≡ pages.bytes) × (o.begun ≡ None)) }
+        ensures frames { IfOk result (λ o. (o.spare ≡ pages.spare) × (o.own ≡ pages.own)) }
         ensures stands { IfOk result (λ o. StandsFor pages.bytes o.value) }
         ensures none { OnErr result ((v : Value) → StandsFor pages.bytes v → ⊥) }
         ensures place { IfErr result (λ broken. BreaksAt pages.bytes broken.place) }
@@ -83,14 +85,36 @@ impl Objects {
     /// The pages again.
     pub fn into_pages(self) -> PageHeap
         ensures same { (result.bytes ≡ self.bytes) × (result.begun ≡ self.begun) }
+        ensures frames { (result.spare ≡ self.spare) × (result.own ≡ self.own) }
         ensures stands { StandsFor self.bytes self.value }
     {
         self.pages
     }
 
-    /// A block of `size` zeros, in the first gap that it fits into: its place, a multiple of 16. `None` exactly where it
-    /// fits into none. Its head and its zeros are written, and the head of what is left of the gap. After an error the
-    /// value is as before.
+    /// How many frames are spare.
+    pub fn spare(&self) -> usize
+        ensures { result ≡ self.now.spare }
+    {
+        self.pages.spare()
+    }
+
+    /// Makes frames spare until there are `count`. After an error some of them may be, and all else is as before.
+    pub fn reserve(&mut self, count: usize) -> Result<(), AllocError>
+        requires { count ≤ 2 ^ 32 }
+        ensures enough { OnOk result (count ≤ self.new.spare) }
+        ensures least { self.old.spare ≤ self.new.spare }
+        ensures most { count ≤ self.old.spare → self.new.spare ≡ self.old.spare }
+        ensures exact { self.old.spare ≤ count → self.new.spare ≤ count }
+        ensures covered { count ≤ self.old.spare → IsOk result }
+        ensures same { heap_in self.new ≡ heap_in self.old }
+        ensures own { self.new.own ≡ self.old.own }
+    {
+        self.pages.reserve(count)
+    }
+
+    /// A block of `size` zeros, in the first gap that it fits into: its place, a multiple of 16. `None` exactly where
+    /// it fits into none. Its head and its zeros are written, and the head of what is left of the gap: their pages take
+    /// spare frames, and memory where none is left. After an error the value is as before.
     pub fn alloc(&mut self, size: u64) -> Result<Option<u64>, AllocError>
         requires begun { IsSome self.old.begun }
         requires some { 1 ≤ size }
@@ -99,6 +123,11 @@ impl Objects {
         ensures bytes { IfOk result (λ place. self.new.bytes ≡ after_alloc place size self.old.value self.old.bytes) }
         ensures begun { self.new.begun ≡ self.old.begun }
         ensures unchanged { OnErr result (self.new.value ≡ self.old.value) }
+        ensures covered { alloc_lacks (first_gap self.old.value size) size self.old.value (frames_in self.old) ≤ self.old.spare →
+            IsOk result }
+        ensures frames { IfOk result (λ place.
+            frames_in self.new ≡ alloc_taken place size self.old.value (frames_in self.old)) }
+        ensures kept { LosesNone (frames_in self.old) (frames_in self.new) }
     {
         let Some(gap) = walk::first_fit(&self.pages, size) else {
             return Ok(None);
@@ -107,14 +136,20 @@ impl Objects {
         Ok(Some(gap.from + HEAD))
     }
 
-    /// Gives the block at a place back. The head of the gap that is left is written. After an error nothing has changed.
+    /// Gives the block at a place back. The head of the gap that is left is written: where the turn has no frame of its
+    /// own for the page, it takes a spare one, and memory where none is. After an error nothing has changed but that
+    /// more frames may be spare.
     pub fn free(&mut self, place: u64) -> Result<(), AllocError>
         requires begun { IsSome self.old.begun }
         requires block { IsBlock self.old.value place }
         ensures value { OnOk result (self.new.value ≡ record self.old.value { blocks = without_block place self.old.value.blocks }) }
         ensures bytes { OnOk result (self.new.bytes ≡ after_free place self.old.value self.old.bytes) }
         ensures begun { self.new.begun ≡ self.old.begun }
-        ensures unchanged { OnErr result (self.new ≡ self.old) }
+        ensures unchanged { OnErr result (heap_in self.new ≡ heap_in self.old) }
+        ensures covered { lacks (room_start self.old.value place) 16 (frames_in self.old) ≤ self.old.spare → IsOk result }
+        ensures frames { OnOk result
+            (frames_in self.new ≡ taken (room_start self.old.value place) 16 (frames_in self.old)) }
+        ensures more { OnErr result (HasMoreSpare (frames_in self.old) (frames_in self.new)) }
     {
         let Some(hole) = walk::hole(&self.pages, place) else {
             unreachable!()
@@ -166,14 +201,18 @@ impl Objects {
         self.pages.read(place + at, buf);
     }
 
-    /// Writes bytes over those of a block, from its byte `at` on. After an error nothing has changed.
+    /// Writes bytes over those of a block, from its byte `at` on. Their pages take spare frames, and memory where none
+    /// is left. After an error nothing has changed but that more frames may be spare.
     pub fn write(&mut self, place: u64, at: u64, bytes: &[u8]) -> Result<(), AllocError>
         requires begun { IsSome self.old.begun }
         requires within { IsSomeAnd (block_at place self.old.value.blocks) (λ old. at + length bytes.now ≤ length old) }
         ensures value { OnOk result (self.new.value ≡ record self.old.value { blocks = rewritten place at bytes.now self.old.value.blocks }) }
         ensures bytes { OnOk result (self.new.bytes ≡ written self.old.bytes (place + at) bytes.now) }
         ensures begun { self.new.begun ≡ self.old.begun }
-        ensures unchanged { OnErr result (self.new ≡ self.old) }
+        ensures unchanged { OnErr result (heap_in self.new ≡ heap_in self.old) }
+        ensures covered { lacks (place + at) (length bytes.now) (frames_in self.old) ≤ self.old.spare → IsOk result }
+        ensures frames { OnOk result (frames_in self.new ≡ taken (place + at) (length bytes.now) (frames_in self.old)) }
+        ensures more { OnErr result (HasMoreSpare (frames_in self.old) (frames_in self.new)) }
     {
         self.pages.write(place + at, bytes)
     }
@@ -195,13 +234,17 @@ impl Objects {
         BigEndian::read_u64(&bytes)
     }
 
-    /// Sets the root. After an error nothing has changed.
+    /// Sets the root. Its page takes a spare frame, and memory where none is left. After an error nothing has changed
+    /// but that more frames may be spare.
     pub fn set_root(&mut self, root: u64) -> Result<(), AllocError>
         requires { IsSome self.old.begun }
         ensures value { OnOk result (self.new.value ≡ record self.old.value { root = root }) }
         ensures bytes { OnOk result (self.new.bytes ≡ written self.old.bytes 0 (big_bytes 8 root)) }
         ensures begun { self.new.begun ≡ self.old.begun }
-        ensures unchanged { OnErr result (self.new ≡ self.old) }
+        ensures unchanged { OnErr result (heap_in self.new ≡ heap_in self.old) }
+        ensures covered { lacks 0 8 (frames_in self.old) ≤ self.old.spare → IsOk result }
+        ensures frames { OnOk result (frames_in self.new ≡ taken 0 8 (frames_in self.old)) }
+        ensures more { OnErr result (HasMoreSpare (frames_in self.old) (frames_in self.new)) }
     {
         let mut bytes = [0; 8];
         BigEndian::write_u64(&mut bytes, root);
@@ -252,26 +295,36 @@ impl Objects {
         self.pages.dirty()
     }
 
-    /// Those pages, each with a share of its bytes as they are now: none is copied.
+    /// Those pages, each with a share of its bytes as they are now: none is copied. The turn then has no frames of its
+    /// own for them. After an error this may be so of some of them, and all else is as before.
     pub fn freeze(&mut self) -> Result<Vec<(u32, Arc<Frame>)>, AllocError>
         requires { IsSome self.old.begun }
         ensures pages { IfOk result (λ frozen. IfSome self.old.begun (λ before. shared_pages frozen.items ≡ frozen_pages before self.old.bytes)) }
-        ensures same { self.new ≡ self.old }
+        ensures same { heap_in self.new ≡ heap_in self.old }
+        ensures spare { self.new.spare ≡ self.old.spare }
+        ensures own { OnOk result (IfSome self.old.begun (λ before.
+            self.new.own ≡ without_own (dirty_pages before self.old.bytes) self.old.own)) }
     {
         self.pages.freeze()
     }
 
-    /// Ends the turn, and keeps what it changed.
+    /// Ends the turn, and keeps what it changed. The frames that its pages had before are spare, where nobody shares
+    /// them.
     pub fn commit(&mut self)
         requires { IsSome self.old.begun }
-        ensures { self.new ≡ record self.old { begun = None } }
+        ensures same { heap_in self.new ≡ record (heap_in self.old) { begun = None } }
+        ensures spare { self.old.spare ≤ self.new.spare }
+        ensures own { self.new.own ≡ replicate (length self.old.own) false }
     {
         self.pages.commit();
     }
 
-    /// Ends the turn, where one is begun, with all bytes as they were when it began.
+    /// Ends the turn, where one is begun, with all bytes as they were when it began. Its own frames are spare again.
     pub fn abort(&mut self)
-        ensures begun { IfSome self.old.begun (λ before. self.new ≡ record { value = value_of before; bytes = before; begun = None }) }
+        ensures begun { IfSome self.old.begun (λ before.
+            heap_in self.new ≡ record { value = value_of before; bytes = before; begun = None }) }
+        ensures spare { self.new.spare ≡ self.old.spare + own_count self.old.own }
+        ensures own { self.new.own ≡ replicate (length self.old.own) false }
         ensures none { self.old.begun ≡ None → self.new ≡ self.old }
     {
         self.pages.abort();

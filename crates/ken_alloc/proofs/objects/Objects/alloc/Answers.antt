@@ -2,7 +2,7 @@ use Rattle.std.proofs.Common.{◌≡◌, ℕ, ◌+◌, List, Option, length, sym
 use Rattle.std.specs.Prelude.{option_map}
 use Rattle.ken_model.specs.Heap.{rounded}
 use Rattle.ken_alloc.specs.declared.walk.Gap.{Gap}
-use Rattle.ken_alloc.specs.Objects.{Heap}
+use Rattle.ken_alloc.specs.Objects.{FramedHeap}
 use Rattle.ken_alloc.specs.Changes.{room_end, with_zeros_at}
 use Rattle.ken_model.proofs.Unique.{IsSized, IsSized-from_stands, value_of-unique}
 use Rattle.ken_alloc.proofs.Cells.{IsRoom}
@@ -97,5 +97,5 @@ returns-clause-bytes c =
     let v = c.args.self.now.value in
     let stands = stands_seen c.self.inside.pages c.args.self.now c.self.invariant c.self.view_is in
     let fit = fit_seen xs v c.args.size c.first_fit.result c.in-Some.gap (value_seen c.self.inside.pages c.args.self.now c.self.view_is) c.in-Some.is c.first_fit.ensures in
-    let seen : xs ≡ c.args.self.now.bytes = ap (λ (h : Heap). h.bytes) c.self.view_is in
+    let seen : xs ≡ c.args.self.now.bytes = ap (λ (h : FramedHeap). h.bytes) c.self.view_is in
     c.in_ok-carve.ensures.bytes ∙ ap (λ (k : ℕ). with_zeros_at (c.in-Some.gap.from + 16) c.args.size k xs) (sym (room_end_seen xs v stands c.args.size c.in-Some.gap fit)) ∙ ap (λ (ws : List ℕ). with_zeros_at (c.in-Some.gap.from + 16) c.args.size (room_end v (c.in-Some.gap.from + 16)) ws) seen

@@ -2,7 +2,7 @@ use Rattle.std.proofs.Common.{◌≡◌, ℕ, List, Option, is_some, ap, ◌∙�
 use Rattle.std.proofs.lemmas.Result.{on_ok_weaker}
 use Rattle.ken_model.specs.Heap.{without_block, block_at}
 use Rattle.ken_alloc.specs.declared.walk.Gap.{Gap}
-use Rattle.ken_alloc.specs.Objects.{Heap}
+use Rattle.ken_alloc.specs.Objects.{FramedHeap}
 use Rattle.ken_alloc.specs.Changes.{after_free}
 use Rattle.ken_model.proofs.Unique.{value_of-unique}
 use Rattle.ken_alloc.proofs.Held.{stands_seen, value_seen, hole_found, hole_seen, is_some_seen, held_after, err_same, freed, freed_bytes}
@@ -59,5 +59,5 @@ returns-clause-bytes c =
     let v = c.args.self.now.value in
     let stands = stands_seen c.self.inside.pages c.args.self.now c.self.invariant c.self.view_is in
     let hole = hole_found xs v c.args.place c.hole.result c.in-Some.hole (value_seen c.self.inside.pages c.args.self.now c.self.view_is) c.in-Some.is c.hole.ensures in
-    let seen : xs ≡ c.args.self.now.bytes = ap (λ (h : Heap). h.bytes) c.self.view_is in
+    let seen : xs ≡ c.args.self.now.bytes = ap (λ (h : FramedHeap). h.bytes) c.self.view_is in
     on_ok_weaker c.write.result (λ is. freed_bytes xs v stands c.write.new.pages.bytes c.args.place c.in-Some.hole hole is ∙ ap (λ (ws : List ℕ). after_free c.args.place v ws) seen) c.write.ensures.bytes
