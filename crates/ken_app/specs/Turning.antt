@@ -1,7 +1,7 @@
 -- A turn that is being made, and the turn that an application has made.
 use Rattle.std.specs.Prelude.{◌≡◌, ℕ, ◌<◌, ◌≤◌, List, [], ◌∷◌, ◌++◌, length, Some, IsSome, IfSome}
 use Rattle.std.specs.List.{AllByRecursion}
-use Rattle.ken_alloc.specs.Objects.{Heap}
+use Rattle.ken_alloc.specs.Objects.{Heap, heap_in}
 use Rattle.ken_model.specs.declared.messages.Message.{Message}
 use Rattle.ken_model.specs.declared.messages.Send.{Send}
 use Rattle.ken_model.specs.declared.facts.TheConstants.{MAX_NODES, MAX_TEXT}
@@ -23,7 +23,7 @@ pub record Turning : Type 0 where
   pub outs : List (List ℕ)
 
 abbrev pub turning : {O : Type 0} → Turn O → Turning
-turning t = record { node = t.node; nodes = t.nodes; message = t.message.now; heap = t.objects.now; draws = t.made.now.draws.items; sends = t.made.now.sends.items; outs = t.made.now.outs.items }
+turning t = record { node = t.node; nodes = t.nodes; message = t.message.now; heap = heap_in t.objects.now; draws = t.made.now.draws.items; sends = t.made.now.sends.items; outs = t.made.now.outs.items }
 
 -- the oracle that a turn draws from
 abbrev pub oracle_of : {O : Type 0} → Turn O → O

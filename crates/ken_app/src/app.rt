@@ -2,6 +2,7 @@
 ghost use Rattle.std.specs.Prelude.{◌≡◌, ◌<◌, ◌^◌, Some, OnOk, IfOk, IsSome};
 ghost use Rattle.std.specs.List.{AllByRecursion};
 ghost use Rattle.ken_model.specs.Handler.{Handler};
+ghost use Rattle.ken_alloc.specs.Objects.{heap_in};
 ghost use Rattle.ken_app.specs.Oracles.{Answers, HasAnswered};
 ghost use Rattle.ken_app.specs.Turning.{turning, oracle_of, IsOneTurn, IsPlaced, IsFresh, Allows, IsHandled, first_turning};
 
@@ -46,7 +47,7 @@ pub fn take_turn<A: App, O: Oracle>(
 ) -> Result<Made, AllocError>
     requires placed { IsPlaced node nodes }
     requires begun { objects.old.begun ≡ Some objects.old.bytes }
-    ensures handled { IfOk result (λ made. Allows (A.handler app.now) (first_turning node nodes message.now objects.old) made.draws.items
+    ensures handled { IfOk result (λ made. Allows (A.handler app.now) (first_turning node nodes message.now (heap_in objects.old)) made.draws.items
         → (A.handler app.now).after node nodes objects.old.value message.now made.draws.items
         ≡ Some (record { value = objects.new.value; sends = made.sends.items; outs = made.outs.items })) }
     ensures drawn { IfOk result (λ made. AllByRecursion (λ d. d < 2 ^ 64) made.draws.items) }

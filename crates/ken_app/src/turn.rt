@@ -3,6 +3,7 @@ ghost use Rattle.std.specs.Prelude.{◌≡◌, ◌↔◌, ◌<◌, ◌≤◌, []
 ghost use Rattle.std.specs.List.{list_all};
 ghost use Rattle.ken_model.specs.Reading.{value_of};
 ghost use Rattle.ken_model.specs.declared.facts.TheConstants.{MAX_TEXT};
+ghost use Rattle.ken_alloc.specs.Objects.{heap_in};
 ghost use Rattle.ken_app.specs.declared.turn.TheConstants.{MAX_DRAWS, MAX_SENDS, MAX_OUTPUTS};
 ghost use Rattle.ken_app.specs.Oracles.{Answers};
 ghost use Rattle.ken_app.specs.Turning.{turning, oracle_of, IsOneTurn, with_send, with_output};
@@ -80,7 +81,7 @@ impl<'a, O: Oracle> Turn<'a, O> {
           node = node;
           nodes = nodes;
           message = message.now;
-          heap = objects.old;
+          heap = heap_in objects.old;
           draws = made.old.draws.items;
           sends = made.old.sends.items;
           outs = made.old.outs.items;
@@ -120,7 +121,7 @@ impl<'a, O: Oracle> Turn<'a, O> {
     /// The objects in the node's heap.
     pub fn objects(&mut self) -> &mut Objects
         ensures* writes_back { sem 𝓛 (LendsObjects O.row self.entry result) }
-        ensures heap { result.now ≡ (turning self.old).heap }
+        ensures heap { heap_in result.now ≡ (turning self.old).heap }
     {
         self.objects
     }

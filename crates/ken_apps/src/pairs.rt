@@ -5,6 +5,7 @@ ghost use Rattle.ken_model.specs.declared.values.Block.{Block};
 ghost use Rattle.ken_model.specs.Heap.{IsHeap, first_gap, block_at};
 ghost use Rattle.ken_model.specs.KeyValue.{pair_of, put_at, delete_from};
 ghost use Rattle.ken_model.specs.Effects.{answered};
+ghost use Rattle.ken_alloc.specs.Objects.{heap_in};
 ghost use Rattle.ken_apps.specs.Found.{IsPairAt, with_pair};
 
 use ken_alloc::Objects;
@@ -91,7 +92,7 @@ pub(crate) fn delete(objects: &mut Objects, key: &[u8]) -> Result<bool, AllocErr
     ensures value { IfOk result (λ gone. delete_from objects.old.value (pair_of key.now objects.old.value.blocks)
         ≡ answered objects.new.value (if gone then codes "ok" else codes "none")) }
     ensures begun { objects.new.begun ≡ objects.old.begun }
-    ensures err { OnErr result (objects.new ≡ objects.old) }
+    ensures err { OnErr result (heap_in objects.new ≡ heap_in objects.old) }
 {
     let Some(place) = find(objects, key) else {
         return Ok(false);

@@ -1,6 +1,6 @@
 use Rattle.std.proofs.Common.{◌≡◌, ◌≢◌, Result, Some, Ok, sym, subst, ap, ◌∙◌}
 use Rattle.std.specs.Cmp.Lexicographic.{other_text}
-use Rattle.ken_alloc.specs.Objects.{Heap}
+use Rattle.ken_alloc.specs.Objects.{FramedHeap}
 use Rattle.ken_model.specs.declared.values.Value.{Value}
 use Rattle.ken_model.specs.Effects.{Effect}
 use Rattle.ken_model.specs.Handler.{Handler}
@@ -23,7 +23,7 @@ pub returns-in-Ok-2-clause-undefined : goal.returns-in-Ok-2-clause-undefined
 returns-in-Ok-2-clause-undefined g c _ decided =
     let same : c.in-Ok.made ≡ c.in-Ok-2._other = same_ok c.turn_by.result c.in-Ok.made c.in-Ok-2._other c.in-Ok.is c.in-Ok-2.is in
     let other : c.as_slice.result.now ≢ c.args.draws.now = other_text _ _ (sym c.if-eq.false ∙ c.eq.ensures) in
-    let at : c.begin.new.self.value ≡ c.args.self.now = ap (λ (h : Heap). h.value) c.begin.ensures ∙ c.self.view_is in
+    let at : c.begin.new.self.value ≡ c.args.self.now = ap (λ (h : FramedHeap). h.value) c.begin.ensures ∙ c.self.view_is in
     let h : Handler = limited (g.S.Service.handler c.args.service.now) in
     let e : Effect = record { value = c.turn_by.new.objects.value; sends = c.in-Ok-2._other.sends.items; outs = c.in-Ok-2._other.outs.items } in
     others_undefined h c.args.node c.args.nodes c.args.self.now c.args.message.now e c.in-Ok-2.ensures.drawn.0 c.args.draws.now c.in-Ok-2._other.draws.items decided c.in-Ok-2.ensures.drawn.1
