@@ -1,7 +1,7 @@
 -- What a call of one side keeps of the two that are apart.
 use Rattle.std.proofs.Common.{◌≡◌, ℕ, ◌+◌, ◌<◌, ◌≤◌, List, [], ◌∷◌, ◌++◌, true, Option, Some, None, IsSome, refl, sym, ap, subst, ◌∙◌, arith}
 use Rattle.ken_disk.specs.Story.{Story}
-use Rattle.ken_alloc.specs.Objects.{Heap}
+use Rattle.ken_alloc.specs.Objects.{Heap, FramedHeap, heap_in}
 use Rattle.ken_record.specs.declared.page.Page.{Page}
 use Rattle.ken_cover.specs.Overlay.{AreWithin}
 use Rattle.ken_cover.specs.Sides.{TurnPages, ImagePages, sealed_pages, handed_pages, synced_pages, turned_pages}
@@ -48,10 +48,10 @@ work_bytes : (a b : List ℕ) (o : Option (List ℕ)) → IsSome o → sealed_by
 work_bytes a b None some = absurd cc
 work_bytes a b (Some before) some = refl
 
-begun_pages : {D : Type 0} (old new : TurnSide D) → old.objects.begun ≡ None → new.objects ≡ begun_on old.objects → KeepsLog old new → turn_pages new ≡ turn_pages old
-begun_pages old new none objects same = pages_are _ _ _ _ (ap (λ (h : Heap). sealed_bytes h.bytes h.begun) objects ∙ begun_bytes old.objects none) (rw (same.log, same.base_turns, same.records) refl)
+begun_pages : {D : Type 0} (old new : TurnSide D) → old.objects.begun ≡ None → heap_in new.objects ≡ begun_on (heap_in old.objects) → KeepsLog old new → turn_pages new ≡ turn_pages old
+begun_pages old new none objects same = pages_are _ _ _ _ (ap (λ (h : Heap). sealed_bytes h.bytes h.begun) objects ∙ begun_bytes (heap_in old.objects) none) (rw (same.log, same.base_turns, same.records) refl)
 
-work_pages : {D : Type 0} (side : TurnSide D) (heap : Heap) → IsSome side.objects.begun → heap.begun ≡ side.objects.begun → turn_pages (record side { objects = heap }) ≡ turn_pages side
+work_pages : {D : Type 0} (side : TurnSide D) (heap : FramedHeap) → IsSome side.objects.begun → heap.begun ≡ side.objects.begun → turn_pages (record side { objects = heap }) ≡ turn_pages side
 work_pages side heap some begun = pages_are _ _ _ _ (ap (sealed_bytes heap.bytes) begun ∙ work_bytes heap.bytes side.objects.bytes side.objects.begun some) refl
 
 module _ {D : Type 0} (told : D → Option Story) (size : D → ℕ) where
@@ -79,7 +79,7 @@ module _ {D : Type 0} (told : D → Option Story) (size : D → ℕ) where
   pub seal_keeps_apart : SealKeepsApart told size
   seal_keeps_apart handler new patcher waiting i e turn pages apart turning sealed changed owner =
       let n : ℕ = handler.owner.pages in
-      let within : AreWithin n pages = changed_within n (turn_pages handler).heap pages (sealed_size n handler.objects apart.turns.heap) changed.each in
+      let within : AreWithin n pages = changed_within n (turn_pages handler).heap pages (sealed_size n (heap_in handler.objects) apart.turns.heap) changed.each in
       let now : new.numbers.turns ≡ turn = ap (λ (n : Numbers). n.turns) sealed.numbers in
       let later : known_after patcher.known waiting < turn = let counted = sealed.counted in let known = apart.known in omega (arith, counted, known) in
       let same : new.owner.pages ≡ n = ap (λ (o : Owner). o.pages) owner in

@@ -9,6 +9,7 @@ use Rattle.ken_record.specs.declared.page.Page.{Page}
 use Rattle.ken_cover.specs.Covers.{IsPossible, Covers}
 use Rattle.ken_cover.specs.Sides.{ImagePages}
 use Rattle.ken_cover.proofs.Keeps.{patch_keeps_coverage}
+use Rattle.ken_alloc.specs.Objects.{heap_in}
 use Rattle.ken_store.specs.declared.disks.Which.{Which}
 use Rattle.ken_store.specs.declared.disks.Which.TheVariants.{First, Second}
 use Rattle.ken_store.specs.declared.patching.PatchSide.{PatchSide}
@@ -97,7 +98,7 @@ module _ {D : Type 0} (told : D → Option Story) (size : D → ℕ) where
   pub seal_recovers_apart : SealRecoversApart told size
   seal_recovers_apart handler new patcher waiting i e v now apart begun fits follow same reads reads2 any =
       let it = comes handler.owner handler.numbers (handler.numbers.turns + 1) e handler.objects.bytes apart.turns.owner.most fits follow apart.turns.heap.bytes handler.objects.begun apart.turns.heap.before begun in
-      let within = changed_within handler.owner.pages (turn_pages handler).heap (coming_record handler e).pages (sealed_size handler.owner.pages handler.objects apart.turns.heap) it.changed.each in
+      let within = changed_within handler.owner.pages (turn_pages handler).heap (coming_record handler e).pages (sealed_size handler.owner.pages (heap_in handler.objects) apart.turns.heap) it.changed.each in
       either_recovers told size handler apart.turns (hand_all waiting i) apart.covers v reads e it.follow within new same.which same.other patcher.image.disk patcher.image.disk refl (possible_then told size handler patcher waiting i apart) now (ap read_value it.laid ∙ reads2) any
 
   pub unsealed_recovers_apart : UnsealedRecoversApart told size

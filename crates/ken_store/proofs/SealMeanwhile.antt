@@ -5,7 +5,7 @@ use Rattle.ken_disk.specs.Moments.{Through}
 use Rattle.ken_disk.specs.Story.{Story, Follows}
 use Rattle.ken_model.specs.declared.values.Value.{Value}
 use Rattle.ken_model.specs.Reading.{read_value}
-use Rattle.ken_alloc.specs.Objects.{Heap}
+use Rattle.ken_alloc.specs.Objects.{Heap, heap_in}
 use Rattle.ken_record.specs.declared.effects.Effects.{Effects}
 use Rattle.ken_record.specs.declared.page.Page.{Page}
 use Rattle.ken_log.specs.declared.faults.SealFault.{SealFault}
@@ -66,9 +66,9 @@ patching_same told size old new i image ahead known is = record {
   holds = λ h th. subst (λ (n : ℕ). HoldsImage n i h.now) (sym (ap (λ x. x.pages) image)) (is.holds h (ap (λ x. told x.disk) (sym image) ∙ th));
 }
 
-pub undone_pages : {D : Type 0} (old new : TurnSide D) → KeepsLog old new → new.objects ≡ undone old.objects → turn_pages new ≡ turn_pages old
+pub undone_pages : {D : Type 0} (old new : TurnSide D) → KeepsLog old new → heap_in new.objects ≡ undone (heap_in old.objects) → turn_pages new ≡ turn_pages old
 undone_pages old new same objects =
-    pages_are _ _ _ _ (ap (λ (h : Heap). sealed_bytes h.bytes h.begun) objects ∙ undone_bytes old.objects old.objects.begun refl) (rw (same.log, same.base_turns, same.records) refl)
+    pages_are _ _ _ _ (ap (λ (h : Heap). sealed_bytes h.bytes h.begun) objects ∙ undone_bytes (heap_in old.objects) old.objects.begun refl) (rw (same.log, same.base_turns, same.records) refl)
   where
     undone_bytes : (h : Heap) (o : Option (List ℕ)) → h.begun ≡ o → sealed_bytes (undone_from h o).bytes (undone_from h o).begun ≡ sealed_bytes h.bytes h.begun
     undone_bytes h None is = refl

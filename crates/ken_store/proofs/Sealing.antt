@@ -17,7 +17,7 @@ use Rattle.ken_disk.proofs.Images.{image-seen_at_rest}
 use Rattle.ken_disk.proofs.Made.{told_none}
 use Rattle.ken_disk.proofs.Since.{now_too}
 use Rattle.ken_disk.proofs.Told.{tells_after, some_is}
-use Rattle.ken_alloc.specs.Objects.{Heap}
+use Rattle.ken_alloc.specs.Objects.{Heap, heap_in}
 use Rattle.ken_pages.specs.Paged.{page_of, page_differs, with_bytes, frozen_pages, shared_pages}
 use Rattle.ken_record.specs.declared.base.Base.{Base}
 use Rattle.ken_record.specs.declared.effects.Effects.{Effects}
@@ -288,7 +288,7 @@ told_before R a b follow = tells_after R (λ h. (h0 : Story) × (a ≡ Some h0))
 
 module _ {D : Type 0} (told : D → Option Story) (size : D → ℕ) (old new : TurnSide D) (is : Turning told size old) where
   -- nothing of the log changed, and the heap has its pages
-  pub turning_kept : KeepsLog old new → HasPages old.owner.pages new.objects → Turning told size new
+  pub turning_kept : KeepsLog old new → HasPages old.owner.pages (heap_in new.objects) → Turning told size new
   turning_kept same heap = record {
     owner = rw same.owner is.owner;
     log = rw same.log is.log;
@@ -303,12 +303,12 @@ module _ {D : Type 0} (told : D → Option Story) (size : D → ℕ) (old new : 
   }
 
   -- nor did the heap
-  pub turning_same : KeepsLog old new → new.objects ≡ old.objects → Turning told size new
+  pub turning_same : KeepsLog old new → heap_in new.objects ≡ heap_in old.objects → Turning told size new
   turning_same same objects = turning_kept same (subst (HasPages old.owner.pages) (sym objects) is.heap)
 
   -- another log took the place of the one there was, with the same head, and these records
   pub turning_with : (log : Log D) (rs : List Record) (n : Numbers) → IsSameNode old new → new.log ≡ log → log.header ≡ old.log.header → log.base ≡ old.log.base
-      → new.records.items ≡ rs → new.numbers ≡ n → new.base_turns.items ≡ old.base_turns.items → HasPages old.owner.pages new.objects
+      → new.records.items ≡ rs → new.numbers ≡ n → new.base_turns.items ≡ old.base_turns.items → HasPages old.owner.pages (heap_in new.objects)
       → IsSettled told size log → log.records ≡ length rs → Tells (told log.disk) (λ h. mount_of h.now.seen ≡ mounts.Whole old.log.header old.log.base rs)
       → AllByRecursion (IsRecord One) rs → numbers_of old.owner old.log.header old.log.base rs ≡ Ok n → Tells (told log.disk) (λ h. (h0 : Story) × (told old.log.disk ≡ Some h0)) → Turning told size new
   turning_with log rs n node now head base records numbers base_turns heap settled count mounts items counted follows = record {
@@ -336,7 +336,7 @@ live_more head base turns rs r = ap (λ (ls : List Layer). base_layers head base
 
 module _ {D : Type 0} (e : Effects) (old new : TurnSide D) (pages : List Page) where
   pub sealed_is : pages ≡ changed_pages old.objects.begun old.objects.bytes → overlay (sealed_bytes old.objects.bytes old.objects.begun) (changed_pages old.objects.begun old.objects.bytes) ≡ old.objects.bytes
-      → new.records.items ≡ old.records.items ++ record_of (old.numbers.turns + 1) e pages ∷ [] → new.objects ≡ record old.objects { begun = None }
+      → new.records.items ≡ old.records.items ++ record_of (old.numbers.turns + 1) e pages ∷ [] → heap_in new.objects ≡ record (heap_in old.objects) { begun = None }
       → new.log.header ≡ old.log.header → new.log.base ≡ old.log.base → new.base_turns.items ≡ old.base_turns.items
       → turn_pages new ≡ sealed_pages (old.numbers.turns + 1) pages (turn_pages old)
   sealed_is changed laid records objects head base base_turns =

@@ -30,7 +30,7 @@ use Rattle.ken_store.specs.Standing.{RecoversMeanwhile, TakesCalls, Standing, is
 use Rattle.ken_store.specs.Turning.{Turning, IsPassed, sealed_bytes, turn_pages, state_in}
 use Rattle.ken_store.specs.Turnovers.{IsTurned, IsUnturned, base_of, kept_disk, replaced_disk, without_told}
 use Rattle.std.specs.Prelude.{OnOk, OnErr, IsErrOf}
-use Rattle.ken_alloc.specs.Objects.{Heap}
+use Rattle.ken_alloc.specs.Objects.{FramedHeap}
 use Rattle.ken_store.specs.declared.faults.StoreFault.{StoreFault}
 use Rattle.ken_store.specs.declared.faults.StoreFault.TheVariants as faults
 use Rattle.ken_store.specs.declared.numbers.Numbers.{Numbers}
@@ -145,5 +145,5 @@ pub unturned_stands : {D T : Type 0} (told : D → Option Story) (size : D → �
 unturned_stands told size (Ok x) old new i stands un turning is = absurd (let none : ⊥ = cc is in none)
 unturned_stands told size (Err e) old new i stands un turning is =
     let takes : TakesCalls told size (record { turns = new; patches = old.patches }) = record { turns = turning is; patches = stands.takes.patches; count = stands.takes.count ∙ ap (λ (o : Owner). o.pages) (sym un.owner); known = stands.takes.known ∙ ap (λ (n : Numbers). n.turns) (sym un.numbers) } in
-    let pages : turn_pages new ≡ turn_pages old.turns = pages_are _ _ _ _ (ap (λ (h : Heap). sealed_bytes h.bytes h.begun) un.objects) (rw (un.head, un.base, un.base_turns, un.records) refl) in
+    let pages : turn_pages new ≡ turn_pages old.turns = pages_are _ _ _ _ (ap (λ (h : FramedHeap). sealed_bytes h.bytes h.begun) un.objects) (rw (un.head, un.base, un.base_turns, un.records) refl) in
     stands_undone told size old (record { turns = new; patches = old.patches }) i stands takes pages un.owner un.numbers refl refl

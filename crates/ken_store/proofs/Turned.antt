@@ -13,7 +13,7 @@ use Rattle.ken_disk.proofs.Told.{some_is, tells_after}
 use Rattle.ken_model.specs.declared.messages.Message.{Message}
 use Rattle.ken_model.specs.declared.messages.Out.{Out}
 use Rattle.ken_model.specs.declared.states.State.{State}
-use Rattle.ken_alloc.specs.Objects.{Heap}
+use Rattle.ken_alloc.specs.Objects.{FramedHeap}
 use Rattle.ken_record.specs.declared.base.Base.{Base}
 use Rattle.ken_record.specs.declared.header.Header.{Header}
 use Rattle.ken_record.specs.declared.page.Page.{Page}
@@ -163,7 +163,7 @@ module _ {D : Type 0} (told : D → Option Story) (size : D → ℕ) (old new : 
     pub live_turned : turn_pages new ≡ turned_pages old.owner.pages settled old.numbers.turns (turn_pages old)
     live_turned =
         pages_are _ _ _ _
-        (ap (λ (h : Heap). sealed_bytes h.bytes h.begun) objects)
+        (ap (λ (h : FramedHeap). sealed_bytes h.bytes h.begun) objects)
         (rw (head, base, records, turns) (layers_are (record { turn = next.turns; changes = map changed_in (zip (map turn_in (changes_kept old settled)) (map page_in (changes_kept old settled))) }) (record { turn = old.numbers.turns; changes = changes_kept old settled }) (cc (next_turns, zip_back (changes_kept old settled)))))
 
     pub state_turned : new.owner ≡ old.owner → new.numbers ≡ old.numbers → state_in new ≡ without_told acked emitted (state_in old)

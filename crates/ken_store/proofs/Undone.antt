@@ -1,7 +1,7 @@
 -- A turn that is taken back, whatever it did to the heap.
 use Rattle.std.proofs.Common.{◌≡◌, ℕ, List, Option, Some, None, IsSome, refl, sym, ap, subst, ◌∙◌}
 use Rattle.ken_disk.specs.Story.{Story}
-use Rattle.ken_alloc.specs.Objects.{Heap}
+use Rattle.ken_alloc.specs.Objects.{Heap, heap_in}
 use Rattle.ken_store.specs.declared.numbers.Numbers.{Numbers}
 use Rattle.ken_store.specs.declared.owner.Owner.{Owner}
 use Rattle.ken_store.specs.Apart.{WorkMayBeUndone, WorkStandsUndone}
@@ -26,9 +26,9 @@ pages-undone_from n h (Some before) is has = record { bytes = has.before before 
 module _ {D : Type 0} (told : D → Option Story) (size : D → ℕ) where
   pub work_may_be_undone : WorkMayBeUndone told size
   work_may_be_undone handler new heap turning some begun objects same =
-      let back : new.objects ≡ undone handler.objects = objects ∙ undone_same heap handler.objects some begun in
+      let back : heap_in new.objects ≡ undone (heap_in handler.objects) = objects ∙ undone_same (heap_in heap) (heap_in handler.objects) some begun in
       let log : KeepsLog handler new = record { owner = same.owner; log = same.log; which = same.which; other = same.other; numbers = same.numbers; base_turns = same.base_turns; records = same.records } in (
-        turning_kept told size handler new turning log (subst (HasPages handler.owner.pages) (sym back) (pages-undone_from handler.owner.pages handler.objects handler.objects.begun refl turning.heap)),
+        turning_kept told size handler new turning log (subst (HasPages handler.owner.pages) (sym back) (pages-undone_from handler.owner.pages (heap_in handler.objects) handler.objects.begun refl turning.heap)),
         undone_pages handler new log back,
         back,
       )

@@ -4,7 +4,7 @@ use Rattle.ken_disk.specs.Story.{Story, Tells, IsAtRest}
 use Rattle.ken_model.specs.declared.states.State.{State}
 use Rattle.ken_model.specs.Broken.{BreaksAt}
 use Rattle.ken_model.specs.Layout.{StandsFor}
-use Rattle.ken_alloc.specs.Objects.{Heap}
+use Rattle.ken_alloc.specs.Objects.{FramedHeap}
 use Rattle.ken_record.specs.declared.record.Record.{Record}
 use Rattle.ken_log.specs.declared.log.Log.{Log}
 use Rattle.ken_log.specs.Mounts.{mount_of}
@@ -80,7 +80,7 @@ IsOver (Ok (found.Fresh disks)) which log items = ⊥
 IsOver (Err fault) which log items = Unit {0}
 
 -- the objects stand in these bytes, or the bytes break where that is answered
-abbrev pub Stands : Result Heap StoreFault → List ℕ → Type 0
+abbrev pub Stands : Result FramedHeap StoreFault → List ℕ → Type 0
 Stands (Ok objects) heap = StandsFor heap objects.value
 Stands (Err (faults.Damaged disk place)) heap = (disk ≡ 1) × BreaksAt heap place
 Stands (Err faults.Disk) heap = Unit {0}

@@ -4,7 +4,7 @@ use Rattle.ken_disk.specs.Moments.{Through}
 use Rattle.ken_disk.specs.Story.{Story, Follows}
 use Rattle.ken_model.specs.declared.values.Value.{Value}
 use Rattle.ken_model.specs.Reading.{read_value}
-use Rattle.ken_alloc.specs.Objects.{Heap}
+use Rattle.ken_alloc.specs.Objects.{FramedHeap, heap_in}
 use Rattle.ken_record.specs.declared.effects.Effects.{Effects}
 use Rattle.ken_record.specs.declared.page.Page.{Page}
 use Rattle.ken_record.specs.Grammar.{IsRecord, rise_from, page_rank}
@@ -78,19 +78,19 @@ module _ {D : Type 0} (told : D → Option Story) (size : D → ℕ) where
   abbrev pub BeginKeepsApart : Type 0
   BeginKeepsApart =
       (handler new : TurnSide D) (patcher : PatchSide D) (waiting : List (ℕ × List Page)) (i : ImagePages) → Apart told size handler patcher waiting i
-      → Turning told size new → handler.objects.begun ≡ None → new.objects ≡ begun_on handler.objects → KeepsLog handler new → Apart told size new patcher waiting i
+      → Turning told size new → handler.objects.begun ≡ None → heap_in new.objects ≡ begun_on (heap_in handler.objects) → KeepsLog handler new → Apart told size new patcher waiting i
 
   -- it works on the heap
   abbrev pub WorkKeepsApart : Type 0
   WorkKeepsApart =
-      (handler : TurnSide D) (patcher : PatchSide D) (waiting : List (ℕ × List Page)) (i : ImagePages) (heap : Heap) → Apart told size handler patcher waiting i
+      (handler : TurnSide D) (patcher : PatchSide D) (waiting : List (ℕ × List Page)) (i : ImagePages) (heap : FramedHeap) → Apart told size handler patcher waiting i
       → Turning told size (record handler { objects = heap }) → IsSome handler.objects.begun → heap.begun ≡ handler.objects.begun → Apart told size (record handler { objects = heap }) patcher waiting i
 
   -- it is taken back
   abbrev pub AbortKeepsApart : Type 0
   AbortKeepsApart =
       (handler new : TurnSide D) (patcher : PatchSide D) (waiting : List (ℕ × List Page)) (i : ImagePages) → Apart told size handler patcher waiting i
-      → Turning told size new → new.objects ≡ undone handler.objects → KeepsLog handler new → Apart told size new patcher waiting i
+      → Turning told size new → heap_in new.objects ≡ undone (heap_in handler.objects) → KeepsLog handler new → Apart told size new patcher waiting i
 
   -- the pages are as they were, as after a seal that ran out of memory
   abbrev pub TurnKeepsApart : Type 0
@@ -229,11 +229,11 @@ module _ {D : Type 0} (told : D → Option Story) (size : D → ℕ) where
   -- the side takes calls, with the pages and the heap of the begin
   abbrev pub WorkMayBeUndone : Type 0
   WorkMayBeUndone =
-      (handler new : TurnSide D) (heap : Heap) → Turning told size handler → IsSome handler.objects.begun → heap.begun ≡ handler.objects.begun → new.objects ≡ undone heap → KeepsLog (record handler { objects = heap }) new
-      → Turning told size new × (turn_pages new ≡ turn_pages handler) × (new.objects ≡ undone handler.objects)
+      (handler new : TurnSide D) (heap : FramedHeap) → Turning told size handler → IsSome handler.objects.begun → heap.begun ≡ handler.objects.begun → heap_in new.objects ≡ undone (heap_in heap) → KeepsLog (record handler { objects = heap }) new
+      → Turning told size new × (turn_pages new ≡ turn_pages handler) × (heap_in new.objects ≡ undone (heap_in handler.objects))
 
   -- and a store stands as it did
   abbrev pub WorkStandsUndone : Type 0
   WorkStandsUndone =
-      (store new : Store D) (heap : Heap) (i : ImagePages) → Standing told size store i → IsSome store.turns.objects.begun → heap.begun ≡ store.turns.objects.begun → new.turns.objects ≡ undone heap
+      (store new : Store D) (heap : FramedHeap) (i : ImagePages) → Standing told size store i → IsSome store.turns.objects.begun → heap.begun ≡ store.turns.objects.begun → heap_in new.turns.objects ≡ undone (heap_in heap)
       → KeepsLog (record store.turns { objects = heap }) new.turns → new.patches ≡ store.patches → Standing told size new i

@@ -6,7 +6,7 @@ use Rattle.ken_disk.specs.Story.{Story, Tells, Follows, IsAtRest}
 use Rattle.ken_disk.specs.Writes.{Made}
 use Rattle.ken_model.specs.declared.states.State.{State}
 use Rattle.ken_model.specs.Reading.{value_of}
-use Rattle.ken_alloc.specs.Objects.{Heap}
+use Rattle.ken_alloc.specs.Objects.{Heap, heap_in}
 use Rattle.ken_pages.specs.Paged.{page_of, frozen_pages}
 use Rattle.ken_record.specs.declared.page.Page.{Page}
 use Rattle.ken_record.specs.declared.effects.Effects.{Effects}
@@ -98,7 +98,7 @@ pub record Turning {D : Type 0} (told : D → Option Story) (size : D → ℕ) (
   pub count : side.log.records ≡ length side.records.items
   pub items : AllByRecursion (IsRecord One) side.records.items
   pub numbers : numbers_of side.owner side.log.header side.log.base side.records.items ≡ Ok side.numbers
-  pub heap : HasPages side.owner.pages side.objects
+  pub heap : HasPages side.owner.pages (heap_in side.objects)
   pub turns : length side.base_turns.items ≡ length (base_pages side.log.base)
   pub rests : Tells (told side.other) (λ s. IsAtRest s.now)
   pub other : Tells (told side.log.disk) (λ h. Tells (told side.other) (λ s. PassesOver side.owner side.log.header (front_of s.now.seen)))
@@ -165,14 +165,14 @@ pub record IsSealed {D : Type 0} (e : Effects) (old : TurnSide D) (turn : ℕ) (
   pub live : turn_pages new ≡ sealed_pages turn pages (turn_pages old)
   pub records : new.records.items ≡ old.records.items ++ record_of turn e pages ∷ []
   pub numbers : new.numbers ≡ after_record old.numbers (record_of turn e pages)
-  pub objects : new.objects ≡ record old.objects { begun = None }
+  pub objects : heap_in new.objects ≡ record (heap_in old.objects) { begun = None }
   pub head : new.log.header ≡ old.log.header
   pub base : new.log.base ≡ old.log.base
   pub base_turns : new.base_turns.items ≡ old.base_turns.items
 
 -- nothing is left of the turn that was begun
 pub record IsUndone {D : Type 0} (old new : TurnSide D) : Type 0 where
-  pub objects : new.objects ≡ undone old.objects
+  pub objects : heap_in new.objects ≡ undone (heap_in old.objects)
   pub live : turn_pages new ≡ turn_pages old
   pub records : new.records.items ≡ old.records.items
   pub numbers : new.numbers ≡ old.numbers
@@ -182,7 +182,7 @@ pub record IsUndone {D : Type 0} (old new : TurnSide D) : Type 0 where
 
 -- the turn is still begun, and its record isn't among those that are kept
 pub record IsStillBegun {D : Type 0} (old new : TurnSide D) : Type 0 where
-  pub objects : new.objects ≡ old.objects
+  pub objects : heap_in new.objects ≡ heap_in old.objects
   pub records : new.records.items ≡ old.records.items
   pub numbers : new.numbers ≡ old.numbers
   pub head : new.log.header ≡ old.log.header

@@ -6,6 +6,7 @@ ghost use Rattle.ken_disk.specs.Fates.{Suffers};
 ghost use Rattle.ken_disk.specs.Story.{Tells, Follows};
 ghost use Rattle.ken_model.specs.declared.values.Value.{Value};
 ghost use Rattle.ken_model.specs.Reading.{read_value};
+ghost use Rattle.ken_alloc.specs.Objects.{heap_in};
 ghost use Rattle.ken_record.specs.declared.page.Page.{Page};
 ghost use Rattle.ken_record.specs.Grammar.{IsRecord};
 ghost use Rattle.ken_record.specs.Versions.{One};
@@ -50,7 +51,7 @@ impl<D: Disk> Store<D> {
     pub fn begin(&mut self) -> Result<(), AllocError>
         requires takes { TakesCalls D.told D.size self.old }
         requires idle { self.old.turns.objects.begun ≡ None }
-        ensures begun { OnOk result (self.new.turns.objects ≡ begun_on self.old.turns.objects) }
+        ensures begun { OnOk result (heap_in self.new.turns.objects ≡ begun_on (heap_in self.old.turns.objects)) }
         ensures none { OnErr result (self.new.turns.objects ≡ self.old.turns.objects) }
         ensures log { KeepsLog self.old.turns self.new.turns }
         ensures patches { self.new.patches ≡ self.old.patches }
@@ -72,7 +73,7 @@ impl<D: Disk> Store<D> {
     /// Takes the turn back, where one is begun: all bytes of the heap are as they were at `begin`. A store that took calls takes
     /// them, and one that is spent stays so.
     pub fn abort(&mut self)
-        ensures undone { self.new.turns.objects ≡ undone self.old.turns.objects }
+        ensures undone { heap_in self.new.turns.objects ≡ undone (heap_in self.old.turns.objects) }
         ensures log { KeepsLog self.old.turns self.new.turns }
         ensures patches { self.new.patches ≡ self.old.patches }
         ensures takes { TakesCalls D.told D.size self.old → TakesCalls D.told D.size self.new }

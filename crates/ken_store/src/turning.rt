@@ -3,6 +3,7 @@ ghost use Rattle.std.specs.Prelude.{◌≡◌, ℕ, ◌+◌, ◌≤◌, ◌<◌,
 ghost use Rattle.std.specs.Borrow.{sem};
 ghost use Rattle.ken_record.specs.Grammar.{IsRecord};
 ghost use Rattle.ken_record.specs.Versions.{One};
+ghost use Rattle.ken_alloc.specs.Objects.{heap_in};
 ghost use Rattle.ken_store.specs.Ahead.{frame_pages};
 ghost use Rattle.ken_store.specs.Lending.{LendsHeap};
 ghost use Rattle.ken_store.specs.Numbers.{follows, after_record};
@@ -61,7 +62,7 @@ impl<D: Disk> TurnSide<D> {
     pub fn begin(&mut self) -> Result<(), AllocError>
         requires turning { Turning D.told D.size self.old }
         requires idle { self.old.objects.begun ≡ None }
-        ensures begun { OnOk result (self.new.objects ≡ begun_on self.old.objects) }
+        ensures begun { OnOk result (heap_in self.new.objects ≡ begun_on (heap_in self.old.objects)) }
         ensures none { OnErr result (self.new.objects ≡ self.old.objects) }
         ensures same { KeepsLog self.old self.new }
         ensures turning { Turning D.told D.size self.new }
@@ -83,7 +84,7 @@ impl<D: Disk> TurnSide<D> {
     /// Takes the turn back, where one is begun: all bytes of the heap are as they were at `begin`. A side that took calls takes
     /// them, and one that is spent stays so.
     pub fn abort(&mut self)
-        ensures undone { self.new.objects ≡ undone self.old.objects }
+        ensures undone { heap_in self.new.objects ≡ undone (heap_in self.old.objects) }
         ensures same { KeepsLog self.old self.new }
         ensures turning { Turning D.told D.size self.old → Turning D.told D.size self.new }
     {
@@ -151,7 +152,7 @@ impl<D: Disk> TurnSide<D> {
         ensures item { IfOk result (λ x. x.0 ≡ coming_record self.old effects.now) }
         ensures pages { IfOk result (λ x. frame_pages x.1.items ≡ changed_pages self.old.objects.begun self.old.objects.bytes) }
         ensures room { OnOk result (vec_len self.new.records < vec_capacity self.new.records) }
-        ensures objects { self.new.objects ≡ self.old.objects }
+        ensures objects { heap_in self.new.objects ≡ heap_in self.old.objects }
         ensures same { KeepsLog self.old self.new }
     {
         self.records.reserve(1)?;
@@ -169,7 +170,7 @@ impl<D: Disk> TurnSide<D> {
         requires room { vec_len self.old.records < vec_capacity self.old.records }
         ensures records { self.new.records.items ≡ self.old.records.items ++ item ∷ [] }
         ensures numbers { self.new.numbers ≡ after_record self.old.numbers (record_of (self.old.numbers.turns + 1) effects.now []) }
-        ensures objects { self.new.objects ≡ record self.old.objects { begun = None } }
+        ensures objects { heap_in self.new.objects ≡ record (heap_in self.old.objects) { begun = None } }
         ensures log { self.new.log ≡ self.old.log }
         ensures base_turns { self.new.base_turns.items ≡ self.old.base_turns.items }
         ensures others { IsSameNode self.old self.new }

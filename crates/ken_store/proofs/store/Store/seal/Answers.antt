@@ -4,6 +4,7 @@ use Rattle.ken_record.specs.declared.page.Page.{Page}
 use Rattle.ken_cover.specs.Overlay.{AreWithin}
 use Rattle.ken_model.specs.Reading.{read_value}
 use Rattle.ken_model.proofs.ReadBack.{read_some}
+use Rattle.ken_alloc.specs.Objects.{heap_in}
 use Rattle.ken_store.specs.declared.faults.StoreFault.TheVariants as faults
 use Rattle.ken_store.specs.Standing.{TakesCalls}
 use Rattle.ken_store.specs.declared.patching.Ahead.{Ahead}
@@ -22,14 +23,14 @@ pub returns-then-is_err-clause-any_moment : goal.returns-then-is_err-clause-any_
 returns-then-is_err-clause-any_moment g c = λ i v stands reads.
     let t = c.requires.takes.turns in
     let it = comes c.args.self.now.turns.owner c.args.self.now.turns.numbers (c.args.self.now.turns.numbers.turns + 1) c.args.effects.now c.args.self.now.turns.objects.bytes t.owner.most c.requires.fits c.requires.follows t.heap.bytes c.args.self.now.turns.objects.begun t.heap.before c.requires.begun in
-    let within = (changed_within c.args.self.now.turns.owner.pages (turn_pages c.args.self.now.turns).heap (coming_record c.args.self.now.turns c.args.effects.now).pages (sealed_size c.args.self.now.turns.owner.pages c.args.self.now.turns.objects t.heap) it.changed.each) in
+    let within = (changed_within c.args.self.now.turns.owner.pages (turn_pages c.args.self.now.turns).heap (coming_record c.args.self.now.turns c.args.effects.now).pages (sealed_size c.args.self.now.turns.owner.pages (heap_in c.args.self.now.turns.objects) t.heap) it.changed.each) in
     seal_any_moment g.D.Disk.told g.D.Disk.size c.args.self.now i stands v reads c.args.effects.now it.follow within (record { turns = c.abort.new.self; patches = c.reserve.new.self }) c.abort.ensures.same.which c.abort.ensures.same.other c.reserve.ensures.image c.args.self.now.turns.objects.value (ap read_value it.laid ∙ read_some _ _ c.stands.ensures.now) _ _ (unsealed (Unit {0}) g.D.Disk.told g.D.Disk.size g.D.Disk.faults g.D.Disk.fate c.args.self.now.turns.log (coming_record c.args.self.now.turns c.args.effects.now) c.abort.new.self.log.disk (ap (λ l. l.disk) c.abort.ensures.same.log) t.log it.fits).story
 
 pub returns-then-is_err-clause-memory : goal.returns-then-is_err-clause-memory
 returns-then-is_err-clause-memory g c = λ i v stands reads is.
     let t = c.requires.takes.turns in
     let it = comes c.args.self.now.turns.owner c.args.self.now.turns.numbers (c.args.self.now.turns.numbers.turns + 1) c.args.effects.now c.args.self.now.turns.objects.bytes t.owner.most c.requires.fits c.requires.follows t.heap.bytes c.args.self.now.turns.objects.begun t.heap.before c.requires.begun in
-    let within = (changed_within c.args.self.now.turns.owner.pages (turn_pages c.args.self.now.turns).heap (coming_record c.args.self.now.turns c.args.effects.now).pages (sealed_size c.args.self.now.turns.owner.pages c.args.self.now.turns.objects t.heap) it.changed.each) in
+    let within = (changed_within c.args.self.now.turns.owner.pages (turn_pages c.args.self.now.turns).heap (coming_record c.args.self.now.turns c.args.effects.now).pages (sealed_size c.args.self.now.turns.owner.pages (heap_in c.args.self.now.turns.objects) t.heap) it.changed.each) in
     seal_memory g.D.Disk.told g.D.Disk.size c.args.self.now i stands v reads c.args.effects.now it.follow within (record { turns = c.abort.new.self; patches = c.reserve.new.self }) c.abort.ensures.same.which c.abort.ensures.same.other c.reserve.ensures.image _ (unsealed (Unit {0}) g.D.Disk.told g.D.Disk.size g.D.Disk.faults g.D.Disk.fate c.args.self.now.turns.log (coming_record c.args.self.now.turns c.args.effects.now) c.abort.new.self.log.disk (ap (λ l. l.disk) c.abort.ensures.same.log) t.log it.fits).story
 
 pub returns-then-is_err-clause-log : goal.returns-then-is_err-clause-log
@@ -49,14 +50,14 @@ pub returns-in_err-turn-clause-any_moment : goal.returns-in_err-turn-clause-any_
 returns-in_err-turn-clause-any_moment g c = λ i v stands reads.
     let t = c.requires.takes.turns in
     let it = comes c.args.self.now.turns.owner c.args.self.now.turns.numbers (c.args.self.now.turns.numbers.turns + 1) c.args.effects.now c.args.self.now.turns.objects.bytes t.owner.most c.requires.fits c.requires.follows t.heap.bytes c.args.self.now.turns.objects.begun t.heap.before c.requires.begun in
-    let within = (changed_within c.args.self.now.turns.owner.pages (turn_pages c.args.self.now.turns).heap (coming_record c.args.self.now.turns c.args.effects.now).pages (sealed_size c.args.self.now.turns.owner.pages c.args.self.now.turns.objects t.heap) it.changed.each) in
+    let within = (changed_within c.args.self.now.turns.owner.pages (turn_pages c.args.self.now.turns).heap (coming_record c.args.self.now.turns c.args.effects.now).pages (sealed_size c.args.self.now.turns.owner.pages (heap_in c.args.self.now.turns.objects) t.heap) it.changed.each) in
     seal_any_moment g.D.Disk.told g.D.Disk.size c.args.self.now i stands v reads c.args.effects.now it.follow within (record { turns = c.seal.new.self; patches = c.reserve.new.self }) c.in_err-turn.ensures.others.which c.in_err-turn.ensures.others.other c.reserve.ensures.image c.args.self.now.turns.objects.value (ap read_value it.laid ∙ read_some _ _ c.stands.ensures.now) _ _ c.in_err-turn.ensures.log.story
 
 pub returns-in_err-turn-clause-memory : goal.returns-in_err-turn-clause-memory
 returns-in_err-turn-clause-memory g c = λ i v stands reads is.
     let t = c.requires.takes.turns in
     let it = comes c.args.self.now.turns.owner c.args.self.now.turns.numbers (c.args.self.now.turns.numbers.turns + 1) c.args.effects.now c.args.self.now.turns.objects.bytes t.owner.most c.requires.fits c.requires.follows t.heap.bytes c.args.self.now.turns.objects.begun t.heap.before c.requires.begun in
-    let within = (changed_within c.args.self.now.turns.owner.pages (turn_pages c.args.self.now.turns).heap (coming_record c.args.self.now.turns c.args.effects.now).pages (sealed_size c.args.self.now.turns.owner.pages c.args.self.now.turns.objects t.heap) it.changed.each) in
+    let within = (changed_within c.args.self.now.turns.owner.pages (turn_pages c.args.self.now.turns).heap (coming_record c.args.self.now.turns c.args.effects.now).pages (sealed_size c.args.self.now.turns.owner.pages (heap_in c.args.self.now.turns.objects) t.heap) it.changed.each) in
     let p = err_from_is_err_and c.from_residual.result c.from_residual.ensures.1 in
     let fault : c.in_err-turn.field-0.0 ≡ faults.Memory = cc (p.1, p.2, is) in
     let story = rw fault at c.in_err-turn.ensures.log.story in
@@ -65,13 +66,13 @@ returns-in_err-turn-clause-memory g c = λ i v stands reads is.
 pub hand-requires-clause-within : goal.hand-requires-clause-within
 hand-requires-clause-within g c =
     let count : c.reserve.new.self.image.pages ≡ c.args.self.now.turns.owner.pages = ap (λ x. x.pages) c.reserve.ensures.image ∙ c.requires.takes.count in
-    subst (λ n. AreWithin n (frame_pages c.in_ok-turn.pages.items)) (sym count) (changed_within c.args.self.now.turns.owner.pages (turn_pages c.args.self.now.turns).heap (frame_pages c.in_ok-turn.pages.items) (sealed_size c.args.self.now.turns.owner.pages c.args.self.now.turns.objects c.requires.takes.turns.heap) c.in_ok-turn.ensures.changed.each)
+    subst (λ n. AreWithin n (frame_pages c.in_ok-turn.pages.items)) (sym count) (changed_within c.args.self.now.turns.owner.pages (turn_pages c.args.self.now.turns).heap (frame_pages c.in_ok-turn.pages.items) (sealed_size c.args.self.now.turns.owner.pages (heap_in c.args.self.now.turns.objects) c.requires.takes.turns.heap) c.in_ok-turn.ensures.changed.each)
 
 pub returns-clause-sealed : goal.returns-clause-sealed
 returns-clause-sealed g c =
     let sealed = c.in_ok-turn.ensures.sealed in
     let pages : List Page = frame_pages c.in_ok-turn.pages.items in
-    let within = changed_within c.args.self.now.turns.owner.pages (turn_pages c.args.self.now.turns).heap pages (sealed_size c.args.self.now.turns.owner.pages c.args.self.now.turns.objects c.requires.takes.turns.heap) c.in_ok-turn.ensures.changed.each in
+    let within = changed_within c.args.self.now.turns.owner.pages (turn_pages c.args.self.now.turns).heap pages (sealed_size c.args.self.now.turns.owner.pages (heap_in c.args.self.now.turns.objects) c.requires.takes.turns.heap) c.in_ok-turn.ensures.changed.each in
     let numbers : c.seal.new.self.numbers.turns ≡ c.in_ok-turn.turn = ap (λ n. n.turns) sealed.numbers in
     let takes : TakesCalls g.D.Disk.told g.D.Disk.size (record { turns = c.seal.new.self; patches = c.hand.new.self }) = record {
       turns = c.in_ok-turn.ensures.turning;
@@ -93,5 +94,5 @@ pub returns-clause-any_moment : goal.returns-clause-any_moment
 returns-clause-any_moment g c = λ i v stands reads.
     let t = c.requires.takes.turns in
     let it = comes c.args.self.now.turns.owner c.args.self.now.turns.numbers (c.args.self.now.turns.numbers.turns + 1) c.args.effects.now c.args.self.now.turns.objects.bytes t.owner.most c.requires.fits c.requires.follows t.heap.bytes c.args.self.now.turns.objects.begun t.heap.before c.requires.begun in
-    let within = (changed_within c.args.self.now.turns.owner.pages (turn_pages c.args.self.now.turns).heap (coming_record c.args.self.now.turns c.args.effects.now).pages (sealed_size c.args.self.now.turns.owner.pages c.args.self.now.turns.objects t.heap) it.changed.each) in
+    let within = (changed_within c.args.self.now.turns.owner.pages (turn_pages c.args.self.now.turns).heap (coming_record c.args.self.now.turns c.args.effects.now).pages (sealed_size c.args.self.now.turns.owner.pages (heap_in c.args.self.now.turns.objects) t.heap) it.changed.each) in
     seal_any_moment g.D.Disk.told g.D.Disk.size c.args.self.now i stands v reads c.args.effects.now it.follow within (record { turns = c.seal.new.self; patches = c.hand.new.self }) c.in_ok-turn.ensures.others.which c.in_ok-turn.ensures.others.other (c.hand.ensures.image ∙ c.reserve.ensures.image) c.args.self.now.turns.objects.value (ap read_value it.laid ∙ read_some _ _ c.stands.ensures.now) _ _ c.in_ok-turn.ensures.log.story

@@ -17,6 +17,7 @@ use Rattle.ken_record.specs.declared.record.Record.{Record}
 use Rattle.ken_record.specs.Turns.{turn_pages, turn_record}
 use Rattle.ken_record.specs.Grammar.{IsRecord}
 use Rattle.ken_record.specs.Versions.{One}
+use Rattle.ken_alloc.specs.Objects.{Heap, heap_in}
 use Rattle.ken_store.specs.Ahead.{frame_pages}
 use Rattle.ken_store.specs.Numbers.{follows, after_record}
 use Rattle.ken_store.specs.declared.numbers.Numbers.{Numbers}
@@ -92,7 +93,7 @@ returns-in_err-seal_turn-clause-goes_on g c = λ is.
     let head : c.seal_turn.new.self.header ≡ c.args.self.now.log.header = rw same.log at c.in_err-seal_turn.ensures.head.0 in
     let base : c.seal_turn.new.self.base ≡ c.args.self.now.log.base = rw same.log at c.in_err-seal_turn.ensures.head.1 in
     let count : c.seal_turn.new.self.records ≡ c.args.self.now.log.records = rw same.log at c.in_err-seal_turn.ensures.same.0 in
-    let heap : HasPages c.args.self.now.owner.pages c.coming.new.self.objects = subst (HasPages c.args.self.now.owner.pages) (sym c.coming.ensures.objects) t.heap in
+    let heap : HasPages c.args.self.now.owner.pages (heap_in c.coming.new.self.objects) = subst (HasPages c.args.self.now.owner.pages) (sym c.coming.ensures.objects) t.heap in
     let item : (turn_record (c.coming.new.self.numbers.turns + 1) c.args.effects.now (turn_pages c.deref.result.now)) ≡ c.in_ok-item.item = sealed_item c.args.effects.now c.coming.new.self.numbers.turns c.args.self.now.numbers.turns c.deref.result.now c.in_ok-item.frames.items (changed_pages c.args.self.now.objects.begun c.args.self.now.objects.bytes) (ap (λ (m : Numbers). m.turns) c.coming.ensures.same.numbers) c.deref.ensures.value c.in_ok-item.ensures.pages ∙ sym c.in_ok-item.ensures.item in
     let story = rw same.log at (rw fault at (story_of _ _ _ _ _ _ item c.in_err-seal_turn.ensures.story)) in
     turning_with g.D.Disk.told g.D.Disk.size c.args.self.now _ t c.seal_turn.new.self c.args.self.now.records.items c.args.self.now.numbers (record { owner = same.owner; which = same.which; other = same.other }) refl head base same.records same.numbers same.base_turns heap
@@ -113,7 +114,7 @@ returns-clause-sealed g c =
     let pages = c.in_ok-item.ensures.pages in
     let item : c.in_ok-item.item ≡ record_of (c.args.self.now.numbers.turns + 1) c.args.effects.now (frame_pages c.in_ok-item.frames.items) = c.in_ok-item.ensures.item ∙ ap (record_of (c.args.self.now.numbers.turns + 1) c.args.effects.now) (sym pages) in
     let records : c.keep.new.self.records.items ≡ c.args.self.now.records.items ++ record_of (c.args.self.now.numbers.turns + 1) c.args.effects.now (frame_pages c.in_ok-item.frames.items) ∷ [] = rw (same.records, item) at c.keep.ensures.records in
-    let objects : c.keep.new.self.objects ≡ record c.args.self.now.objects { begun = None } = rw c.coming.ensures.objects at c.keep.ensures.objects in
+    let objects : heap_in c.keep.new.self.objects ≡ record (heap_in c.args.self.now.objects) { begun = None } = c.keep.ensures.objects ∙ ap (λ (h : Heap). record h { begun = None }) c.coming.ensures.objects in
     let head : c.keep.new.self.log.header ≡ c.args.self.now.log.header = rw c.keep.ensures.log (rw same.log at c.in_ok-seal_turn.ensures.head.0) in
     let base : c.keep.new.self.log.base ≡ c.args.self.now.log.base = rw c.keep.ensures.log (rw same.log at c.in_ok-seal_turn.ensures.head.1) in
     let base_turns : c.keep.new.self.base_turns.items ≡ c.args.self.now.base_turns.items = c.keep.ensures.base_turns ∙ same.base_turns in
@@ -147,8 +148,8 @@ returns-clause-turning g c =
     let base : c.seal_turn.new.self.base ≡ c.args.self.now.log.base = rw same.log at c.in_ok-seal_turn.ensures.head.1 in
     let count : c.seal_turn.new.self.records ≡ c.args.self.now.log.records + 1 = rw same.log at c.in_ok-seal_turn.ensures.grown.0 in
     let long : length (c.args.self.now.records.items ++ c.in_ok-item.item ∷ []) ≡ length c.args.self.now.records.items + 1 = length-append c.args.self.now.records.items (c.in_ok-item.item ∷ []) in
-    let objects : c.keep.new.self.objects ≡ record c.args.self.now.objects { begun = None } = rw c.coming.ensures.objects at c.keep.ensures.objects in
-    let heap : HasPages c.args.self.now.owner.pages c.keep.new.self.objects = rw objects (record { bytes = t.heap.bytes; before = λ b none. absurd cc }) in
+    let objects : heap_in c.keep.new.self.objects ≡ record (heap_in c.args.self.now.objects) { begun = None } = c.keep.ensures.objects ∙ ap (λ (h : Heap). record h { begun = None }) c.coming.ensures.objects in
+    let heap : HasPages c.args.self.now.owner.pages (heap_in c.keep.new.self.objects) = subst (HasPages c.args.self.now.owner.pages) (sym objects) (record { bytes = t.heap.bytes; before = λ b none. absurd cc }) in
     let settled = c.in_ok-seal_turn.ensures.settled in
     let spelled : (turn_record (c.coming.new.self.numbers.turns + 1) c.args.effects.now (turn_pages c.deref.result.now)) ≡ c.in_ok-item.item = sealed_item c.args.effects.now c.coming.new.self.numbers.turns c.args.self.now.numbers.turns c.deref.result.now c.in_ok-item.frames.items (changed_pages c.args.self.now.objects.begun c.args.self.now.objects.bytes) (ap (λ (m : Numbers). m.turns) c.coming.ensures.same.numbers) c.deref.ensures.value c.in_ok-item.ensures.pages ∙ sym item in
     let story = rw same.log at (story_of _ _ _ _ _ _ spelled c.in_ok-seal_turn.ensures.story) in
