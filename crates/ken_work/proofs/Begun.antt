@@ -1,6 +1,6 @@
 -- A side on which a turn is begun, and what it is once the turn is taken back.
 use Rattle.std.proofs.Common.{◌≡◌, ℕ, List, length, Vec, Global, Option, Some, None, refl, sym, ap, subst, ◌∙◌}
-use Rattle.ken_alloc.specs.Objects.{Heap}
+use Rattle.ken_alloc.specs.Objects.{Heap, heap_in}
 use Rattle.ken_disk.specs.Story.{Story}
 use Rattle.ken_model.proofs.Unique.{value_of-unique}
 use Rattle.ken_model.specs.declared.messages.Message.{Message}
@@ -18,7 +18,7 @@ use Rattle.ken_work.specs.Making.{IsMade}
 use Rattle.ken_work.specs.Workers.{Working}
 
 -- a side with another heap of as many pages takes calls
-pub turning_on : {D : Type 0} (told : D → Option Story) (size : D → ℕ) (old new : TurnSide D) → Turning told size old → KeepsLog old new → HasPages old.owner.pages new.objects → Turning told size new
+pub turning_on : {D : Type 0} (told : D → Option Story) (size : D → ℕ) (old new : TurnSide D) → Turning told size old → KeepsLog old new → HasPages old.owner.pages (heap_in new.objects) → Turning told size new
 turning_on told size old new is same heap = record {
   owner = rw same.owner is.owner;
   log = rw same.log is.log;
@@ -51,15 +51,15 @@ joined a b c one two = record {
 }
 
 -- a turn that is made of a side on which it was begun is one of the side before
-pub made_since : {D : Type 0} (h : Handler) (m : Message) (e : Effects) (old begun new : TurnSide D) → KeepsLog old begun → begun.objects ≡ begun_on old.objects → IsMade h m e begun new → IsMade h m e old new
+pub made_since : {D : Type 0} (h : Handler) (m : Message) (e : Effects) (old begun new : TurnSide D) → KeepsLog old begun → heap_in begun.objects ≡ begun_on (heap_in old.objects) → IsMade h m e begun new → IsMade h m e old new
 made_since h m e old begun new same is made = record {
   same = joined old begun new same made.same;
   stood = subst (λ (x : Heap). StandsFor x.bytes x.value) is made.stood;
   begun = made.begun ∙ ap (λ (x : Heap). Some x.bytes) is;
-  pages = subst (λ (o : Owner). HasPages o.pages new.objects) same.owner made.pages;
+  pages = subst (λ (o : Owner). HasPages o.pages (heap_in new.objects)) same.owner made.pages;
   stands = made.stands;
   effect = made.effect;
-  made = rw (same.owner, is) at made.made;
+  made = let value : begun.objects.value ≡ old.objects.value = ap (λ (x : Heap). x.value) is in rw (same.owner, value) at made.made;
   value = made.value;
   effects = rw (same.owner, same.numbers) at made.effects;
   words = made.words;
@@ -70,7 +70,7 @@ node_kept old new same = record { owner = same.owner; which = same.which; other 
 
 -- ---- a turn that is taken back
 
-pub undone_by_abort : {D : Type 0} (old new : TurnSide D) → KeepsLog old new → new.objects ≡ undone old.objects → IsUndone old new
+pub undone_by_abort : {D : Type 0} (old new : TurnSide D) → KeepsLog old new → heap_in new.objects ≡ undone (heap_in old.objects) → IsUndone old new
 undone_by_abort old new same objects = record {
   objects = objects;
   live = undone_pages old new same objects;
@@ -89,8 +89,8 @@ heap_undone before begun now stands idle is e =
     ∙ ap (λ (b : Option (List ℕ)). record { value = before.value; bytes = before.bytes; begun = b }) (sym idle)
 
 module _ {D : Type 0} (old begun new : TurnSide D) (same : KeepsLog old begun) (idle : old.objects.begun ≡ None) (is_begun : begun.objects.begun ≡ Some old.objects.bytes) (stands : StandsFor old.objects.bytes old.objects.value) (is : IsUndone begun new) (node : IsSameNode begun new) where
-  pub heap_before : new.objects ≡ old.objects
-  heap_before = heap_undone old.objects begun.objects new.objects stands idle is_begun is.objects
+  pub heap_before : heap_in new.objects ≡ heap_in old.objects
+  heap_before = heap_undone (heap_in old.objects) (heap_in begun.objects) (heap_in new.objects) stands idle is_begun is.objects
 
   pub state_undone : IsSameState old new
   state_undone = record {

@@ -7,6 +7,7 @@ use Rattle.ken_model.specs.Effects.{Effect}
 use Rattle.ken_model.specs.Handler.{Handler}
 use Rattle.ken_model.specs.Layout.{StandsFor}
 use Rattle.ken_model.specs.Network.{outputs_from}
+use Rattle.ken_alloc.specs.Objects.{heap_in}
 use Rattle.ken_record.specs.declared.effects.Effects.{Effects}
 use Rattle.ken_record.specs.declared.page.Page.{Page}
 use Rattle.ken_core.specs.Turns.{sent_of}
@@ -41,7 +42,7 @@ pub record IsMade {D : Type 0} (h : Handler) (m : Message) (e : Effects) (old ne
   pub same : KeepsLog old new
   pub stood : StandsFor old.objects.bytes old.objects.value
   pub begun : new.objects.begun ≡ Some old.objects.bytes
-  pub pages : HasPages old.owner.pages new.objects
+  pub pages : HasPages old.owner.pages (heap_in new.objects)
   pub stands : StandsFor new.objects.bytes new.objects.value
   pub effect : Effect
   pub made : h.after old.owner.node old.owner.nodes old.objects.value m e.draws ≡ Some effect

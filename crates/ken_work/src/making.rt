@@ -3,6 +3,7 @@ ghost use Rattle.std.specs.Prelude.{◌≡◌, ◌*◌, ◌+◌, ◌^◌, ◌<�
 ghost use Rattle.std.specs.List.{AllByRecursion};
 ghost use Rattle.ken_model.specs.declared.values.Value.{Value};
 ghost use Rattle.ken_model.specs.Layout.{StandsFor};
+ghost use Rattle.ken_alloc.specs.Objects.{heap_in};
 ghost use Rattle.ken_record.specs.Grammar.{AtMost, IsWord};
 ghost use Rattle.ken_app.specs.Oracles.{Answers, HasAnswered};
 ghost use Rattle.ken_store.specs.Turning.{HasPages, KeepsLog, MaySeal, Turning};
@@ -76,7 +77,7 @@ impl<D: Disk> TurnWorker<D> {
         ensures rest { self.new ≡ record self.old { side = self.new.side } }
         ensures same { KeepsLog self.old.side self.new.side }
         ensures begun { self.new.side.objects.begun ≡ self.old.side.objects.begun }
-        ensures pages { HasPages self.old.side.owner.pages self.new.side.objects }
+        ensures pages { HasPages self.old.side.owner.pages (heap_in self.new.side.objects) }
         ensures stood { StandsFor self.old.side.objects.bytes self.old.side.objects.value }
         ensures made { IfOk result (λ e. IsMade (A.handler app.now) message.now e self.old.side self.new.side) }
         ensures draws { IfOk result (λ e. AtMost 16 IsWord e.draws) }

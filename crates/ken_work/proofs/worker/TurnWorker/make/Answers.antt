@@ -1,5 +1,5 @@
 use Rattle.std.proofs.Common.{◌≡◌, Some, refl, sym, ap, subst, ◌∙◌}
-use Rattle.ken_alloc.specs.Objects.{Heap}
+use Rattle.ken_alloc.specs.Objects.{Heap, heap_in}
 use Rattle.ken_model.specs.Handler.{Handler}
 use Rattle.ken_model.specs.Layout.{StandsFor}
 use Rattle.ken_store.specs.declared.numbers.Numbers.{Numbers}
@@ -37,14 +37,14 @@ returns-in-Err-clause-gave_up g c =
     let h : Handler = g.A.App.handler c.args.app.now in
     let w = c.args.self.now in
     let working = c.requires.working in
-    let begun_at : c.begin.new.self.objects ≡ begun_on w.side.objects = c.in_ok-begin.ensures.begun in
+    let begun_at : heap_in c.begin.new.self.objects ≡ begun_on (heap_in w.side.objects) = c.in_ok-begin.ensures.begun in
     let since = c.begin.ensures.same in
     let same : KeepsLog w.side c.work.new.self.side = joined w.side c.begin.new.self c.work.new.self.side since c.in-Err.ensures.same in
     let begun : c.work.new.self.side.objects.begun ≡ Some w.side.objects.bytes = c.in-Err.ensures.begun ∙ ap (λ (x : Heap). x.begun) begun_at in
     let stood : StandsFor w.side.objects.bytes w.side.objects.value = subst (λ (x : Heap). StandsFor x.bytes x.value) begun_at c.in-Err.ensures.stood in
     let is = undone_by_abort c.work.new.self.side c.abort.new.self c.abort.ensures.same c.abort.ensures.undone in
     let node = node_kept c.work.new.self.side c.abort.new.self c.abort.ensures.same in
-    let pages : HasPages w.side.owner.pages c.work.new.self.side.objects = subst (λ (o : Owner). HasPages o.pages c.work.new.self.side.objects) since.owner c.in-Err.ensures.pages in
+    let pages : HasPages w.side.owner.pages (heap_in c.work.new.self.side.objects) = subst (λ (o : Owner). HasPages o.pages (heap_in c.work.new.self.side.objects)) since.owner c.in-Err.ensures.pages in
     let turning : Turning g.D.Disk.told g.D.Disk.size c.abort.new.self = c.abort.ensures.turning (turning_on g.D.Disk.told g.D.Disk.size w.side c.work.new.self.side working.side same pages) in
     let state = state_undone w.side c.work.new.self.side c.abort.new.self same working.idle begun stood is node in
     let now : Working g.D.Disk.told g.D.Disk.size h (record w { side = c.abort.new.self }) = working_undone w.side c.work.new.self.side c.abort.new.self same working.idle begun stood is node g.D.Disk.told g.D.Disk.size h w w.turns working turning refl in

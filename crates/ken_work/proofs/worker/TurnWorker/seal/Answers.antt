@@ -1,5 +1,6 @@
 use Rattle.std.proofs.Common.{◌≡◌, ◌+◌, ◌++◌, ◌∷◌, [], max, slice_set, Err, refl, sym, ap, subst, ◌∙◌}
 use Rattle.std.proofs.lemmas.Result.{err_from_is_err_and}
+use Rattle.ken_alloc.specs.Objects.{heap_in}
 use Rattle.ken_order.specs.Consumed.{Consumed, place}
 use Rattle.ken_store.specs.declared.turning.TurnSide.{TurnSide}
 use Rattle.ken_store.specs.Ahead.{frame_pages}
@@ -22,7 +23,7 @@ returns-in_default-clause-seals g c = λ h before working made.
     let side = c.abort.new.self in
     let at : mid.side ≡ w.side = c.make_room.ensures.rest.1 in
     let same : KeepsLog w.side side = subst (λ (x : TurnSide _). KeepsLog x side) at c.abort.ensures.same in
-    let back : side.objects ≡ undone w.side.objects = subst (λ (x : TurnSide _). side.objects ≡ undone x.objects) at c.abort.ensures.undone in
+    let back : heap_in side.objects ≡ undone (heap_in w.side.objects) = subst (λ (x : TurnSide _). heap_in side.objects ≡ undone (heap_in x.objects)) at c.abort.ensures.undone in
     let turning : Turning g.D.Disk.told g.D.Disk.size side = c.abort.ensures.turning (subst (Turning g.D.Disk.told g.D.Disk.size) (sym at) (begun_turning g.D.Disk.told g.D.Disk.size g.D.Disk.faults g.D.Disk.fate h before w c.args.message.now c.args.effects working made)) in
     taken_back g.D.Disk.told g.D.Disk.size g.D.Disk.faults g.D.Disk.fate h before w c.args.message.now c.args.effects working made
     _ (quiet_side w mid side _ _ _ _ c.make_room.ensures.rest.0) c.make_room.ensures.rest.0.turns

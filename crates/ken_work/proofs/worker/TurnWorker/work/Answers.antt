@@ -1,6 +1,6 @@
 use Rattle.std.proofs.Common.{◌≡◌, ℕ, ◌≤◌, ◌*◌, List, length, Some, refl, sym, ap, subst, ◌∙◌, arith}
 use Rattle.std.proofs.lemmas.Result.{IfOk-weaker}
-use Rattle.ken_alloc.specs.Objects.{Heap}
+use Rattle.ken_alloc.specs.Objects.{FramedHeap, heap_in}
 use Rattle.ken_app.specs.Oracles.{Answers}
 use Rattle.ken_model.specs.declared.messages.Message.{Message}
 use Rattle.ken_model.specs.Effects.{Effect}
@@ -21,10 +21,10 @@ effects-requires-clause-sends g c =
     let s = c.args.self.now in
     let made = c.in_ok-made.field-0 in
     let effect : Effect = record { value = c.take_turn-made.new.objects.value; sends = made.sends.items; outs = made.outs.items } in
-    let before : Heap = c.objects-objects.result.now in
-    let comes = subst (λ (x : Heap). ComesTo h s.node s.nodes (256 * s.side.owner.pages) x.value) (sym c.objects-objects.ensures.heap) c.requires.heap in
+    let before : FramedHeap = c.objects-objects.result.now in
+    let comes = subst (λ (x : FramedHeap). ComesTo h s.node s.nodes (256 * s.side.owner.pages) x.value) (sym c.objects-objects.ensures.heap) c.requires.heap in
     let call = call_of s.side.owner s.order c.args.message.now made.draws.items s.node s.nodes c.requires.turning.owner c.requires.node.0 c.requires.node.1 c.requires.order c.requires.message c.in_ok-made.ensures.drawn in
-    let turn = turn_handled h s.node s.nodes (256 * s.side.owner.pages) c.args.message.now before made.draws.items effect c.requires.keeps comes call c.in_ok-made.ensures.handled in
+    let turn = turn_handled h s.node s.nodes (256 * s.side.owner.pages) c.args.message.now (heap_in before) made.draws.items effect c.requires.keeps comes call c.in_ok-made.ensures.handled in
     let few : length made.sends.items ≤ 16 = turn.allowed.few_sends in
     λ w. let low = low_sent s.side.numbers c.requires.more.numbers w in omega arith
 
@@ -37,24 +37,24 @@ returns-clause-made g c =
     let s = c.args.self.now in
     let m : Message = c.args.message.now in
     let made = c.in_ok-made.field-0 in
-    let heap : Heap = c.take_turn-made.new.objects in
+    let heap : FramedHeap = c.take_turn-made.new.objects in
     let effect : Effect = record { value = heap.value; sends = made.sends.items; outs = made.outs.items } in
-    let before : Heap = c.objects-objects.result.now in
+    let before : FramedHeap = c.objects-objects.result.now in
     let is : before ≡ s.side.objects = c.objects-objects.ensures.heap in
-    let comes = subst (λ (x : Heap). ComesTo h s.node s.nodes (256 * s.side.owner.pages) x.value) (sym is) c.requires.heap in
+    let comes = subst (λ (x : FramedHeap). ComesTo h s.node s.nodes (256 * s.side.owner.pages) x.value) (sym is) c.requires.heap in
     let call = call_of s.side.owner s.order m made.draws.items s.node s.nodes c.requires.turning.owner c.requires.node.0 c.requires.node.1 c.requires.order c.requires.message c.in_ok-made.ensures.drawn in
-    let turn = turn_handled h s.node s.nodes (256 * s.side.owner.pages) m before made.draws.items effect c.requires.keeps comes call c.in_ok-made.ensures.handled in
-    let after : h.after s.node s.nodes s.side.objects.value m made.draws.items ≡ Some effect = subst (λ (x : Heap). h.after s.node s.nodes x.value m made.draws.items ≡ Some effect) is turn.after in
-    let begun : heap.begun ≡ Some s.side.objects.bytes = c.in_ok-made.ensures.begun ∙ ap (λ (x : Heap). x.begun) is ∙ c.requires.begun in
+    let turn = turn_handled h s.node s.nodes (256 * s.side.owner.pages) m (heap_in before) made.draws.items effect c.requires.keeps comes call c.in_ok-made.ensures.handled in
+    let after : h.after s.node s.nodes s.side.objects.value m made.draws.items ≡ Some effect = subst (λ (x : FramedHeap). h.after s.node s.nodes x.value m made.draws.items ≡ Some effect) is turn.after in
+    let begun : heap.begun ≡ Some s.side.objects.bytes = c.in_ok-made.ensures.begun ∙ ap (λ (x : FramedHeap). x.begun) is ∙ c.requires.begun in
     let P : Effects → Type 0 = λ e. e ≡ effects_in s.side.owner.node s.side.numbers m made.draws.items effect in
     both_ok c.effects.result P (λ e. AtMost 16 IsWord e.draws) _
     (λ e kept drawn.
     let draws : e.draws ≡ made.draws.items = ap (λ (x : Effects). x.draws) kept in
     record {
       same = record { owner = refl; log = refl; which = refl; other = refl; numbers = refl; base_turns = refl; records = refl };
-      stood = subst (λ (x : Heap). StandsFor x.bytes x.value) is c.stands.ensures.now;
+      stood = subst (λ (x : FramedHeap). StandsFor x.bytes x.value) is c.stands.ensures.now;
       begun = begun;
-      pages = long_as_before s.side.owner.pages s.side.objects heap c.requires.turning.heap.bytes begun c.stands-2.ensures.long;
+      pages = long_as_before s.side.owner.pages (heap_in s.side.objects) (heap_in heap) c.requires.turning.heap.bytes begun c.stands-2.ensures.long;
       stands = c.stands-2.ensures.now;
       effect = effect;
       made = rw (c.requires.node.0, c.requires.node.1, draws) after;
