@@ -4,7 +4,7 @@ use Rattle.std.specs.List.{AllByRecursion}
 use Rattle.std.proofs.Math.Path.{fun_ext}
 use Rattle.std.proofs.lemmas.List.{drop-append-le, length-append, length_push, map-append}
 use Rattle.ken_disk.specs.Story.{Story}
-use Rattle.ken_alloc.specs.Objects.{Heap}
+use Rattle.ken_alloc.specs.Objects.{Heap, heap_in}
 use Rattle.ken_model.specs.declared.messages.Message.{Message}
 use Rattle.ken_model.specs.declared.messages.Out.{Out}
 use Rattle.ken_model.specs.declared.messages.Send.{Send}
@@ -63,7 +63,7 @@ use Rattle.ken_whole.proofs.StateAfter.{messages-one, messages-push, state-outs-
 use Rattle.ken_whole.proofs.Told.{all_by, told-by}
 
 -- a side with another heap of as many pages takes calls
-begun-turns : {D : Type 0} (told : D → Option Story) (size : D → ℕ) (old new : TurnSide D) → Turning told size old → KeepsLog old new → HasPages old.owner.pages new.objects → Turning told size new
+begun-turns : {D : Type 0} (told : D → Option Story) (size : D → ℕ) (old new : TurnSide D) → Turning told size old → KeepsLog old new → HasPages old.owner.pages (heap_in new.objects) → Turning told size new
 begun-turns told size old new is same heap = record {
   owner = rw same.owner is.owner;
   log = rw same.log is.log;
@@ -156,7 +156,7 @@ module _ {D : Type 0} (told : D → Option Story) (size : D → ℕ) (g : Game) 
   comes-of =
       let same : t.side.owner.pages ≡ begun.owner.pages = ap (λ (o : Owner). o.pages) (sym made.same.owner) in
       let most : begun.owner.pages ≤ 4096 = let few = whole.workers.working.side.owner.most in omega (arith, same, few) in
-      let sizes : HasPages begun.owner.pages begun.objects = subst (λ (k : ℕ). HasPages k begun.objects) same made.pages in
+      let sizes : HasPages begun.owner.pages (heap_in begun.objects) = subst (λ (k : ℕ). HasPages k (heap_in begun.objects)) same made.pages in
       comes begun.owner begun.numbers (begun.numbers.turns + 1) e begun.objects.bytes most may.fits may.follows sizes.bytes begun.objects.begun sizes.before (is-some begun.objects.begun made.begun)
     where
       is-some : (o : Option (List ℕ)) → o ≡ Some t.side.objects.bytes → IsSome o
