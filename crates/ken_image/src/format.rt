@@ -30,7 +30,11 @@ impl<D: Disk> Image<D> {
         ensures fate { Follows (Suffers (as_disk (answer_of result))) (D.fate disk) (D.fate (disk_of result)) }
     {
         match fill(&mut disk, pages, first) {
-            Ok(()) => Ok(Image { disk, pages }),
+            Ok(()) => Ok(Image {
+                disk,
+                pages,
+                spent: false,
+            }),
             Err(fault) => Err((ImageFault::from(fault), disk)),
         }
     }

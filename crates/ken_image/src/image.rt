@@ -1,14 +1,14 @@
-ghost use Rattle.std.specs.Prelude.{◌≡◌, ◌*◌, ◌<◌, ◌≤◌, ◌∷◌, [], OnOk, OnErr, IsErrOf};
+ghost use Rattle.std.specs.Prelude.{◌≡◌, ◌*◌, ◌<◌, ◌≤◌, ◌∷◌, [], true, OnOk, OnErr, IsErrOf};
 ghost use Rattle.ken_disk.specs.Fates.{Suffers};
 ghost use Rattle.ken_disk.specs.Moments.{Through};
 ghost use Rattle.ken_disk.specs.Story.{Tells, Follows, IsImage, IsAtRest};
 ghost use Rattle.ken_image.specs.Calls.{Write, Sync, Called};
-ghost use Rattle.ken_image.specs.Faults.{HasImageCause, as_disk};
+ghost use Rattle.ken_image.specs.Faults.{HasImageCause, as_disk, as_fault};
 ghost use Rattle.ken_image.specs.Pages.{place_of, page_in, ChangesPage, IsTornPage};
-ghost use Rattle.ken_image.specs.Whole.{IsWhole};
+ghost use Rattle.ken_image.specs.Whole.{HasAllPages, IsWhole};
 
 use crate::ImageFault;
-use ken_disk::Disk;
+use ken_disk::{Disk, DiskFault};
 use ken_frame::{FRAME, Frame};
 
 /// The pages of a heap on a disk, each of 256 bytes, in their order from the disk's front. A page that is written is open: a
@@ -17,6 +17,8 @@ use ken_frame::{FRAME, Frame};
 pub struct Image<D> {
     pub(crate) disk: D,
     pub(crate) pages: u32,
+    // A call of the disk failed: it is to be released.
+    pub(crate) spent: bool,
 }
 
 impl<D: Disk> Image<D> {
@@ -28,11 +30,15 @@ impl<D: Disk> Image<D> {
         ensures count { result.pages ≡ pages }
         ensures whole { IsWhole D.told D.size result }
     {
-        Image { disk, pages }
+        Image {
+            disk,
+            pages,
+            spent: false,
+        }
     }
 
-    /// Writes one page, by one call of the disk, and opens it alone. After `Disk` it counts as written, and the image is to be
-    /// released. After `Memory` nothing has changed.
+    /// Writes one page, by one call of the disk, and opens it alone. After `Disk` it counts as written, and only `release`
+    /// follows. After `Memory` nothing has changed.
     pub fn patch(&mut self, page: u32, bytes: &Frame) -> Result<(), ImageFault>
         requires whole { IsWhole D.told D.size self.old }
         requires page { page < self.old.pages }
@@ -41,17 +47,20 @@ impl<D: Disk> Image<D> {
         ensures changes { OnOk result (Follows (λ h s. ChangesPage page bytes.now h.now.seen s.now.seen) (D.told self.old.disk) (D.told self.new.disk)) }
         ensures whole { OnOk result (IsWhole D.told D.size self.new) }
         ensures goes_on { IsErrOf result ImageFault.Memory → IsWhole D.told D.size self.new }
-        ensures fails { OnErr result (Tells (D.told self.new.disk) (λ h. IsWhole D.told D.size self.new)) }
+        ensures fails { OnErr result (Tells (D.told self.new.disk) (λ h. HasAllPages D.told D.size self.new)) }
+        ensures spent { IsErrOf result ImageFault.Disk → self.new.spent ≡ true }
         ensures count { self.new.pages ≡ self.old.pages }
         ensures cause { HasImageCause (D.faults self.old.disk) (D.faults self.new.disk) result }
         ensures fate { Follows (Suffers (as_disk result)) (D.fate self.old.disk) (D.fate self.new.disk) }
     {
-        self.disk.write(place(page), bytes.as_slice())?;
-        Ok(())
+        match self.disk.write(place(page), bytes.as_slice()) {
+            Ok(()) => Ok(()),
+            Err(fault) => Err(self.failed(fault)),
+        }
     }
 
     /// Makes safe what reads give, by one call of the disk. After `Ok` no page is open. After an error the open pages are open
-    /// still, and after `Disk` the image is to be released.
+    /// still, and after `Disk` only `release` follows.
     pub fn sync(&mut self) -> Result<(), ImageFault>
         requires { IsWhole D.told D.size self.old }
         ensures calls { Follows (Called (as_disk result) (Sync ∷ [])) (D.told self.old.disk) (D.told self.new.disk) }
@@ -59,32 +68,60 @@ impl<D: Disk> Image<D> {
         ensures stable { OnOk result (Follows (λ h s. IsAtRest s.now × (s.now.seen ≡ h.now.seen)) (D.told self.old.disk) (D.told self.new.disk)) }
         ensures whole { OnOk result (IsWhole D.told D.size self.new) }
         ensures goes_on { IsErrOf result ImageFault.Memory → IsWhole D.told D.size self.new }
-        ensures fails { OnErr result (Tells (D.told self.new.disk) (λ h. IsWhole D.told D.size self.new)) }
+        ensures fails { OnErr result (Tells (D.told self.new.disk) (λ h. HasAllPages D.told D.size self.new)) }
+        ensures spent { IsErrOf result ImageFault.Disk → self.new.spent ≡ true }
         ensures count { self.new.pages ≡ self.old.pages }
         ensures cause { HasImageCause (D.faults self.old.disk) (D.faults self.new.disk) result }
         ensures fate { Follows (Suffers (as_disk result)) (D.fate self.old.disk) (D.fate self.new.disk) }
     {
-        self.disk.sync()?;
-        Ok(())
+        match self.disk.sync() {
+            Ok(()) => Ok(()),
+            Err(fault) => Err(self.failed(fault)),
+        }
     }
 
-    /// Reads one page into `frame`, by one read of the disk. After an error the frame is as before.
+    /// Reads one page into `frame`, by one read of the disk. After an error the frame is as before, and after `Disk` only
+    /// `release` follows.
     pub fn load(&mut self, page: u32, frame: &mut Frame) -> Result<(), ImageFault>
         requires whole { IsWhole D.told D.size self.old }
         requires page { page < self.old.pages }
         ensures read { Tells (D.told self.old.disk) (λ h. OnOk result (frame.new ≡ page_in page h.now.seen)) }
         ensures kept { OnErr result (frame.new ≡ frame.old) }
         ensures story { D.told self.new.disk ≡ D.told self.old.disk }
-        ensures whole { IsWhole D.told D.size self.new }
+        ensures whole { OnOk result (IsWhole D.told D.size self.new) }
+        ensures goes_on { IsErrOf result ImageFault.Memory → IsWhole D.told D.size self.new }
+        ensures fails { OnErr result (HasAllPages D.told D.size self.new) }
+        ensures spent { IsErrOf result ImageFault.Disk → self.new.spent ≡ true }
         ensures count { self.new.pages ≡ self.old.pages }
         ensures cause { HasImageCause (D.faults self.old.disk) (D.faults self.new.disk) result }
         ensures fate { Follows (Suffers (as_disk result)) (D.fate self.old.disk) (D.fate self.new.disk) }
     {
         let mut bytes = [0; FRAME];
-        self.disk.read(place(page), &mut bytes)?;
-        prove!(frame.as_slice().len() == bytes.len());
-        frame.write(0, &bytes);
-        Ok(())
+        match self.disk.read(place(page), &mut bytes) {
+            Ok(()) => {
+                prove!(frame.as_slice().len() == bytes.len());
+                frame.write(0, &bytes);
+                Ok(())
+            }
+            Err(fault) => Err(self.failed(fault)),
+        }
+    }
+
+    // The image's fault for that of its disk. Where the disk failed, the image is spent.
+    fn failed(&mut self, fault: DiskFault) -> ImageFault
+        ensures fault { result ≡ as_fault fault }
+        ensures disk { self.new.disk ≡ self.old.disk }
+        ensures count { self.new.pages ≡ self.old.pages }
+        ensures spent { result ≡ ImageFault.Disk → self.new.spent ≡ true }
+        ensures unspent { result ≡ ImageFault.Memory → self.new.spent ≡ self.old.spent }
+    {
+        match fault {
+            DiskFault::Failed => {
+                self.spent = true;
+                ImageFault::Disk
+            }
+            DiskFault::Memory => ImageFault::Memory,
+        }
     }
 
     /// How many pages it has.
