@@ -8,10 +8,10 @@ use Rattle.ken_cover.specs.Overlay.{AreWithin}
 use Rattle.ken_cover.specs.Sides.{pages_of, TurnPages, first_turn_pages, first_image_pages}
 use Rattle.ken_cover.specs.Covers.{Covers}
 use Rattle.ken_cover.proofs.Keeps.{start_is_covered}
-use Rattle.ken_image.specs.Whole.{IsWhole}
+use Rattle.ken_image.specs.Whole.{HasAllPages}
 use Rattle.ken_store.specs.declared.store.Store.{Store}
 use Rattle.ken_store.specs.Ahead.{ahead_layers}
-use Rattle.ken_store.specs.Patching.{HoldsImage, IsInOrder, TakesPatches}
+use Rattle.ken_store.specs.Patching.{HoldsImage, IsInOrder, IsPatchSide}
 use Rattle.ken_store.specs.PatchLaws.{IsAheadOf, LastChangedBefore}
 use Rattle.ken_store.proofs.AheadLaws.{start_is_ahead}
 use Rattle.ken_store.specs.Standing.{Standing}
@@ -33,19 +33,19 @@ holds_first pages s some rests is = record {
 }
 
 module _ {D : Type 0} (told : D → Option Story) (size : D → ℕ) (store : Store D) (pages : ℕ) (some : 1 ≤ pages) (turning : Turning told size store.turns) where
-  takes_patches : IsWhole told size store.patches.image → store.patches.ahead.items ≡ [] → TakesPatches told size store.patches
-  takes_patches whole none = record {
+  patch_side : HasAllPages told size store.patches.image → store.patches.ahead.items ≡ [] → IsPatchSide told size store.patches
+  patch_side whole none = record {
     image = whole;
     order = subst (λ items. IsInOrder store.patches.known items) (sym none) (record { rising = tt; base = tt; each = tt });
     within = subst (λ items. AreWithin store.patches.image.pages (pages_of (ahead_layers items))) (sym none) tt;
   }
 
-  pub first_stands : turn_pages store.turns ≡ first_turn_pages (first_heap pages) → store.turns.owner.pages ≡ pages → IsWhole told size store.patches.image → store.patches.image.pages ≡ pages → store.patches.ahead.items ≡ [] → store.patches.known ≡ 0 → store.turns.numbers.turns ≡ 0
+  pub first_stands : turn_pages store.turns ≡ first_turn_pages (first_heap pages) → store.turns.owner.pages ≡ pages → HasAllPages told size store.patches.image → store.patches.image.pages ≡ pages → store.patches.ahead.items ≡ [] → store.patches.known ≡ 0 → store.turns.numbers.turns ≡ 0
       → Tells (told store.patches.image.disk) (λ h. IsAtRest h.now × (take (256 * pages) h.now.seen ≡ first_heap pages)) → Standing told size store (first_image_pages (first_heap pages))
   first_stands is owner whole count none known no_turns holds = record {
-    takes = record { turns = turning; patches = takes_patches whole none; count = count ∙ sym owner; known = known ∙ sym no_turns };
+    takes = record { turns = turning; patches = patch_side whole none; count = count ∙ sym owner; known = known ∙ sym no_turns };
     patches = record {
-      takes = takes_patches whole none;
+      takes = patch_side whole none;
       ahead = ap ahead_layers none;
       holds = λ h told. subst (λ (n : ℕ). HoldsImage n (first_image_pages (first_heap pages)) h.now) (sym count) (holds_first pages h.now some (holds h told).0 (holds h told).1);
     };

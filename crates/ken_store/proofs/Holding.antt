@@ -13,11 +13,11 @@ use Rattle.ken_image.specs.Calls.{Call, Sync, Called, Stop, after_calls, after_f
 use Rattle.ken_image.specs.declared.faults.ImageFault.{ImageFault}
 use Rattle.ken_image.specs.declared.faults.ImageFault.TheVariants as image
 use Rattle.ken_image.specs.declared.image.Image.{Image}
-use Rattle.ken_image.specs.Whole.{IsWhole}
+use Rattle.ken_image.specs.Whole.{HasAllPages}
 use Rattle.ken_image.specs.Faults.{as_disk}
 use Rattle.ken_store.specs.declared.patching.PatchSide.{PatchSide}
 use Rattle.ken_store.specs.Ahead.{ahead_layers}
-use Rattle.ken_store.specs.Patching.{HoldsImage, TakesPatches, Patching, SettlesBy}
+use Rattle.ken_store.specs.Patching.{HoldsImage, IsPatchSide, Patching, SettlesBy}
 use Rattle.ken_store.specs.Reads.{of_image}
 use Rattle.ken_cover.specs.Overlay.{AreWithin}
 
@@ -82,7 +82,7 @@ module _ (n : ℕ) (i : ImagePages) where
 
 -- ---- a side whose image was called
 
-module _ {D : Type 0} (told : D → Option Story) (size : D → ℕ) (old new : PatchSide D) (i : ImagePages) (p : Patching told size old i) (takes : TakesPatches told size new) (count : new.image.pages ≡ old.image.pages) where
+module _ {D : Type 0} (told : D → Option Story) (size : D → ℕ) (old new : PatchSide D) (i : ImagePages) (p : Patching told size old i) (takes : IsPatchSide told size new) (count : new.image.pages ≡ old.image.pages) where
   pub stands_after : (j : ImagePages) (R : Story → Story → Type 0) → Follows R (told old.image.disk) (told new.image.disk) → ahead_layers new.ahead.items ≡ j.ahead
       → ((h s : Story) → HoldsImage old.image.pages i h.now → R h s → HoldsImage old.image.pages j s.now) → Patching told size new j
   stands_after j R follows ahead so = record {
@@ -97,13 +97,13 @@ module _ {D : Type 0} (told : D → Option Story) (size : D → ℕ) (old : Patc
   abbrev side : PatchSide D
   side = record old { image = im }
 
-  still : (T : Type 0) (e : ImageFault) → IsWhole told size im → Follows (Called {T = T} (as_disk (Err e)) (Sync ∷ [])) (told old.image.disk) (told im.disk) → Patching told size side i
+  still : (T : Type 0) (e : ImageFault) → HasAllPages told size im → Follows (Called {T = T} (as_disk (Err e)) (Sync ∷ [])) (told old.image.disk) (told im.disk) → Patching told size side i
   still T e whole calls =
       stands_after told size old side i p (record { image = whole; order = p.takes.order; within = subst (λ (n : ℕ). AreWithin n (pages_of (ahead_layers old.ahead.items))) (sym count) p.takes.within })
       count i (Called {T = T} (as_disk (Err e)) (Sync ∷ [])) calls p.ahead
       (λ h s holds called. subst (λ (x : Story). HoldsImage old.image.pages i x.now) (sym (sync_failed T e h s called)) holds)
 
-  pub synced_err : (T U : Type 0) (e : ImageFault) → (e ≡ image.Memory → IsWhole told size im) → Tells (told im.disk) (λ h. IsWhole told size im) → Follows (Called {T = T} (as_disk (Err e)) (Sync ∷ [])) (told old.image.disk) (told im.disk)
+  pub synced_err : (T U : Type 0) (e : ImageFault) → (e ≡ image.Memory → HasAllPages told size im) → Tells (told im.disk) (λ h. HasAllPages told size im) → Follows (Called {T = T} (as_disk (Err e)) (Sync ∷ [])) (told old.image.disk) (told im.disk)
       → SettlesBy {T = U} (told im.disk) (Err (of_image e)) (Patching told size side) i
   synced_err T U image.Disk whole fails calls = λ h now. still T image.Disk (fails h now) calls
   synced_err T U image.Memory whole fails calls = still T image.Memory (whole refl) calls

@@ -15,11 +15,11 @@ use Rattle.ken_cover.proofs.Newest.{AreWithin-append}
 use Rattle.ken_image.specs.declared.image.Image.{Image}
 use Rattle.ken_image.specs.Calls.{Call, Write, Called}
 use Rattle.ken_image.specs.Pages.{place_of, IsTornPage}
-use Rattle.ken_image.specs.Whole.{IsWhole}
+use Rattle.ken_image.specs.Whole.{HasAllPages}
 use Rattle.ken_store.specs.declared.patching.Ahead.{Ahead}
 use Rattle.ken_store.specs.declared.patching.PatchSide.{PatchSide}
 use Rattle.ken_store.specs.Ahead.{frame_pages, ahead_layer, ahead_layers}
-use Rattle.ken_store.specs.Patching.{HoldsImage, IsInOrder, TakesPatches, Patching, Patched, MayBePatched, page_calls, first_number, GoesOn}
+use Rattle.ken_store.specs.Patching.{HoldsImage, IsInOrder, IsPatchSide, Patching, Patched, MayBePatched, page_calls, first_number, GoesOn}
 use Rattle.ken_store.proofs.Holding.{both, after_failed, after_memory, stands_after}
 use Rattle.ken_store.proofs.Patched.{FirstOf, first_of, page_in, newest_first, without_first, IsPassed, rises, passed, through_patch, holds_patched}
 
@@ -28,7 +28,7 @@ pub front_is : (items : List Ahead) (x : Ahead) → 0 < length items → x ≡ g
 front_is [] x lt is = absurd (omega arith)
 front_is (a ∷ rest) x lt is = ap (λ (y : Ahead). y ∷ rest) (sym is)
 
-module _ {D : Type 0} (told : D → Option Story) (size : D → ℕ) (old : PatchSide D) (takes : TakesPatches told size old) (a : Ahead) (rest : List Ahead) (is : old.ahead.items ≡ a ∷ rest) where
+module _ {D : Type 0} (told : D → Option Story) (size : D → ℕ) (old : PatchSide D) (takes : IsPatchSide told size old) (a : Ahead) (rest : List Ahead) (is : old.ahead.items ≡ a ∷ rest) where
   order : IsInOrder old.known (a ∷ rest)
   order = subst (IsInOrder old.known) is takes.order
 
@@ -54,12 +54,12 @@ module _ {D : Type 0} (told : D → Option Story) (size : D → ℕ) (old : Patc
   change = record { turn = a.turn; page = one.page }
 
   -- what is left to patch
-  module _ (new : PatchSide D) (whole : IsWhole told size new.image) (count : new.image.pages ≡ old.image.pages) (known : new.known ≡ old.known) (goes : GoesOn old.ahead.items new.ahead.items) where
+  module _ (new : PatchSide D) (whole : HasAllPages told size new.image) (count : new.image.pages ≡ old.image.pages) (known : new.known ≡ old.known) (goes : GoesOn old.ahead.items new.ahead.items) where
     left : IsPassed old.known a rest one.others new.ahead.items
     left = passed old.known a rest new.ahead.items order one (subst (λ (l : List Ahead). GoesOn l new.ahead.items) is goes)
 
-    pub takes_patched : TakesPatches told size new
-    takes_patched = record {
+    pub side_patched : IsPatchSide told size new
+    side_patched = record {
       image = whole;
       order = subst (λ (k : ℕ). IsInOrder k new.ahead.items) (sym known) left.in_order;
       within = subst (λ (n : ℕ). AreWithin n (pages_of (ahead_layers new.ahead.items))) (sym count)
@@ -110,24 +110,24 @@ module _ {D : Type 0} (told : D → Option Story) (size : D → ℕ) (old : Patc
         called = subst (λ (cs : List Call). Follows (Called r cs) (told old.image.disk) (told disk)) one.calls calls
 
     -- the page counts as written
-    stands_for : (new : PatchSide D) → IsWhole told size new.image → new.image.pages ≡ old.image.pages → new.known ≡ old.known → GoesOn old.ahead.items new.ahead.items
+    stands_for : (new : PatchSide D) → HasAllPages told size new.image → new.image.pages ≡ old.image.pages → new.known ≡ old.known → GoesOn old.ahead.items new.ahead.items
         → Follows (λ h s. Through (IsTornPage (first_number a.pages.items) h.now) h s) (told old.image.disk) (told new.image.disk)
         → Follows (λ h s. s ≡ after_writing (place_of one.page.page) one.page.bytes h) (told old.image.disk) (told new.image.disk) → Patching told size new after
     stands_for new whole count known goes moment wrote = record {
-      takes = takes_patched new whole count known goes;
+      takes = side_patched new whole count known goes;
       ahead = (left new whole count known goes).layers ∙ sym after_ahead;
       holds = subst (λ (n : ℕ). Tells (told new.image.disk) (λ h. HoldsImage n after h.now)) (sym count) (holds_after new.image.disk moment wrote);
     }
 
     -- true
-    pub patched_ok : (new : PatchSide D) → IsWhole told size new.image → new.image.pages ≡ old.image.pages → new.known ≡ old.known → GoesOn old.ahead.items new.ahead.items
+    pub patched_ok : (new : PatchSide D) → HasAllPages told size new.image → new.image.pages ≡ old.image.pages → new.known ≡ old.known → GoesOn old.ahead.items new.ahead.items
         → Follows (λ h s. Through (IsTornPage (first_number a.pages.items) h.now) h s) (told old.image.disk) (told new.image.disk)
         → (T : Type 0) (x : T) → Follows (Called {T = T} (Ok x) (page_calls a.pages.items)) (told old.image.disk) (told new.image.disk)
         → (i2 : ImagePages) × (Patched i i2 × Patching told size new i2)
     patched_ok new whole count known goes moment T x calls = (after, (is_patched, stands_for new whole count known goes moment (called new.image.disk moment T (Ok x) calls)))
 
     -- the write failed
-    pub patched_failed : (new : PatchSide D) → Tells (told new.image.disk) (λ h. IsWhole told size new.image) → new.image.pages ≡ old.image.pages → new.known ≡ old.known → GoesOn old.ahead.items new.ahead.items
+    pub patched_failed : (new : PatchSide D) → Tells (told new.image.disk) (λ h. HasAllPages told size new.image) → new.image.pages ≡ old.image.pages → new.known ≡ old.known → GoesOn old.ahead.items new.ahead.items
         → Follows (λ h s. Through (IsTornPage (first_number a.pages.items) h.now) h s) (told old.image.disk) (told new.image.disk)
         → (T : Type 0) → Follows (Called {T = T} (Err Failed) (page_calls a.pages.items)) (told old.image.disk) (told new.image.disk)
         → (i2 : ImagePages) × (Patched i i2 × Tells (told new.image.disk) (λ h. Patching told size new i2))
@@ -142,7 +142,7 @@ module _ {D : Type 0} (told : D → Option Story) (size : D → ℕ) (old : Patc
     )
 
     -- nothing was written, for want of memory
-    pub patched_none : (im : Image D) → IsWhole told size im → im.pages ≡ old.image.pages
+    pub patched_none : (im : Image D) → HasAllPages told size im → im.pages ≡ old.image.pages
         → Follows (λ h s. Through (IsTornPage (first_number a.pages.items) h.now) h s) (told old.image.disk) (told im.disk)
         → (T : Type 0) → Follows (Called {T = T} (Err Memory) (page_calls a.pages.items)) (told old.image.disk) (told im.disk) → Patching told size (record old { image = im }) i
     patched_none im whole count moment T calls =

@@ -11,12 +11,12 @@ use Rattle.ken_cover.specs.Overlay.{AreWithin}
 use Rattle.ken_cover.specs.Sides.{ImagePages, pages_of, changes_at, onto, handed_pages}
 use Rattle.ken_cover.proofs.Newest.{AreWithin-append}
 use Rattle.ken_cover.proofs.Bases.{pages_of-handed}
-use Rattle.ken_image.specs.Whole.{IsWhole}
+use Rattle.ken_image.specs.Whole.{HasAllPages}
 use Rattle.ken_store.specs.declared.patching.Ahead.{Ahead}
 use Rattle.ken_store.specs.declared.patching.Origin.TheVariants.{Record}
 use Rattle.ken_store.specs.declared.patching.PatchSide.{PatchSide}
 use Rattle.ken_store.specs.Ahead.{ahead_layer, ahead_layers, frame_pages}
-use Rattle.ken_store.specs.Patching.{HoldsImage, RiseWithin, IsRecordAhead, FollowOneBase, IsToPatch, IsInOrder, TakesPatches, Patching, IsRecordOf, Grows}
+use Rattle.ken_store.specs.Patching.{HoldsImage, RiseWithin, IsRecordAhead, FollowOneBase, IsToPatch, IsInOrder, IsPatchSide, TakesPatches, Patching, IsRecordOf, Grows}
 
 -- ---- one more at the end
 
@@ -78,18 +78,21 @@ module _ {D : Type 0} (told : D → Option Story) (size : D → ℕ) (old new : 
     pub ahead : ahead_layers new.ahead.items ≡ ahead_layers old.ahead.items ++ onto turn (changes_at turn pages) []
     pub within : AreWithin old.image.pages pages
 
-  pub takes_handed : Hands → TakesPatches told size old → TakesPatches told size new
-  takes_handed h t = record {
-    image = subst (IsWhole told size) (sym h.image) t.image;
+  side_handed : Hands → IsPatchSide told size old → IsPatchSide told size new
+  side_handed h t = record {
+    image = subst (HasAllPages told size) (sym h.image) t.image;
     order = h.order t.order;
     within = subst (λ (n : ℕ). AreWithin n (pages_of (ahead_layers new.ahead.items))) (ap (λ x. x.pages) (sym h.image))
         (subst (AreWithin old.image.pages) (sym (ap pages_of h.ahead ∙ pages_of-handed (ahead_layers old.ahead.items) turn pages))
         (AreWithin-append old.image.pages (pages_of (ahead_layers old.ahead.items)) pages t.within h.within));
   }
 
+  pub takes_handed : Hands → TakesPatches told size old → TakesPatches told size new
+  takes_handed h t = record { side = side_handed h t.side; unspent = ap (λ x. x.spent) h.image ∙ t.unspent }
+
   pub stands_handed : Hands → (i : ImagePages) → Patching told size old i → Patching told size new (handed_pages turn pages i)
   stands_handed h i p = record {
-    takes = takes_handed h p.takes;
+    takes = side_handed h p.takes;
     ahead = h.ahead ∙ ap (λ (l : List Layer). l ++ onto turn (changes_at turn pages) []) p.ahead;
     holds = subst (λ x. Tells (told x.disk) (λ s. HoldsImage x.pages (handed_pages turn pages i) s.now)) (sym h.image)
         (λ s is. holds_handed old.image.pages turn pages i s.now (p.holds s is));
@@ -125,11 +128,3 @@ grows_some turn (e ∷ es) items new b is of some = (b, of, is)
 
 pub grows_none : (turn : ℕ) (pages : List Page) (items new : List Ahead) → new ≡ items → pages ≡ [] → Grows turn pages items new
 grows_none turn pages items new is none = subst (λ (es : List Page). Grows turn es items new) (sym none) is
-
--- ---- a side with nothing to patch
-pub takes_none : {D : Type 0} (told : D → Option Story) (size : D → ℕ) (side : PatchSide D) → IsWhole told size side.image → side.ahead.items ≡ [] → TakesPatches told size side
-takes_none told size side whole none = record {
-  image = whole;
-  order = subst (IsInOrder side.known) (sym none) (record { rising = tt; base = tt; each = tt });
-  within = subst (λ (items : List Ahead). AreWithin side.image.pages (pages_of (ahead_layers items))) (sym none) tt;
-}

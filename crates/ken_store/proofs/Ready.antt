@@ -18,10 +18,10 @@ use Rattle.ken_store.specs.declared.store.Store.{Store}
 use Rattle.ken_store.specs.declared.patching.Origin.TheVariants.{Base}
 use Rattle.ken_store.specs.Ahead.{ahead_layers, origins, page_layers, page_origins, record_layers, record_origins}
 use Rattle.ken_store.specs.Kept.{base_pages, record_pages, pages_in, HasPagesWithin}
-use Rattle.ken_store.specs.Patching.{HoldsImage, IsInOrder, TakesPatches, Patching}
+use Rattle.ken_store.specs.Patching.{HoldsImage, IsInOrder, IsPatchSide, Patching}
 use Rattle.ken_store.specs.PatchLaws.{IsAheadOf, LastChangedBefore}
 use Rattle.ken_store.proofs.Rises.{changed_before, ahead_again}
-use Rattle.ken_store.specs.Standing.{TakesCalls, Standing, IsReadyStore}
+use Rattle.ken_store.specs.Standing.{IsStore, Standing, IsReadyStore}
 use Rattle.ken_store.specs.Turning.{Turning, live_layers, sealed_bytes, turn_pages, state_in}
 use Rattle.ken_store.proofs.Again.{covered_again}
 use Rattle.ken_store.proofs.Lives.{live_pages, live_recounted, live_ahead}
@@ -60,15 +60,15 @@ module _ {D : Type 0} (told : D → Option Story) (size : D → ℕ) (store : St
   within : AreWithin store.turns.owner.pages (pages_of live)
   within = subst (AreWithin store.turns.owner.pages) (sym pages_are) (AreWithin-append store.turns.owner.pages (base_pages store.turns.log.base) (flat_map record_pages store.turns.records.items) fit.first (each_within store.turns.owner.pages store.turns.records.items fit.each))
 
-  takes_patches : TakesPatches told size store.patches
-  takes_patches = record {
-    image = whole;
+  patch_side : IsPatchSide told size store.patches
+  patch_side = record {
+    image = whole.stands;
     order = order;
     within = subst (λ (n : ℕ). AreWithin n (pages_of (ahead_layers store.patches.ahead.items))) (sym count) (subst (AreWithin store.turns.owner.pages) (sym (ap pages_of (ahead ∙ sym to_patch) ∙ pages_of-with_pages (map recounted live) ∙ pages_of-recounted live)) within);
   }
 
-  takes : TakesCalls told size store
-  takes = record { turns = turning; patches = takes_patches; count = count; known = known }
+  is_store : IsStore told size store
+  is_store = record { turns = turning; patches = patch_side; count = count; known = known }
 
   abbrev at_turns : List ℕ → TurnPages
   at_turns ts = record { heap = sealed_bytes store.turns.objects.bytes store.turns.objects.begun; live = live_layers store.turns.log.header store.turns.log.base ts store.turns.records.items }
@@ -81,7 +81,7 @@ module _ {D : Type 0} (told : D → Option Story) (size : D → ℕ) (store : St
   module _ (h : Story) (is : told store.patches.image.disk ≡ Some h) (i : ImagePages) (shut : (p : ℕ) → i.«open» p ≡ false) (holds : HoldsImage store.turns.owner.pages i h.now) where
     patching : Patching told size store.patches (recovered_image_pages live i)
     patching = record {
-      takes = takes_patches;
+      takes = patch_side;
       ahead = ahead ∙ sym to_patch;
       holds = λ now told_now.
           let same = some_is h now (sym is ∙ told_now) in
@@ -99,13 +99,13 @@ module _ {D : Type 0} (told : D → Option Story) (size : D → ℕ) (store : St
 
     covers : Covers store.turns.owner.pages true (turn_pages store.turns) (recovered_image_pages live i)
     covers =
-        let keeps = subst (λ (n : ℕ). Keeps n h.now) count (whole.keeps h is) in
+        let keeps = subst (λ (n : ℕ). Keeps n h.now) count (whole.stands.keeps h is) in
         subst (λ (heap : List ℕ). Covers store.turns.owner.pages true (record { heap = heap; live = live }) (recovered_image_pages live i)) (sym heap_is)
         (covered_again store.turns.owner.pages live i (image_size store.turns.owner.pages i h.now keeps holds) within shut)
 
     stands : Standing told size store (recovered_image_pages (turn_pages store.turns).live i)
     stands = record {
-      takes = takes;
+      takes = is_store;
       patches = patching;
       covers = covers;
       behind =
@@ -115,4 +115,4 @@ module _ {D : Type 0} (told : D → Option Story) (size : D → ℕ) (store : St
     }
 
   pub ready : (state : State) → state ≡ state_in store.turns → origins store.patches.ahead.items ≡ page_origins Base (base_pages store.turns.log.base) ++ record_origins store.turns.records.items → IsReadyStore told size store.turns.owner store state
-  ready state tells first = record { takes = takes; owner = refl; idle = idle; tells = tells; again = λ h is i shut holds. stands h is i shut holds; counted = turns; ahead = first }
+  ready state tells first = record { takes = record { store = is_store; unspent = whole.unspent }; owner = refl; idle = idle; tells = tells; again = λ h is i shut holds. stands h is i shut holds; counted = turns; ahead = first }

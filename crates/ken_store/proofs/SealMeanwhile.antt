@@ -25,14 +25,14 @@ use Rattle.ken_store.specs.declared.store.Store.{Store}
 use Rattle.ken_store.specs.declared.turning.TurnSide.{TurnSide}
 use Rattle.ken_store.specs.Answers.{disks_in}
 use Rattle.ken_store.specs.Ahead.{ahead_layers}
-use Rattle.ken_image.specs.Whole.{IsWhole}
+use Rattle.ken_image.specs.Whole.{HasAllPages}
 use Rattle.ken_store.specs.declared.patching.PatchSide.{PatchSide}
-use Rattle.ken_store.specs.Patching.{HoldsImage, TakesPatches, Patching}
+use Rattle.ken_store.specs.Patching.{HoldsImage, IsPatchSide, Patching}
 use Rattle.ken_store.specs.PatchLaws.{IsAheadOf, LastChangedBefore}
 use Rattle.ken_store.proofs.AheadLaws.{all_at, last_change-last, newest_all, seal_keeps_ahead}
 use Rattle.ken_store.specs.Numbers.{follows, after_record}
 use Rattle.ken_store.specs.Recovered.{Whole, state_of}
-use Rattle.ken_store.specs.Standing.{RecoversMeanwhile, TakesCalls, Standing, is_one, is_either}
+use Rattle.ken_store.specs.Standing.{IsStore, RecoversMeanwhile, Standing, is_one, is_either}
 use Rattle.ken_store.specs.Turning.{IsChangedPage, HasPages, KeepsLog, undone_from, undone, coming_record, sealed_bytes, turn_pages, state_in}
 use Rattle.ken_store.proofs.Sealing.{pages_are}
 use Rattle.ken_store.proofs.SealRecovers.{either_recovers, before_recovers}
@@ -52,9 +52,9 @@ sealed_size n h has = by_begun h.begun has.before
     by_begun (Some b) sizes = sizes b refl
 
 -- only the room may have changed
-pub patches_same : {D : Type 0} (told : D → Option Story) (size : D → ℕ) (old new : PatchSide D) → new.image ≡ old.image → new.ahead.items ≡ old.ahead.items → new.known ≡ old.known → TakesPatches told size old → TakesPatches told size new
+pub patches_same : {D : Type 0} (told : D → Option Story) (size : D → ℕ) (old new : PatchSide D) → new.image ≡ old.image → new.ahead.items ≡ old.ahead.items → new.known ≡ old.known → IsPatchSide told size old → IsPatchSide told size new
 patches_same told size old new image ahead known takes = record {
-  image = subst (IsWhole told size) (sym image) takes.image;
+  image = subst (HasAllPages told size) (sym image) takes.image;
   order = rw (ahead, known) takes.order;
   within = rw (ahead, image) takes.within;
 }
@@ -75,7 +75,7 @@ undone_pages old new same objects =
     undone_bytes h (Some b) is = ap (sealed_bytes h.bytes) (sym is)
 
 -- a turn was taken back, and nothing else changed
-pub stands_undone : {D : Type 0} (told : D → Option Story) (size : D → ℕ) (old new : Store D) (i : ImagePages) → Standing told size old i → TakesCalls told size new → turn_pages new.turns ≡ turn_pages old.turns → new.turns.owner ≡ old.turns.owner → new.turns.numbers ≡ old.turns.numbers
+pub stands_undone : {D : Type 0} (told : D → Option Story) (size : D → ℕ) (old new : Store D) (i : ImagePages) → Standing told size old i → IsStore told size new → turn_pages new.turns ≡ turn_pages old.turns → new.turns.owner ≡ old.turns.owner → new.turns.numbers ≡ old.turns.numbers
     → new.patches.image ≡ old.patches.image → new.patches.ahead.items ≡ old.patches.ahead.items → Standing told size new i
 stands_undone told size old new i stands takes pages owner numbers image ahead = record {
   takes = takes;
@@ -105,7 +105,7 @@ sealed_before turn pages t before p c is = by_new (newest_by page_in p (changes_
         omega (arith, at, turn_is)
 
 -- a turn was sealed
-pub sealed_stands : {D : Type 0} (told : D → Option Story) (size : D → ℕ) (old new : Store D) (i : ImagePages) (turn : ℕ) (pages : List Page) → Standing told size old i → TakesCalls told size new → turn_pages new.turns ≡ sealed_pages turn pages (turn_pages old.turns)
+pub sealed_stands : {D : Type 0} (told : D → Option Story) (size : D → ℕ) (old new : Store D) (i : ImagePages) (turn : ℕ) (pages : List Page) → Standing told size old i → IsStore told size new → turn_pages new.turns ≡ sealed_pages turn pages (turn_pages old.turns)
     → turn ≡ old.turns.numbers.turns + 1 → new.turns.numbers.turns ≡ turn → new.turns.owner ≡ old.turns.owner → AreWithin old.turns.owner.pages pages → Patching told size new.patches (handed_pages turn pages i) → Standing told size new (handed_pages turn pages i)
 sealed_stands told size old new i turn pages stands takes live counted numbers owner within patching = record {
   takes = takes;

@@ -26,7 +26,7 @@ use Rattle.ken_store.specs.Answers.{disks_from}
 use Rattle.ken_store.specs.Apart.{Apart}
 use Rattle.ken_store.specs.Logs.{front_of, other_log}
 use Rattle.ken_store.specs.Recovered.{Recovery, Whole}
-use Rattle.ken_store.specs.Standing.{RecoversMeanwhile, TakesCalls, Standing, is_either}
+use Rattle.ken_store.specs.Standing.{IsStore, RecoversMeanwhile, Standing, is_either}
 use Rattle.ken_store.specs.Turning.{Turning, IsPassed, sealed_bytes, turn_pages, state_in}
 use Rattle.ken_store.specs.Turnovers.{IsTurned, IsUnturned, base_of, kept_disk, replaced_disk, without_told}
 use Rattle.std.specs.Prelude.{OnOk, OnErr, IsErrOf}
@@ -144,6 +144,6 @@ turned_stands told size (Ok x) settled acked emitted old new i stands may turned
 pub unturned_stands : {D T : Type 0} (told : D → Option Story) (size : D → ℕ) (r : Result T StoreFault) (old : Store D) (new : TurnSide D) (i : ImagePages) → Standing told size old i → OnErr r (IsUnturned old.turns new) → (IsErrOf r faults.Memory → Turning told size new) → IsErrOf r faults.Memory → Standing told size (record { turns = new; patches = old.patches }) i
 unturned_stands told size (Ok x) old new i stands un turning is = absurd (let none : ⊥ = cc is in none)
 unturned_stands told size (Err e) old new i stands un turning is =
-    let takes : TakesCalls told size (record { turns = new; patches = old.patches }) = record { turns = turning is; patches = stands.takes.patches; count = stands.takes.count ∙ ap (λ (o : Owner). o.pages) (sym un.owner); known = stands.takes.known ∙ ap (λ (n : Numbers). n.turns) (sym un.numbers) } in
+    let takes : IsStore told size (record { turns = new; patches = old.patches }) = record { turns = turning is; patches = stands.takes.patches; count = stands.takes.count ∙ ap (λ (o : Owner). o.pages) (sym un.owner); known = stands.takes.known ∙ ap (λ (n : Numbers). n.turns) (sym un.numbers) } in
     let pages : turn_pages new ≡ turn_pages old.turns = pages_are _ _ _ _ (ap (λ (h : FramedHeap). sealed_bytes h.bytes h.begun) un.objects) (rw (un.head, un.base, un.base_turns, un.records) refl) in
     stands_undone told size old (record { turns = new; patches = old.patches }) i stands takes pages un.owner un.numbers refl refl

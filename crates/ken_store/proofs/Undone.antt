@@ -5,7 +5,7 @@ use Rattle.ken_alloc.specs.Objects.{Heap, heap_in}
 use Rattle.ken_store.specs.declared.numbers.Numbers.{Numbers}
 use Rattle.ken_store.specs.declared.owner.Owner.{Owner}
 use Rattle.ken_store.specs.Apart.{WorkMayBeUndone, WorkStandsUndone}
-use Rattle.ken_store.specs.Standing.{TakesCalls}
+use Rattle.ken_store.specs.Standing.{IsStore}
 use Rattle.ken_store.specs.Turning.{HasPages, KeepsLog, undone, undone_from}
 use Rattle.ken_store.proofs.SealMeanwhile.{stands_undone, undone_pages}
 use Rattle.ken_store.proofs.Sealing.{turning_kept}
@@ -36,7 +36,7 @@ module _ {D : Type 0} (told : D → Option Story) (size : D → ℕ) where
   pub work_stands_undone : WorkStandsUndone told size
   work_stands_undone store new heap i stands some begun objects same patches =
       let all = work_may_be_undone store.turns new.turns heap stands.takes.turns some begun objects same in
-      let takes : TakesCalls told size new = record {
+      let takes : IsStore told size new = record {
         turns = all.0;
         patches = rw patches stands.takes.patches;
         count = ap (λ x. x.image.pages) patches ∙ stands.takes.count ∙ ap (λ (o : Owner). o.pages) (sym same.owner);

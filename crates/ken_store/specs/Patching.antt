@@ -15,7 +15,7 @@ use Rattle.ken_cover.specs.Sides.{ImagePages, IsPatch, pages_of, patched_page, s
 use Rattle.ken_cover.specs.Covers.{IsPossible}
 use Rattle.ken_image.specs.Calls.{Call, Write}
 use Rattle.ken_image.specs.Pages.{place_of}
-use Rattle.ken_image.specs.Whole.{IsWhole}
+use Rattle.ken_image.specs.Whole.{HasAllPages}
 use Rattle.ken_store.specs.declared.faults.StoreFault.{StoreFault}
 use Rattle.ken_store.specs.declared.faults.StoreFault.TheVariants as faults
 use Rattle.ken_store.specs.declared.patching.Ahead.{Ahead}
@@ -45,15 +45,20 @@ pub record IsInOrder (last : ℕ) (items : List Ahead) : Type 0 where
   pub base : FollowOneBase items
   pub each : AllByRecursion IsToPatch items
 
--- a side that takes calls
-pub record TakesPatches {D : Type 0} (told : D → Option Story) (size : D → ℕ) (side : PatchSide D) : Type 0 where
-  pub image : IsWhole told size side.image
+-- what stands of a side: its image has all its pages, and what is ahead is in order
+pub record IsPatchSide {D : Type 0} (told : D → Option Story) (size : D → ℕ) (side : PatchSide D) : Type 0 where
+  pub image : HasAllPages told size side.image
   pub order : IsInOrder side.known side.ahead.items
   pub within : AreWithin side.image.pages (pages_of (ahead_layers side.ahead.items))
 
--- and the pages that it stands for
+-- a side that takes calls: no call of its image's disk failed
+pub record TakesPatches {D : Type 0} (told : D → Option Story) (size : D → ℕ) (patches : PatchSide D) : Type 0 where
+  pub side : IsPatchSide told size patches
+  pub unspent : patches.image.spent ≡ false
+
+-- the pages that a side stands for, whether it takes calls or not
 pub record Patching {D : Type 0} (told : D → Option Story) (size : D → ℕ) (side : PatchSide D) (i : ImagePages) : Type 0 where
-  pub takes : TakesPatches told size side
+  pub takes : IsPatchSide told size side
   pub ahead : ahead_layers side.ahead.items ≡ i.ahead
   pub holds : Holds told side i
 

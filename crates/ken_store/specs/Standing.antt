@@ -17,7 +17,7 @@ use Rattle.ken_store.specs.declared.store.Recovered.TheVariants as found
 use Rattle.ken_store.specs.Answers.{TellsAll, AreAtRest, AreUnformatted}
 use Rattle.ken_store.specs.declared.patching.Origin.TheVariants as origin
 use Rattle.ken_store.specs.Ahead.{origins, page_origins, record_origins}
-use Rattle.ken_store.specs.Patching.{Grows, HoldsImage, TakesPatches, Patching}
+use Rattle.ken_store.specs.Patching.{Grows, HoldsImage, IsPatchSide, Patching}
 use Rattle.ken_store.specs.PatchLaws.{IsAheadOf, LastChangedBefore}
 use Rattle.ken_store.specs.Kept.{base_pages}
 use Rattle.ken_store.specs.Numbers.{after_record}
@@ -28,16 +28,22 @@ use Rattle.ken_store.specs.Turning.{AreChangedPages, IsSealed, Turning, coming_r
 abbrev pub RecoversTo : {D : Type 0} → (D → Option Story) → Owner → Disks D → Recovery → Type 0
 RecoversTo told o disks recovery = TellsAll told disks (λ l i s. (log image second : List ℕ) → IsImage l.now log → IsImage i.now image → IsImage s.now second → recovered o log image second ≡ recovery)
 
--- a store that takes calls: its sides do, and are of one node
-pub record TakesCalls {D : Type 0} (told : D → Option Story) (size : D → ℕ) (store : Store D) : Type 0 where
+-- what stands of a store: its sides are of one node
+pub record IsStore {D : Type 0} (told : D → Option Story) (size : D → ℕ) (store : Store D) : Type 0 where
   pub turns : Turning told size store.turns
-  pub patches : TakesPatches told size store.patches
+  pub patches : IsPatchSide told size store.patches
   pub count : store.patches.image.pages ≡ store.turns.owner.pages
   pub known : store.patches.known ≡ store.turns.numbers.turns
 
--- and the pages of its image: they are covered, what is to patch is behind the live records, and no page changed in a turn to come
+-- a store that takes calls: no call of its image's disk failed
+pub record TakesCalls {D : Type 0} (told : D → Option Story) (size : D → ℕ) (whole : Store D) : Type 0 where
+  pub store : IsStore told size whole
+  pub unspent : whole.patches.image.spent ≡ false
+
+-- the pages of a store's image, whether it takes calls or not: they are covered, what is to patch is behind the live records, and
+-- no page changed in a turn to come
 pub record Standing {D : Type 0} (told : D → Option Story) (size : D → ℕ) (store : Store D) (i : ImagePages) : Type 0 where
-  pub takes : TakesCalls told size store
+  pub takes : IsStore told size store
   pub patches : Patching told size store.patches i
   pub covers : Covers store.turns.owner.pages true (turn_pages store.turns) i
   pub behind : IsAheadOf (turn_pages store.turns) i

@@ -18,7 +18,7 @@ ghost use Rattle.ken_store.specs.Lending.{LendsStoreHeap};
 ghost use Rattle.ken_store.specs.Numbers.{follows};
 ghost use Rattle.ken_store.specs.Patching.{GoesOnBy, IsFaultOfCall, KeepsAhead, PatchesBy, PatchSuffers, SettlesBy, disk_answer, patch_calls, settled_turn};
 ghost use Rattle.ken_store.specs.Recovered.{Whole};
-ghost use Rattle.ken_store.specs.Standing.{RecoversMeanwhile, Standing, StandsSealed, TakesCalls, is_either, is_one, sealed_recovery};
+ghost use Rattle.ken_store.specs.Standing.{IsStore, RecoversMeanwhile, Standing, StandsSealed, TakesCalls, is_either, is_one, sealed_recovery};
 ghost use Rattle.ken_store.specs.Turnovers.{BeginsWith, IsTurned, IsUnturned, ReplacesOn, base_of, kept_disk, replaced_disk, without_told};
 ghost use Rattle.ken_record.specs.Spelling.{base_bytes};
 ghost use Rattle.ken_log.specs.Formats.{next_header};
@@ -160,7 +160,8 @@ impl<D: Disk> Store<D> {
 
     /// Writes the next page of the oldest record that is to patch, by one call of the image's disk: false exactly where there is
     /// none, and then no call is made. A crash at any moment leaves disks that recover to the same state. After `Disk` the page
-    /// counts as written, and is no longer to patch; the store is to be released. After `Memory` nothing has changed.
+    /// counts as written, and is no longer to patch; the store is to be released, and no call follows. After `Memory` nothing has
+    /// changed.
     pub fn patch_next(&mut self) -> Result<bool, StoreFault>
         requires { TakesCalls D.told D.size self.old }
         ensures stands { (i : ImagePages) → Standing D.told D.size self.old i → PatchesBy (D.told self.new.patches.image.disk) result (Standing D.told D.size self.new) i }
@@ -174,7 +175,8 @@ impl<D: Disk> Store<D> {
         ensures known { self.new.patches.known ≡ self.old.patches.known }
         ensures takes { OnOk result (TakesCalls D.told D.size self.new) }
         ensures goes_on { IsErrOf result StoreFault.Memory → TakesCalls D.told D.size self.new }
-        ensures fails { OnErr result (Tells (D.told self.new.patches.image.disk) (λ h. TakesCalls D.told D.size self.new)) }
+        ensures fails { OnErr result (Tells (D.told self.new.patches.image.disk) (λ h. IsStore D.told D.size self.new)) }
+        ensures spent { IsErrOf result StoreFault.Disk → self.new.patches.image.spent ≡ true }
         ensures calls { Follows (Called (disk_answer result) (patch_calls self.old.patches.ahead.items)) (D.told self.old.patches.image.disk) (D.told self.new.patches.image.disk) }
         ensures sound { IfErr result IsFaultOfCall }
         ensures cause { HasCause (D.faults self.old.patches.image.disk) (D.faults self.new.patches.image.disk) (disk_answer result) }
@@ -186,7 +188,7 @@ impl<D: Disk> Store<D> {
     /// Syncs the image, by one call of its disk, and tells through which turn all pages are safe there: the last turn before the
     /// oldest record that is to patch, 0 where that is a base, and the last turn where nothing is to patch. A crash at any moment
     /// leaves disks that recover to the same state. After an error nothing more is safe than before, and after `Disk` the store is to
-    /// be released.
+    /// be released, and no call follows.
     pub fn settle(&mut self) -> Result<u64, StoreFault>
         requires { TakesCalls D.told D.size self.old }
         ensures told { IfOk result (λ turn. turn ≡ settled_turn self.old.patches.known self.old.patches.ahead.items) }
@@ -200,7 +202,8 @@ impl<D: Disk> Store<D> {
         ensures turns { self.new.turns ≡ self.old.turns }
         ensures takes { OnOk result (TakesCalls D.told D.size self.new) }
         ensures goes_on { IsErrOf result StoreFault.Memory → TakesCalls D.told D.size self.new }
-        ensures fails { OnErr result (Tells (D.told self.new.patches.image.disk) (λ h. TakesCalls D.told D.size self.new)) }
+        ensures fails { OnErr result (Tells (D.told self.new.patches.image.disk) (λ h. IsStore D.told D.size self.new)) }
+        ensures spent { IsErrOf result StoreFault.Disk → self.new.patches.image.spent ≡ true }
         ensures calls { Follows (Called (disk_answer result) (Sync ∷ [])) (D.told self.old.patches.image.disk) (D.told self.new.patches.image.disk) }
         ensures sound { IfErr result IsFaultOfCall }
         ensures cause { HasCause (D.faults self.old.patches.image.disk) (D.faults self.new.patches.image.disk) (disk_answer result) }

@@ -5,7 +5,7 @@ ghost use Rattle.ken_model.specs.Layout.{first_heap};
 ghost use Rattle.ken_model.specs.Network.{empty_heap};
 ghost use Rattle.ken_cover.specs.Sides.{first_image_pages};
 ghost use Rattle.ken_store.specs.Answers.{TellsAll, AreAtRest, AreUnformatted};
-ghost use Rattle.ken_store.specs.Standing.{Standing};
+ghost use Rattle.ken_store.specs.Standing.{Standing, TakesCalls};
 ghost use Rattle.ken_store.specs.Creations.{Creates, FailsBy, IsNew, CallsImage, CallsLog, TellsStill, made_disks, made_answer, MayFormat};
 
 use crate::StoreFault;
@@ -51,6 +51,7 @@ pub fn create<D: Disk>(
     ensures log { CallsLog D.told D.faults (record { node = node; nodes = nodes; pages = pages }) (made_answer result) disks.log (made_disks result).log }
     ensures image { CallsImage D.told D.faults (record { node = node; nodes = nodes; pages = pages }) (made_answer result) disks (made_disks result) }
     ensures value { IfOk result (λ store. store.turns.objects.value ≡ empty_heap (256 * pages)) }
+    ensures takes { IfOk result (λ store. TakesCalls D.told D.size store) }
     ensures ready { IfOk result (λ store. Standing D.told D.size store (first_image_pages (first_heap pages))) }
     ensures idle { IfOk result (λ store. store.turns.objects.begun ≡ None) }
     ensures new { IfOk result (λ store. IsNew (record { node = node; nodes = nodes; pages = pages }) store.turns) }

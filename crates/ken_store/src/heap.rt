@@ -30,7 +30,7 @@ pub(crate) fn load_image<D: Disk>(
     ensures bytes { Tells (D.told image.old.disk) (λ h. OnOk result (heap.new.bytes ≡ take (256 * image.old.pages) h.now.seen)) }
     ensures idle { heap.new.begun ≡ None }
     ensures size { length heap.new.bytes ≡ 256 * image.old.pages }
-    ensures whole { IsWhole D.told D.size image.new }
+    ensures whole { OnOk result (IsWhole D.told D.size image.new) }
     ensures count { image.new.pages ≡ image.old.pages }
     ensures reads { Reads D.told D.faults D.fate result image.old.disk image.new.disk }
     ensures sound { (n : ℕ) (place : ℕ) → IsErrOf result (StoreFault.Damaged n place) → ⊥ }
@@ -80,7 +80,7 @@ pub(crate) fn rebuild<D: Disk>(
     ensures bytes { Tells (D.told image.old.disk) (λ h. IfOk result (λ o. o.bytes ≡ overlay (take (256 * image.old.pages) h.now.seen) (base.now ++ flat_map record_pages records.now))) }
     ensures size { IfOk result (λ o. length o.bytes ≡ 256 * image.old.pages) }
     ensures idle { IfOk result (λ o. o.begun ≡ None) }
-    ensures whole { IsWhole D.told D.size image.new }
+    ensures whole { OnOk result (IsWhole D.told D.size image.new) }
     ensures count { image.new.pages ≡ image.old.pages }
     ensures reads { Reads D.told D.faults D.fate result image.old.disk image.new.disk }
 {

@@ -1,5 +1,5 @@
 // The side of the patcher.
-ghost use Rattle.std.specs.Prelude.{◌≡◌, ◌≢◌, ◌↔◌, ◌+◌, ◌*◌, ◌<◌, ◌≤◌, [], ◌∷◌, take, IsTrue, OnOk, OnErr, IfOk, IfErr, IsErrOf};
+ghost use Rattle.std.specs.Prelude.{◌≡◌, ◌≢◌, ◌↔◌, ◌+◌, ◌*◌, ◌<◌, ◌≤◌, [], ◌∷◌, take, true, IsTrue, OnOk, OnErr, IfOk, IfErr, IsErrOf};
 ghost use Rattle.std.specs.VecDeque.{deque_len, deque_capacity};
 ghost use Rattle.ken_disk.specs.Causes.{HasCause};
 ghost use Rattle.ken_disk.specs.Fates.{Suffers};
@@ -12,11 +12,12 @@ ghost use Rattle.ken_cover.specs.Sides.{TurnPages, ImagePages, handed_pages, syn
 ghost use Rattle.ken_image.specs.Calls.{Sync, Called};
 ghost use Rattle.ken_image.specs.Faults.{HasImageCause, as_disk};
 ghost use Rattle.ken_image.specs.Pages.{IsTornPage};
-ghost use Rattle.ken_image.specs.Whole.{IsWhole};
+ghost use Rattle.ken_image.specs.Whole.{HasAllPages, IsWhole};
 ghost use Rattle.ken_store.specs.declared.patching.Origin.TheVariants.{Record};
 ghost use Rattle.ken_store.specs.Ahead.{frame_pages};
 ghost use Rattle.ken_store.specs.PatchLaws.{IsAheadOf};
 ghost use Rattle.ken_store.specs.Patching.{
+  IsPatchSide,
   TakesPatches,
   Patching,
   PatchesBy,
@@ -112,7 +113,7 @@ impl<D: Disk> PatchSide<D> {
 
     /// Syncs the image, by one call of the disk, and tells through which turn all pages are safe there: the last turn before the
     /// oldest record that is to patch, 0 where that is a base, and the last turn that it knows where nothing is to patch. After an
-    /// error nothing more is safe than before, and after `Disk` the side is to be released.
+    /// error nothing more is safe than before, and after `Disk` no call follows.
     pub fn settle(&mut self) -> Result<u64, StoreFault>
         requires { TakesPatches D.told D.size self.old }
         ensures told { IfOk result (λ turn. turn ≡ settled_turn self.old.known self.old.ahead.items) }
@@ -124,7 +125,8 @@ impl<D: Disk> PatchSide<D> {
         ensures calls { Follows (Called (disk_answer result) (Sync ∷ [])) (D.told self.old.image.disk) (D.told self.new.image.disk) }
         ensures takes { OnOk result (TakesPatches D.told D.size self.new) }
         ensures goes_on { IsErrOf result StoreFault.Memory → TakesPatches D.told D.size self.new }
-        ensures fails { OnErr result (Tells (D.told self.new.image.disk) (λ h. TakesPatches D.told D.size self.new)) }
+        ensures fails { OnErr result (Tells (D.told self.new.image.disk) (λ h. IsPatchSide D.told D.size self.new)) }
+        ensures spent { IsErrOf result StoreFault.Disk → self.new.image.spent ≡ true }
         ensures ahead { self.new.ahead ≡ self.old.ahead }
         ensures known { self.new.known ≡ self.old.known }
         ensures count { self.new.image.pages ≡ self.old.image.pages }
@@ -137,8 +139,8 @@ impl<D: Disk> PatchSide<D> {
     }
 
     /// Writes the next page of the oldest record that is to patch, by one call of the disk: false exactly where there is none, and
-    /// then no call is made. After `Disk` the page counts as written, and is no longer to patch; the side is to be released. After
-    /// `Memory` nothing has changed.
+    /// then no call is made. After `Disk` the page counts as written, and is no longer to patch; no call follows. After `Memory`
+    /// nothing has changed.
     pub fn patch_next(&mut self) -> Result<bool, StoreFault>
         requires { TakesPatches D.told D.size self.old }
         ensures stands { (i : ImagePages) → Patching D.told D.size self.old i → PatchesBy (D.told self.new.image.disk) result (Patching D.told D.size self.new) i }
@@ -149,7 +151,8 @@ impl<D: Disk> PatchSide<D> {
         ensures more { IfOk result (λ more. IsTrue more ↔ (self.old.ahead.items ≢ [])) }
         ensures takes { OnOk result (TakesPatches D.told D.size self.new) }
         ensures goes_on { IsErrOf result StoreFault.Memory → TakesPatches D.told D.size self.new }
-        ensures fails { OnErr result (Tells (D.told self.new.image.disk) (λ h. TakesPatches D.told D.size self.new)) }
+        ensures fails { OnErr result (Tells (D.told self.new.image.disk) (λ h. IsPatchSide D.told D.size self.new)) }
+        ensures spent { IsErrOf result StoreFault.Disk → self.new.image.spent ≡ true }
         ensures ahead { GoesOnBy result self.old.ahead.items self.new.ahead.items }
         ensures known { self.new.known ≡ self.old.known }
         ensures count { self.new.image.pages ≡ self.old.image.pages }
@@ -209,7 +212,8 @@ fn write_first<D: Disk>(image: &mut Image<D>, next: &Ahead) -> Result<(), ImageF
     ensures any_moment { Follows (λ h s. Through (IsTornPage (first_number next.now.pages.items) h.now) h s) (D.told image.old.disk) (D.told image.new.disk) }
     ensures whole { OnOk result (IsWhole D.told D.size image.new) }
     ensures goes_on { IsErrOf result ImageFault.Memory → IsWhole D.told D.size image.new }
-    ensures fails { OnErr result (Tells (D.told image.new.disk) (λ h. IsWhole D.told D.size image.new)) }
+    ensures fails { OnErr result (Tells (D.told image.new.disk) (λ h. HasAllPages D.told D.size image.new)) }
+    ensures spent { IsErrOf result ImageFault.Disk → image.new.spent ≡ true }
     ensures count { image.new.pages ≡ image.old.pages }
     ensures cause { HasImageCause (D.faults image.old.disk) (D.faults image.new.disk) result }
     ensures fate { Follows (Suffers (as_disk result)) (D.fate image.old.disk) (D.fate image.new.disk) }

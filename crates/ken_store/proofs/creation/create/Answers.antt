@@ -44,7 +44,7 @@ pub returns-in-Ok-format-2-clause-creates : goal.returns-in-Ok-format-2-clause-c
 returns-in-Ok-format-2-clause-creates g c = λ l tl i ti s ts l2 tl2 i2 ti2.
     let o : Owner = record { node = c.args.node; nodes = c.args.nodes; pages = c.args.pages } in
     let made = c.in-Ok-format.ensures.holds i2 ti2 in
-    let keeps = rw c.in-Ok-format.ensures.count at (c.in-Ok-format.ensures.whole.keeps i2 ti2) in
+    let keeps = rw c.in-Ok-format.ensures.count at (c.in-Ok-format.ensures.whole.stands.keeps i2 ti2) in
     let holds = holds_first c.args.pages _ i2.now c.requires.some c.in-Ok.ensures.page made.0 keeps made.1 in
     let replaces = follows_at (λ (h n : Story). IsAtRest h.now → Replaces (mounts.Whole (first_header o) None []) (Ok c.in-Ok-format-2.log) h n) l l2 _ _ c.in-Ok-format-2.ensures.story tl tl2 (c.requires.rests.log l tl) in
     creates_ok o l s (c.requires.rests.log l tl) (c.requires.rests.second s ts) (c.requires.none l tl s ts).0 (c.requires.none l tl s ts).1 c.requires.some c.requires.most i l2 i2 holds (Ok c.in-Ok-format-2.log) replaces _ c.in-Ok-format-2.log refl
@@ -54,7 +54,7 @@ returns-in-Err-format-2-clause-creates g c = λ l tl i ti s ts l2 tl2 i2 ti2.
     let o : Owner = record { node = c.args.node; nodes = c.args.nodes; pages = c.args.pages } in
     let told = ap g.D.Disk.told (sym c.release-image.ensures) ∙ ti2 in
     let made = c.in-Ok-format.ensures.holds i2 told in
-    let keeps = rw c.in-Ok-format.ensures.count at (c.in-Ok-format.ensures.whole.keeps i2 told) in
+    let keeps = rw c.in-Ok-format.ensures.count at (c.in-Ok-format.ensures.whole.stands.keeps i2 told) in
     let holds = holds_first c.args.pages _ i2.now c.requires.some c.in-Ok.ensures.page made.0 keeps made.1 in
     let replaces = follows_at (λ (h n : Story). IsAtRest h.now → Replaces (mounts.Whole (first_header o) None []) (Err c.in-Err-format-2.fault) h n) l l2 _ _ c.in-Err-format-2.ensures.story tl tl2 (c.requires.rests.log l tl) in
     creates_err o l s (c.requires.rests.log l tl) (c.requires.rests.second s ts) (c.requires.none l tl s ts).0 (c.requires.none l tl s ts).1 c.requires.some c.requires.most i l2 i2 holds (Err c.in-Err-format-2.fault) replaces (Store g.row.D.Denot) c.from-in-Err-format-2.result (λ is. memory_err _ c.in-Err-format-2.fault (sym c.from-in-Err-format-2.ensures ∙ is))
@@ -106,10 +106,13 @@ returns-in-Ok-format-2-clause-ready g c =
             passed = subst (λ f. IsPassed o log.header f) (sym (front_none s.now.seen none)) tt;
           };
     } in
-    first_stands g.D.Disk.told g.D.Disk.size store c.args.pages c.requires.some turning pages_are refl c.in-Ok-format.ensures.whole c.in-Ok-format.ensures.count c.new-in-Ok-format-2-2.ensures.items refl (ap (λ n. n.turns) no_numbers_yet)
+    first_stands g.D.Disk.told g.D.Disk.size store c.args.pages c.requires.some turning pages_are refl c.in-Ok-format.ensures.whole.stands c.in-Ok-format.ensures.count c.new-in-Ok-format-2-2.ensures.items refl (ap (λ n. n.turns) no_numbers_yet)
     (λ h told.
     let made = c.in-Ok-format.ensures.holds h told in
     (made.0, made.1 ∙ ap (first_image c.args.pages) c.in-Ok.ensures.page ∙ first_image-heap c.args.pages c.requires.some))
+
+pub returns-in-Ok-format-2-clause-takes : goal.returns-in-Ok-format-2-clause-takes
+returns-in-Ok-format-2-clause-takes g c = record { store = (returns-in-Ok-format-2-clause-ready g c).takes; unspent = c.in-Ok-format.ensures.whole.unspent }
 
 pub returns-in-Err-clause-tells : goal.returns-in-Err-clause-tells
 returns-in-Err-clause-tells g c = (λ some. some, λ some. some)

@@ -21,7 +21,7 @@ pub returns-in_err-sync-clause-stands : goal.returns-in_err-sync-clause-stands
 returns-in_err-sync-clause-stands g c i p =
     let e = err_from_is_err_and c.from_residual.result c.from_residual.ensures.1 in
     rw (e.1, e.2) (synced_err g.D.Disk.told g.D.Disk.size c.args.self.now i p c.sync.new.self c.sync.ensures.count (Unit {0}) ℕ
-    c.in_err-sync.field-0.0 (λ memory. c.in_err-sync.ensures.goes_on (here c.in_err-sync.field-0.0 memory)) c.in_err-sync.ensures.fails c.in_err-sync.ensures.calls)
+    c.in_err-sync.field-0.0 (λ memory. (c.in_err-sync.ensures.goes_on (here c.in_err-sync.field-0.0 memory)).stands) c.in_err-sync.ensures.fails c.in_err-sync.ensures.calls)
 
 pub returns-in_err-sync-clause-any_moment : goal.returns-in_err-sync-clause-any_moment
 returns-in_err-sync-clause-any_moment g c i p =
@@ -36,7 +36,7 @@ returns-clause-any_moment g c i p =
 pub returns-clause-stands : goal.returns-clause-stands
 returns-clause-stands g c i p =
     stands_after g.D.Disk.told g.D.Disk.size c.args.self.now (record c.args.self.now { image = c.sync.new.self }) i p
-    (record { image = c.in_ok-sync.ensures.whole; order = c.requires.order; within = subst (λ (n : ℕ). AreWithin n (pages_of (ahead_layers c.args.self.now.ahead.items))) (sym c.sync.ensures.count) c.requires.within })
+    (record { image = c.in_ok-sync.ensures.whole.stands; order = c.requires.side.order; within = subst (λ (n : ℕ). AreWithin n (pages_of (ahead_layers c.args.self.now.ahead.items))) (sym c.sync.ensures.count) c.requires.side.within })
     c.sync.ensures.count (synced_pages i) (λ h s. IsAtRest s.now × (s.now.seen ≡ h.now.seen)) c.in_ok-sync.ensures.stable p.ahead
     (λ h s holds rests. holds_synced c.args.self.now.image.pages i h.now s.now holds rests.0 rests.1)
 
