@@ -1,5 +1,5 @@
 -- What a node's patcher does.
-use Rattle.std.specs.Prelude.{◌≡◌, ◌≢◌, ℕ, ◌+◌, ◌*◌, ◌≤◌, ◌↔◌, ◌<◌, Option, OnErr, List, [], ◌∷◌, ◌++◌, length, map, take, Bool, Result, Ok, IfOk, OnOk, IsErrOf, IsTrue}
+use Rattle.std.specs.Prelude.{◌≡◌, ◌≢◌, ℕ, ◌+◌, ◌*◌, ◌≤◌, ◌↔◌, ◌<◌, Option, OnErr, List, [], ◌∷◌, ◌++◌, length, map, take, Bool, true, Result, Ok, IfOk, OnOk, IsErrOf, IsTrue}
 use Rattle.ken_disk.specs.Causes.{HasCause}
 use Rattle.ken_disk.specs.Fates.{Fate, Suffers}
 use Rattle.ken_disk.specs.Moments.{Through}
@@ -11,12 +11,12 @@ use Rattle.ken_cover.specs.Sides.{ImagePages, TurnPages, synced_pages}
 use Rattle.ken_image.specs.Calls.{Sync, Called}
 use Rattle.ken_links.specs.Rings.{pushed, free, popped, known, nones, SamePushEnd, SamePopEnd}
 use Rattle.ken_store.specs.declared.faults.StoreFault.{StoreFault}
-use Rattle.ken_store.specs.declared.faults.StoreFault.TheVariants.{Memory}
+use Rattle.ken_store.specs.declared.faults.StoreFault.TheVariants.{Disk, Memory}
 use Rattle.ken_store.specs.declared.patching.PatchSide.{PatchSide}
 use Rattle.ken_store.specs.Ahead.{frame_pages}
 use Rattle.ken_store.specs.Apart.{hand_all, known_after}
 use Rattle.ken_store.specs.PatchLaws.{IsAheadOf}
-use Rattle.ken_store.specs.Patching.{GoesOnBy, MayBePatched, PatchSuffers, Patching, PatchesBy, SettlesBy, TakesPatches, disk_answer, patch_calls, settled_turn}
+use Rattle.ken_store.specs.Patching.{GoesOnBy, IsPatchSide, MayBePatched, PatchSuffers, Patching, PatchesBy, SettlesBy, TakesPatches, disk_answer, patch_calls, settled_turn}
 use Rattle.ken_ship.specs.Handing.{GaveAll}
 use Rattle.ken_work.specs.declared.items.Frozen.{Frozen}
 use Rattle.ken_work.specs.declared.items.Settled.{Settled}
@@ -78,7 +78,8 @@ module _ {D : Type 0} (told : D → Option Story) (size count : D → ℕ) (fate
     pub more : IfOk result (λ more. IsTrue more ↔ (old.ahead.items ≢ []))
     pub takes : OnOk result (TakesPatches told size new)
     pub goes_on : IsErrOf result Memory → TakesPatches told size new
-    pub fails : OnErr result (Tells (told new.image.disk) (λ h. TakesPatches told size new))
+    pub fails : OnErr result (Tells (told new.image.disk) (λ h. IsPatchSide told size new))
+    pub spent : IsErrOf result Disk → new.image.spent ≡ true
     pub ahead : GoesOnBy result old.ahead.items new.ahead.items
     pub known : new.known ≡ old.known
     pub pages : new.image.pages ≡ old.image.pages
@@ -99,7 +100,8 @@ module _ {D : Type 0} (told : D → Option Story) (size count : D → ℕ) (fate
     pub calls : Follows (Called (disk_answer result) (Sync ∷ [])) (told old.side.image.disk) (told new.side.image.disk)
     pub takes : OnOk result (TakesPatches told size new.side)
     pub goes_on : IsErrOf result Memory → TakesPatches told size new.side
-    pub fails : OnErr result (Tells (told new.side.image.disk) (λ h. TakesPatches told size new.side))
+    pub fails : OnErr result (Tells (told new.side.image.disk) (λ h. IsPatchSide told size new.side))
+    pub spent : IsErrOf result Disk → new.side.image.spent ≡ true
     pub ahead : new.side.ahead ≡ old.side.ahead
     pub known : new.side.known ≡ old.side.known
     pub count_is : new.side.image.pages ≡ old.side.image.pages

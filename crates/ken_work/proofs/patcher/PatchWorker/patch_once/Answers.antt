@@ -11,4 +11,4 @@ returns-clause-patches g c =
     let is : store_answer c.answered.result ≡ c.patch_next.result = ap store_answer c.answered.ensures ∙ store_answer-node_answer c.patch_next.result in
     went c.take_over.new.self c.in_ok-take_over.ensures.ok refl
     (subst (λ (r : Result Bool StoreFault). Patches g.D.Disk.told g.D.Disk.size g.D.Disk.faults g.D.Disk.fate r c.take_over.new.self.side c.patch_next.new.self) (sym is)
-    (record { stands = e.stands; any_moment = e.any_moment; calls = e.calls; more = e.more; takes = e.takes; goes_on = e.goes_on; fails = e.fails; ahead = e.ahead; known = e.known; pages = e.count; cause = e.cause; fate_of = e.fate }))
+    (record { stands = e.stands; any_moment = e.any_moment; calls = e.calls; more = e.more; takes = e.takes; goes_on = e.goes_on; fails = e.fails; spent = e.spent; ahead = e.ahead; known = e.known; pages = e.count; cause = e.cause; fate_of = e.fate }))

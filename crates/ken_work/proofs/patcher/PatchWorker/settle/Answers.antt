@@ -28,6 +28,7 @@ returns-clause-settles g c =
       takes = subst (λ (r : Result ℕ StoreFault). OnOk r (TakesPatches told g.D.Disk.size new)) is e.takes;
       goes_on = λ memory. absurd (let no : ⊥ = cc memory in no);
       fails = tt;
+      spent = λ disk. absurd (let no : ⊥ = cc disk in no);
       ahead = e.ahead;
       known = e.known;
       count_is = e.count;
