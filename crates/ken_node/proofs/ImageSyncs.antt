@@ -1,6 +1,7 @@
 -- What a patch and a sync make of the disk of an image.
-use Rattle.std.proofs.Common.{◌≡◌, ℕ, ◌≤◌, List, [], ◌∷◌, Option, Some, None, Bool, Result, Ok, Err, sym, ap, subst, arith}
+use Rattle.std.proofs.Common.{◌≡◌, ℕ, ◌≤◌, List, [], ◌∷◌, length, Option, Some, None, Bool, Result, Ok, Err, sym, ap, subst, arith}
 use Rattle.std.specs.Prelude.{OnOk}
+use Rattle.ken_disk.proofs.Told.{by_none}
 use Rattle.ken_disk.specs.declared.faults.DiskFault.{DiskFault}
 use Rattle.ken_disk.specs.declared.faults.DiskFault.TheVariants.{Failed, Memory}
 use Rattle.ken_disk.specs.Fates.{Fate}
@@ -17,8 +18,7 @@ use Rattle.ken_work.specs.declared.worker.TurnWorker.{TurnWorker}
 use Rattle.ken_work.specs.Faults.{store_answer}
 use Rattle.ken_work.specs.Meeting.{HaveMet}
 use Rattle.ken_work.specs.Patches.{PatchesOnce, SettlesOnce, went, no_room}
-use Rattle.ken_node.specs.Synced.{HasMadeSync, KeepsSyncs}
-use Rattle.ken_node.proofs.RestartSynced.{same-syncs}
+use Rattle.ken_node.specs.Synced.{HasMadeSync, KeepsStory}
 
 follows-by : {X : Type 0} (R S : X → X → Type 0) → ((a b : X) → R a b → S a b) → (old new : Option X) → Follows R old new → Follows S old new
 follows-by R S by (Some x) new follows = (follows.0, follows.1, by x follows.0 follows.2)
@@ -44,12 +44,42 @@ called-sync (Err Failed) calls a b is =
     subst (λ (h : Story). a.now.syncs ≤ h.now.syncs) (sym is.1) (omega (arith, done, last))
 called-sync (Err Memory) calls a b is = let stop = is.0 in subst (λ (h : Story). a.now.syncs ≤ h.now.syncs) (sym is.1) (calls-sync stop.done a)
 
+-- ---- nor a past state
+
+calls-past : (calls : List Call) (h : Story) → length h.past ≤ length (after_calls calls h).past
+calls-past [] h = omega arith
+calls-past (Write at bytes ∷ calls) h = let rest = calls-past calls (after_writing at bytes h) in omega (arith, rest)
+calls-past (Sync ∷ calls) h = let rest = calls-past calls (after_syncing h) in omega (arith, rest)
+
+failure-past : (call : Call) (h : Story) → length h.past ≤ length (after_failure call h).past
+failure-past (Write at bytes) h = omega arith
+failure-past Sync h = omega arith
+
+called-past : {T : Type 0} (result : Result T DiskFault) (calls : List Call) (a b : Story) → Called result calls a b → length a.past ≤ length b.past
+called-past (Ok x) calls a b is = subst (λ (h : Story). length a.past ≤ length h.past) (sym is) (calls-past calls a)
+called-past (Err Failed) calls a b is =
+    let stop = is.0 in
+    let done = calls-past stop.done a in
+    let last = failure-past stop.next (after_calls stop.done a) in
+    subst (λ (h : Story). length a.past ≤ length h.past) (sym is.1) (omega (arith, done, last))
+called-past (Err Memory) calls a b is = let stop = is.0 in subst (λ (h : Story). length a.past ≤ length h.past) (sym is.1) (calls-past stop.done a)
+
+-- what KeepsStory says of two stories
+abbrev Keeps : Story → Story → Type 0
+Keeps a b = (a.now.syncs ≤ b.now.syncs) × (length a.past ≤ length b.past)
+
+called-story : {T : Type 0} (result : Result T DiskFault) (calls : List Call) (a b : Story) → Called result calls a b → Keeps a b
+called-story result calls a b is = (called-sync result calls a b is, called-past result calls a b is)
+
+same-story : (old new : Option Story) → new ≡ old → KeepsStory old new
+same-story old new is = by_none Keeps old new is (λ a. (omega arith, omega arith))
+
 module _ {D : Type 0} (told : D → Option Story) (size count : D → ℕ) (fate : D → Option Fate) where
-  patched-syncs : (result : Result Bool StoreFault) (p p1 : PatchWorker D) → PatchesOnce told size count fate result p p1 → KeepsSyncs (told p.side.image.disk) (told p1.side.image.disk)
-  patched-syncs result p p1 (went mid takes is patches) =
-      subst (λ (i : Image D). KeepsSyncs (told i.disk) (told p1.side.image.disk)) takes.handed.image
-      (follows-by (Called (disk_answer result) (patch_calls mid.side.ahead.items)) (λ (a b : Story). a.now.syncs ≤ b.now.syncs) (λ a b. called-sync (disk_answer result) (patch_calls mid.side.ahead.items) a b) (told mid.side.image.disk) (told p1.side.image.disk) patches.calls)
-  patched-syncs result p p1 (no_room e takes) = same-syncs (told p.side.image.disk) (told p1.side.image.disk) (ap (λ (i : Image D). told i.disk) takes.handed.image)
+  patched-story : (result : Result Bool StoreFault) (p p1 : PatchWorker D) → PatchesOnce told size count fate result p p1 → KeepsStory (told p.side.image.disk) (told p1.side.image.disk)
+  patched-story result p p1 (went mid takes is patches) =
+      subst (λ (i : Image D). KeepsStory (told i.disk) (told p1.side.image.disk)) takes.handed.image
+      (follows-by (Called (disk_answer result) (patch_calls mid.side.ahead.items)) Keeps (λ a b. called-story (disk_answer result) (patch_calls mid.side.ahead.items) a b) (told mid.side.image.disk) (told p1.side.image.disk) patches.calls)
+  patched-story result p p1 (no_room e takes) = same-story (told p.side.image.disk) (told p1.side.image.disk) (ap (λ (i : Image D). told i.disk) takes.handed.image)
 
   settled-sync : (result : Result (Unit {0}) NodeFault) (p p1 : PatchWorker D) → SettlesOnce told size count fate (store_answer result) p p1 → OnOk result (HasMadeSync (told p.side.image.disk) (told p1.side.image.disk))
   settled-sync (Ok x) p p1 is = is.calls
@@ -61,8 +91,8 @@ module _ {D : Type 0} (told : D → Option Story) (size count : D → ℕ) (fate
     pub met-image : told p2.side.image.disk ≡ told p1.side.image.disk
     met-image = ap (λ (i : Image D). told i.disk) met.patches.handed.image
 
-    pub patch-syncs-met : (result : Result Bool StoreFault) → PatchesOnce told size count fate result p p1 → KeepsSyncs (told p.side.image.disk) (told p2.side.image.disk)
-    patch-syncs-met result is = subst (λ (o : Option Story). KeepsSyncs (told p.side.image.disk) o) (sym met-image) (patched-syncs result p p1 is)
+    pub patch-story-met : (result : Result Bool StoreFault) → PatchesOnce told size count fate result p p1 → KeepsStory (told p.side.image.disk) (told p2.side.image.disk)
+    patch-story-met result is = subst (λ (o : Option Story). KeepsStory (told p.side.image.disk) o) (sym met-image) (patched-story result p p1 is)
 
     pub settle-sync-met : (result : Result (Unit {0}) NodeFault) → SettlesOnce told size count fate (store_answer result) p p1 → OnOk result (HasMadeSync (told p.side.image.disk) (told p2.side.image.disk))
     settle-sync-met result is = subst (λ (o : Option Story). OnOk result (HasMadeSync (told p.side.image.disk) o)) (sym met-image) (settled-sync result p p1 is)

@@ -175,7 +175,7 @@ kept-story : (old new : Option Story) → KeepsSyncs old new → (y : Story) →
 kept-story None new keeps y is = absurd (let no : ⊥ = cc (keeps, is) in no)
 kept-story (Some x) new keeps y is = (x, (refl, subst (λ (z : Story). x.now.syncs ≤ z.now.syncs) (some_is keeps.0 y (sym keeps.1 ∙ is)) keeps.2))
 
-pub same-syncs : (old new : Option Story) → new ≡ old → KeepsSyncs old new
+same-syncs : (old new : Option Story) → new ≡ old → KeepsSyncs old new
 same-syncs old new is = by_none (λ (a b : Story). a.now.syncs ≤ b.now.syncs) old new is (λ a. omega arith)
 
 module _ {D : Type 0} (told : D → Option Story) (count : D → ℕ) where

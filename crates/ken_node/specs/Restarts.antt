@@ -71,7 +71,8 @@ pub record IsUpAgain {D : Type 0} (told : D → Option Story) (size : D → ℕ)
   pub empty : AreEmpty handler patcher sender
   pub tell : AreTold told (disks_apart handler.side patcher.side)
 
--- the pick for a restart: the one that the lowest disk proposes which has failed since the last try of a restart, or 0
+-- the pick for a restart: the one that the lowest disk proposes which has failed since that disk's last restart that
+-- answered Ok, or 0
 abbrev pub pick_of : {D : Type 0} → (Watched D → ℕ) → Disks (Watched D) → ℕ
 pick_of hinted disks = if disks.log.failed then hinted disks.log
     else (if disks.image.failed then hinted disks.image else (if disks.second.failed then hinted disks.second else 0))

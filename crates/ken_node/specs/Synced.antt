@@ -34,6 +34,10 @@ module _ {D : Type 0} (told : D → Option Story) (count : D → ℕ) where
 abbrev pub KeepsSyncs : Option Story → Option Story → Type 0
 KeepsSyncs old new = Follows (λ (a b : Story). a.now.syncs ≤ b.now.syncs) old new
 
+-- and as many past states, or more
+abbrev pub KeepsStory : Option Story → Option Story → Type 0
+KeepsStory old new = Follows (λ (a b : Story). (a.now.syncs ≤ b.now.syncs) × (length a.past ≤ length b.past)) old new
+
 -- it made a sync that answered Ok, and no other call changed it
 abbrev pub HasMadeSync : Option Story → Option Story → Type 0
 HasMadeSync old new = Follows (λ (a b : Story). b ≡ after_syncing a) old new

@@ -34,7 +34,7 @@ use ken_store::{Disks, Recovered, Store, recover};
 use ken_work::{Parts, PatchWorker, TurnWorker, answered, meet};
 use std::alloc::AllocError;
 
-// The pick that the lowest disk proposes which has failed since the last try of a restart, or 0.
+// The pick that the lowest disk proposes which has failed since that disk's last restart that answered Ok, or 0.
 fn pick_of<D: Disk>(disks: &Disks<Watched<D>>) -> u64
     ensures { result ≡ pick_of ⟦<Watched<D> as Disk>⟧.hinted disks.now }
 {

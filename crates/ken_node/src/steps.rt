@@ -20,7 +20,7 @@ impl<D: Disk> Node<D> {
     ghost use Rattle.ken_node.specs.Clauses.{EmitsAs, FailsDisks, HearsAs, PatchesAs, SendsAs, SettlesAs, StaysSynced, SyncsTurn, TurnsAs};
     ghost use Rattle.ken_node.specs.NodeCalls.{UnlessMemory};
     ghost use Rattle.ken_node.specs.Stages.{HasDisks, emissions_in, image_told, refusals_in};
-    ghost use Rattle.ken_node.specs.Synced.{HasMadeSync, KeepsSyncs};
+    ghost use Rattle.ken_node.specs.Synced.{HasMadeSync, KeepsStory};
     ghost use Rattle.ken_node.specs.Up.{MayBeCalled, MayBeCalledOn, MayTakeTurns};
 
     /// Takes the next message, has the application make its turn, seals and acknowledges it. `Turn`: a turn was made, of the first
@@ -64,7 +64,7 @@ impl<D: Disk> Node<D> {
         ensures steps { PatchesAs D.Disk self.old.stage result self.new.stage }
         ensures disks { FailsDisks D.Disk self.old.stage result self.new.stage }
         ensures synced { StaysSynced D.Disk self.old.stage self.new.stage }
-        ensures image { KeepsSyncs (image_told D.told self.old.stage) (image_told D.told self.new.stage) }
+        ensures image { KeepsStory (image_told D.told self.old.stage) (image_told D.told self.new.stage) }
         ensures emissions { emissions_in self.new.stage ≡ emissions_in self.old.stage }
         ensures refusals { refusals_in self.new.stage ≡ refusals_in self.old.stage }
     {

@@ -8,7 +8,7 @@ ghost use Rattle.ken_ship.specs.Fates.{Follows, Suffers};
 ghost use Rattle.ken_ship.specs.Parts.{part_of};
 ghost use Rattle.ken_node.specs.Clauses.{EmitsAs, HearsAs, PatchesAs, SendsAs, SettlesAs, SyncsDisks, TurnsAs};
 ghost use Rattle.ken_node.specs.NodeCalls.{DisksFailBy, UnlessMemory};
-ghost use Rattle.ken_node.specs.Synced.{HasMadeSync, KeepsSyncs};
+ghost use Rattle.ken_node.specs.Synced.{HasMadeSync, KeepsStory};
 ghost use Rattle.ken_node.specs.declared.stage.Stage.TheVariants.{Created};
 ghost use Rattle.ken_node.specs.Up.{MayBeCalled, MayBeCalledOn, MayTakeTurns};
 
@@ -29,7 +29,7 @@ pub(crate) fn patch<D: Disk>(
     ensures side { turns.new.side ≡ turns.old.side }
     ensures steps { PatchesAs D.Disk (Created turns.old patches.old sends.old) result (Created turns.new patches.new sends.new) }
     ensures disks { DisksFailBy D.told D.faults D.fate result (disks_apart turns.old.side patches.old.side) (disks_apart turns.new.side patches.new.side) }
-    ensures image { KeepsSyncs (D.told patches.old.side.image.disk) (D.told patches.new.side.image.disk) }
+    ensures image { KeepsStory (D.told patches.old.side.image.disk) (D.told patches.new.side.image.disk) }
     ensures emissions { (part_of sends.new).emissions ≡ (part_of sends.old).emissions }
     ensures refusals { (part_of sends.new).refusals ≡ (part_of sends.old).refusals }
 {

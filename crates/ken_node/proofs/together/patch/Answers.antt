@@ -1,6 +1,6 @@
 use Rattle.ken_node.proofs.PatchSteps.{joined-patcher, patch-disks-met, patch-steps}
 use Rattle.ken_node.proofs.Up.{are-up}
-use Rattle.ken_node.proofs.ImageSyncs.{patch-syncs-met}
+use Rattle.ken_node.proofs.ImageSyncs.{patch-story-met}
 use Rattle.ken_node.proofs.together.patch.Goals as goal
 
 pub patch_once-answer-requires : goal.patch_once-answer-requires
@@ -32,7 +32,7 @@ returns-clause-disks g c =
     up met.met met.joined met.sends (c.in_ok-meet.ensures.ok) c.patch_once-answer.result c.patch_once-answer.ensures.sound c.patch_once-answer.ensures.patches
 
 pub returns-clause-image : goal.returns-clause-image
-returns-clause-image g c = patch-syncs-met g.D.Disk.told g.D.Disk.size g.D.Disk.faults g.D.Disk.fate c.args.turns.now c.meet.new.turns c.args.patches.now c.patch_once-answer.new.self c.meet.new.patches c.args.sends.now c.meet.new.sends c.meet.ensures.met _ c.patch_once-answer.ensures.patches
+returns-clause-image g c = patch-story-met g.D.Disk.told g.D.Disk.size g.D.Disk.faults g.D.Disk.fate c.args.turns.now c.meet.new.turns c.args.patches.now c.patch_once-answer.new.self c.meet.new.patches c.args.sends.now c.meet.new.sends c.meet.ensures.met _ c.patch_once-answer.ensures.patches
 
 pub returns-in_err-meet-clause-image : goal.returns-in_err-meet-clause-image
-returns-in_err-meet-clause-image g c = patch-syncs-met g.D.Disk.told g.D.Disk.size g.D.Disk.faults g.D.Disk.fate c.args.turns.now c.meet.new.turns c.args.patches.now c.patch_once-answer.new.self c.meet.new.patches c.args.sends.now c.meet.new.sends c.meet.ensures.met _ c.patch_once-answer.ensures.patches
+returns-in_err-meet-clause-image g c = patch-story-met g.D.Disk.told g.D.Disk.size g.D.Disk.faults g.D.Disk.fate c.args.turns.now c.meet.new.turns c.args.patches.now c.patch_once-answer.new.self c.meet.new.patches c.args.sends.now c.meet.new.sends c.meet.ensures.met _ c.patch_once-answer.ensures.patches
