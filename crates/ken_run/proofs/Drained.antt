@@ -31,7 +31,9 @@ has-image told old new (inl again) on =
     let turns = length (turns_in new.node.stage) in
     let more = last-too (λ n. n < turns) old.lines.items turns (subst (AllByRecursion (λ n. n < turns)) again.line on) in
     absurd (omega (arith, more))
-has-image told old new (inr since) on = record { patched = since.patched; rests = rests-now (image_told told old.node.stage) (image_told told new.node.stage) (λ a b. a.now.syncs < b.now.syncs) since.synced }
+has-image told old new (inr done) on =
+    let since = done.1 in
+    record { patched = since.patched; rests = rests-now (image_told told old.node.stage) (image_told told new.node.stage) (λ a b. (a.now.syncs < b.now.syncs) × (length a.past < length b.past)) since.synced }
 
 module _ {D O U A : Type 0} (told : Watched D → Option Story) (size : Watched D → ℕ) (took : U → Option (List Out)) (handles : A → Handler) where
   pub passes-then : (old mid new : Run D O U A) → PassesOn told size took handles old mid → PassesOn told size took handles mid new → PassesOn told size took handles old new

@@ -25,6 +25,7 @@ pub mod Restarting
 pub mod Opening
 pub mod Draining
 pub mod Drained
+pub mod States
 pub mod Turning
 pub mod AtEnd
 pub mod Refusals

@@ -34,12 +34,12 @@ use Rattle.ken_node.specs.declared.watched.Watched.{Watched}
 use Rattle.ken_node.specs.NodeCalls.{EmitStepsBy, EmitsNone, PatchStepsBy, SendSteps, SettleStepsBy, Steps}
 use Rattle.ken_work.specs.Patches.{waits_of}
 use Rattle.ken_node.specs.Stages.{HasDisks, image_told, turns_in}
-use Rattle.ken_node.specs.Synced.{HasMadeSync, KeepsSyncs}
+use Rattle.ken_node.specs.Synced.{HasMadeSync, KeepsStory}
 use Rattle.ken_node.specs.Up.{IsUp}
 use Rattle.ken_whole.proofs.Quietly.{emit_keeps_ahead, none_keeps, sends_keep, sync_keeps_ahead, taken_keep_ahead}
 use Rattle.ken_run.specs.declared.run.Run.{Run}
 use Rattle.ken_run.specs.declared.station.Station.{Station}
-use Rattle.ken_run.specs.Patched.{AllVisited, Changes, HasNoInput, HasPatched, HasSettled, IsCall, IsNotRestarted, IsPatched, IsPatchedAt, IsSettledSince, KeepsImage, MaySync, TriesBy, WasRestarted, WasVisited}
+use Rattle.ken_run.specs.Patched.{AllVisited, Changes, HasNoInput, HasPatched, HasSettled, IsCall, IsNotRestarted, IsPatched, IsPatchedAt, IsSettledSince, KeepsImage, MaySync, SyncsOn, TriesBy, WasRestarted, WasVisited}
 use Rattle.ken_run.specs.Stations.{RestartsStation}
 use Rattle.ken_run.proofs.Fewer.{no-queue}
 
@@ -98,21 +98,26 @@ module _ {D : Type 0} (told : D → Option Story) (size : D → ℕ) (g : Game) 
       let none : length up.handler.inputs.items ≤ consumed_from up.handler.order outside = omega (arith, past, inputs, count) in
       subst HasNoInput (sym up.stage_is) none
 
--- ---- syncs, one after the other
+-- ---- calls of a disk, one after the other
 
-syncs-then : (o o2 o3 : Option Story) → KeepsSyncs o o2 → KeepsSyncs o2 o3 → KeepsSyncs o o3
-syncs-then None o2 o3 one two = subst (λ (x : Option Story). KeepsSyncs x o3) one two
-syncs-then (Some h) o2 o3 one two =
-    let next = subst (λ (x : Option Story). KeepsSyncs x o3) one.1 two in
-    (next.0, next.1, let a = one.2 in let b = next.2 in omega (arith, a, b))
+story-then : (o o2 o3 : Option Story) → KeepsStory o o2 → KeepsStory o2 o3 → KeepsStory o o3
+story-then None o2 o3 one two = subst (λ (x : Option Story). KeepsStory x o3) one two
+story-then (Some h) o2 o3 one two =
+    let next = subst (λ (x : Option Story). KeepsStory x o3) one.1 two in
+    let syncs = one.2.0 in
+    let syncs2 = next.2.0 in
+    let past = one.2.1 in
+    let past2 = next.2.1 in
+    (next.0, next.1, omega (arith, syncs, syncs2), omega (arith, past, past2))
 
 -- a sync after some other calls
-synced-then : (o o2 o3 : Option Story) → KeepsSyncs o o2 → HasMadeSync o2 o3 → Follows (λ (a b : Story). IsAtRest b.now × (a.now.syncs < b.now.syncs)) o o3
+synced-then : (o o2 o3 : Option Story) → KeepsStory o o2 → HasMadeSync o2 o3 → Follows SyncsOn o o3
 synced-then None o2 o3 one two = subst (λ (x : Option Story). HasMadeSync x o3) one two
 synced-then (Some h) o2 o3 one two =
     let next = subst (λ (x : Option Story). HasMadeSync x o3) one.1 two in
-    let more = one.2 in
-    (next.0, next.1, subst (λ (b : Story). IsAtRest b.now × (h.now.syncs < b.now.syncs)) (sym next.2) (rests one.0, omega (arith, more)))
+    let syncs = one.2.0 in
+    let past = one.2.1 in
+    (next.0, next.1, subst (SyncsOn h) (sym next.2) (rests one.0, omega (arith, syncs), omega (arith, past)))
   where
     rests : (x : Story) → IsAtRest (after_syncing x).now
     rests x = record { safe = refl; none = λ place is. is; within = omega arith }
@@ -209,15 +214,15 @@ module _ {D O U : Type 0} where
     pub may-sync : (a : Station D O U) → MaySync told a a
     may-sync a = by (image_told told a.node.stage)
       where
-        by : (o : Option Story) → KeepsSyncs o o
+        by : (o : Option Story) → KeepsStory o o
         by None = refl
-        by (Some h) = (h, refl, omega arith)
+        by (Some h) = (h, refl, omega arith, omega arith)
 
     pub same-may-sync : (a b : Station D O U) → image_told told b.node.stage ≡ image_told told a.node.stage → MaySync told a b
-    same-may-sync a b same = subst (λ (o : Option Story). KeepsSyncs (image_told told a.node.stage) o) (sym same) (may-sync a)
+    same-may-sync a b same = subst (λ (o : Option Story). KeepsStory (image_told told a.node.stage) o) (sym same) (may-sync a)
 
     pub may-sync-then : (a b c : Station D O U) → MaySync told a b → MaySync told b c → MaySync told a c
-    may-sync-then a b c one two = syncs-then (image_told told a.node.stage) (image_told told b.node.stage) (image_told told c.node.stage) one two
+    may-sync-then a b c one two = story-then (image_told told a.node.stage) (image_told told b.node.stage) (image_told told c.node.stage) one two
 
     module _ (a b c d : Station D O U) where
       pub settled-since : MaySync told a b → HasPatched told b c → HasSettled told c d → IsSettledSince told a d
@@ -229,7 +234,7 @@ module _ {D O U : Type 0} where
     pub settled-then : (a b c : Station D O U) → IsSettledSince told a b → KeepsImage told b c → IsSettledSince told a c
     settled-then a b c one two = record {
       patched = two.patched one.patched;
-      synced = subst (λ (o : Option Story). Follows (λ (x y : Story). IsAtRest y.now × (x.now.syncs < y.now.syncs)) (image_told told a.node.stage) o) (sym two.same) one.synced;
+      synced = subst (λ (o : Option Story). Follows SyncsOn (image_told told a.node.stage) o) (sym two.same) one.synced;
     }
 
     pub keeps-image : (a : Station D O U) → KeepsImage told a a

@@ -1,5 +1,5 @@
 -- What the calls of a visit make of a node's station and of its image: its pages are written there and synced, or it is restarted.
-use Rattle.std.specs.Prelude.{◌≡◌, ◌≢◌, ◌⊎◌, ℕ, ◌<◌, ◌≤◌, [], ◌∷◌, ◌++◌, length, slice_index_or, Option, Result, Ok, Err, OnOk}
+use Rattle.std.specs.Prelude.{◌≡◌, ◌≢◌, ◌⊎◌, ℕ, ◌+◌, ◌<◌, ◌≤◌, [], ◌∷◌, ◌++◌, length, slice_index_or, Option, Result, Ok, Err, OnOk}
 use Rattle.std.specs.List.{AllByRecursion}
 use Rattle.ken_disk.specs.Story.{Story, Follows, IsAtRest, Tells}
 use Rattle.ken_model.specs.Network.{outside}
@@ -10,7 +10,7 @@ use Rattle.ken_node.specs.declared.stage.Stage.{Stage}
 use Rattle.ken_node.specs.declared.stage.Stage.TheVariants.{Uncreated, Created, Moved}
 use Rattle.ken_node.specs.declared.watched.Watched.{Watched}
 use Rattle.ken_node.specs.Stages.{image_told, turns_in}
-use Rattle.ken_node.specs.Synced.{HasMadeSync, KeepsSyncs}
+use Rattle.ken_node.specs.Synced.{HasMadeSync, KeepsStory}
 use Rattle.ken_run.specs.declared.run.Run.{Run}
 use Rattle.ken_run.specs.declared.station.Station.{Station}
 use Rattle.ken_run.specs.Left.{left_at, turns_left}
@@ -71,10 +71,14 @@ module _ {D O U : Type 0} where
   TriesBy (Err Outlet) old new = Unit {0}
   TriesBy (Err (Damaged disk place)) old new = Unit {0}
 
+-- it synced, after other calls or none: it has more syncs and more past states, and nothing is pending
+abbrev pub SyncsOn : Story → Story → Type 0
+SyncsOn a b = IsAtRest b.now × (a.now.syncs < b.now.syncs) × (length a.past < length b.past)
+
 module _ {D O U : Type 0} (told : Watched D → Option Story) where
-  -- the disk of its image counts as many syncs as before, or more
+  -- the disk of its image counts as many syncs as before and has as many past states, or more
   abbrev pub MaySync : Station D O U → Station D O U → Type 0
-  MaySync old new = KeepsSyncs (image_told told old.node.stage) (image_told told new.node.stage)
+  MaySync old new = KeepsStory (image_told told old.node.stage) (image_told told new.node.stage)
 
   -- and all its pages are there
   pub record HasPatched (old new : Station D O U) : Type 0 where
@@ -94,7 +98,7 @@ module _ {D O U : Type 0} (told : Watched D → Option Story) where
   -- all its pages are in its image, where the disk of the image made a sync since; so nothing is pending there, and a crash leaves them
   pub record IsSettledSince (old new : Station D O U) : Type 0 where
     pub patched : IsPatched new.node.stage
-    pub synced : Follows (λ (a b : Story). IsAtRest b.now × (a.now.syncs < b.now.syncs)) (image_told told old.node.stage) (image_told told new.node.stage)
+    pub synced : Follows SyncsOn (image_told told old.node.stage) (image_told told new.node.stage)
 
   -- all its pages are in its image, and nothing is pending there
   pub record HasItsImage (s : Station D O U) : Type 0 where
@@ -105,11 +109,29 @@ module _ {D O U : Type 0} (told : Watched D → Option Story) where
   abbrev pub HaveImages : {A : Type 0} → Run D O U A → Type 0
   HaveImages r = (v : ℕ) (d : Station D O U) → v < length r.stations.items → HasGoneOn (slice_index_or r.stations.items v d) → HasItsImage (slice_index_or r.stations.items v d)
 
-  -- it was visited: it was restarted, or did all that there was to do
+  -- it was visited: it was restarted, or it wasn't and did all that there was to do
   abbrev pub WasVisited : Station D O U → Station D O U → Type 0
-  WasVisited old new = WasRestarted old new ⊎ IsSettledSince old new
+  WasVisited old new = WasRestarted old new ⊎ (IsNotRestarted old new × IsSettledSince old new)
 
   -- each node of a run was
   pub record AllVisited {A : Type 0} (old new : Run D O U A) : Type 0 where
     pub width : length new.stations.items ≡ length old.stations.items
     pub each : (v : ℕ) (d : Station D O U) → v < length old.stations.items → WasVisited (slice_index_or old.stations.items v d) (slice_index_or new.stations.items v d)
+
+  -- no restart line was lost; where none came, the story of its image has at least so many past states more, if its
+  -- disk tells
+  pub record AddsStates (many : ℕ) (old new : Station D O U) : Type 0 where
+    pub lines : length old.lines.items ≤ length new.lines.items
+    pub states : length new.lines.items ≡ length old.lines.items
+        → Follows (λ (a b : Story). length a.past + many ≤ length b.past)
+        (image_told told old.node.stage) (image_told told new.node.stage)
+
+  -- so it is of each node of a run
+  pub record AllAdd {A : Type 0} (many : ℕ) (old new : Run D O U A) : Type 0 where
+    pub width : length new.stations.items ≡ length old.stations.items
+    pub each : (v : ℕ) (d : Station D O U) → v < length old.stations.items
+        → AddsStates many (slice_index_or old.stations.items v d) (slice_index_or new.stations.items v d)
+
+  -- by the answer of a call
+  abbrev pub AddStates : {A T E : Type 0} → ℕ → Run D O U A → Result T E → Run D O U A → Type 0
+  AddStates many old result new = OnOk result (AllAdd many old new)

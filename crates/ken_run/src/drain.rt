@@ -1,6 +1,7 @@
 // Passes until a run has ended.
 ghost use Rattle.std.specs.Prelude.{◌≡◌, ◌<◌, ◌≤◌, ◌^◌, length};
 ghost use Rattle.ken_run.specs.Flowing.{work_at, work_left};
+ghost use Rattle.ken_run.specs.Patched.{AddStates};
 ghost use Rattle.ken_run.specs.Clauses.{AccountsPasses, Drains, DrainsRun, HasPassed, HasPassedAll, HasPassedOn, PassesOn, PassesOnce, PassesThrice, RefusesPasses, StopsPasses};
 
 use crate::faults::RunFault;
@@ -114,6 +115,7 @@ impl<D: Disk, O: Oracle, U: Outlet, A: App> Run<D, O, U, A> {
         ensures refused { RefusesPasses D.Disk U.Outlet A.App self.old result self.new }
         ensures stops { StopsPasses D.Disk O.Oracle U.Outlet A.App self.old result self.new }
         ensures passes { HasPassedAll D.Disk U.Outlet A.App self.old result self.new }
+        ensures states { AddStates ⟦<Watched<D> as Disk>⟧.told 0 self.old result self.new }
     {
         'passes: while !self.until_progress()? {}
         Ok(())

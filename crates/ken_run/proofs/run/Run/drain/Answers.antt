@@ -4,6 +4,7 @@ use Rattle.ken_run.proofs.AccountsRestarts.{run-accounts-handed-on}
 use Rattle.ken_run.proofs.Refusals.{run-refused-handed-on, stops-handed-on}
 use Rattle.ken_run.specs.Drained.{none}
 use Rattle.ken_run.proofs.Drained.{drained-after, going-on}
+use Rattle.ken_run.proofs.States.{drained-adds}
 use Rattle.ken_run.proofs.run.Run.drain.Goals as goal
 
 pub until_progress-requires : goal.until_progress-requires
@@ -51,6 +52,9 @@ returns-in_err-until_progress-clause-stops g c = λ terms game made running all 
 
 pub returns-clause-passes : goal.returns-clause-passes
 returns-clause-passes g c = drained-after (λ w. g.D.Disk.told w.disk) (λ w. g.D.Disk.size w.disk) g.U.Outlet.took g.A.App.handler c.args.self.now c.passes.self c.until_progress.new.self c.in_ok-until_progress.field-0 c.if-not-branch.false c.passes.invariant.on c.in_ok-until_progress.ensures.passes
+
+pub returns-clause-states : goal.returns-clause-states
+returns-clause-states g c = drained-adds (λ w. g.D.Disk.told w.disk) (λ w. g.D.Disk.size w.disk) g.U.Outlet.took g.A.App.handler c.args.self.now c.until_progress.new.self (returns-clause-passes g c)
 
 pub passes-init : goal.passes-init
 passes-init g c = record { stays = stays-whole (λ w. g.D.Disk.told w.disk) (λ w. g.D.Disk.size w.disk) g.U.Outlet.took g.A.App.handler c.args.self.now; on = none; accounts = λ terms game made running all accounted. accounted; refused = λ terms game made running all are. are }

@@ -74,7 +74,7 @@ returns-in-Err-Damaged-clause-leaves g c = λ game made running low.
     subst (λ x. LeavesFault (λ w. g.D.Disk.told w.disk) (λ w. g.D.Disk.size w.disk) g.U.Outlet.took g.A.App.handler x game made c.args.node c.work.new.self) c.in-Err-Damaged.field-0-is (c.in-Err-Damaged.ensures.leaves game made running low)
 
 pub returns-in-Ok-clause-visited : goal.returns-in-Ok-clause-visited
-returns-in-Ok-clause-visited g c = changes-as (λ a b. IsNotRestarted a b × IsSettledSince (λ w. g.D.Disk.told w.disk) a b) (WasVisited (λ w. g.D.Disk.told w.disk)) c.args.node c.args.self.now c.work.new.self (λ a b x. inr x.1) c.in-Ok.ensures.called
+returns-in-Ok-clause-visited g c = changes-as (λ a b. IsNotRestarted a b × IsSettledSince (λ w. g.D.Disk.told w.disk) a b) (WasVisited (λ w. g.D.Disk.told w.disk)) c.args.node c.args.self.now c.work.new.self (λ a b x. inr x) c.in-Ok.ensures.called
 
 pub returns-in-Err-Disk-clause-visited : goal.returns-in-Err-Disk-clause-visited
 returns-in-Err-Disk-clause-visited g c = restart-visited (λ w. g.D.Disk.told w.disk) c.args.node c.args.self.now c.work.new.self c.restart.new.self c.restart.result (err-still c.args.node c.args.self.now c.work.new.self c.in-Err-Disk.ensures.called) c.restart.ensures.restarted
