@@ -40,6 +40,7 @@ use Rattle.ken_node.proofs.TurnDisks.{disk-failed}
 use Rattle.ken_node.proofs.TurnDown.{turn_goes_down}
 use Rattle.ken_weave.proofs.Lists.{front_then}
 use Rattle.ken_beside.specs.Failing.{FailureBeside}
+use Rattle.ken_beside.specs.Puts.{IsAnswer}
 use Rattle.ken_beside.specs.Seats.{Handling}
 use Rattle.ken_beside.specs.Steps.{TurnsOnce}
 use Rattle.ken_beside.proofs.Calm.{idle-calm}
@@ -47,6 +48,7 @@ use Rattle.ken_beside.proofs.Counted.{few-turns, order-counts}
 use Rattle.ken_beside.proofs.FailingSynced.{failed-synced}
 use Rattle.ken_beside.proofs.Over.{run-over}
 use Rattle.ken_beside.proofs.Taken.{packets-append, packets-left, packets-right}
+use Rattle.ken_beside.proofs.Sorts.{acks-out, of-then}
 use Rattle.ken_beside.proofs.Spelled.{handler-put, none-put}
 use Rattle.ken_beside.proofs.Together.{side_by_side}
 
@@ -138,6 +140,7 @@ module _ {D N O U : Type 0} (d : disk.Ghosts D) (e : net.Ghosts N) (o : oracle.G
         calm = tt;
         turns = refl;
         puts = none-put g.nodes (e.put_between t2.net t3.net) is.doubts.was_put;
+        acks = tt;
         outs = refl;
         all_run = one-run g v n ran.after ran.after ran.handler_gave ran.sender_gave [] ran.events [] ran.out nothing ran.run (refl, refl);
         doubt = turnover (told_of g call.mid);
@@ -170,6 +173,7 @@ module _ {D N O U : Type 0} (d : disk.Ghosts D) (e : net.Ghosts N) (o : oracle.G
             handler-put g (Contains (packets_from g.nodes lead.given)) v ran.after lead.after lead.call.events lead.before lead.last t2.worker.order last.order (e.put_between t2.net t3.net) few ran.on.known
             (order-counts d.told d.size g v ran.after t2.worker p2 s2.worker whole) (order-counts d.told d.size g v lead.after last p2 s2.worker lead.whole)
             (subst (λ (ts : List Effects). length ts < 2 ^ 64) whole.workers.turns.kept (omega (arith, low))) (subst (λ (ts : List Effects). length ts < 2 ^ 64) lead.whole.workers.turns.kept (omega (arith, low, same))) lead.call.run lead.was_put;
+        acks = of-then IsAnswer (acks_out v ran.after lead.before).puts (acks_out v lead.after lead.last).puts (acks-out v ran.after lead.before) (acks-out v lead.after lead.last);
         outs = refl;
         all_run = one-run g v n ran.after lead.after ran.handler_gave ran.sender_gave lead.given ran.events lead.call.events ran.out out ran.run lead.call.run;
         doubt = seal is.doubts.message.from is.doubts.doubt.effects.draws (coming_pages is.doubts.doubt.begun);

@@ -8,6 +8,7 @@ pub mod Given
 pub mod Handled
 pub mod Patched
 pub mod Sent
+pub mod Sorts
 pub mod Spelled
 pub mod Calm
 pub mod Counted

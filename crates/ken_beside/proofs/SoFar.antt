@@ -48,7 +48,7 @@ use Rattle.ken_node.proofs.Recovered.{some-is}
 use Rattle.ken_whole.proofs.Runs.{run-append}
 use Rattle.ken_whole.proofs.SendsWhole.{sends_keep_whole}
 use Rattle.ken_whole.proofs.TurnsWhole.{turn_keeps_whole}
-use Rattle.ken_beside.specs.Puts.{Shuffled, WerePut}
+use Rattle.ken_beside.specs.Puts.{AreOf, IsAnswer, IsMail, Shuffled, WerePut}
 use Rattle.ken_beside.specs.Seats.{Handling, Sending}
 use Rattle.ken_beside.specs.Steps.{HandlerStep, PatcherCall, PatcherFault, PatcherStep, SenderCall, EmitsOnce, SendsDue, TakesAcks, TurnsOnce, turns_once, patches_once, settles_once, patch_fails, sync_fails, sends_due, takes_acks, emits_once}
 use Rattle.ken_beside.proofs.Calm.{AreCalm, calm-append, emit-calm, idle-calm, none-calm, patch-calm, sends-calm, sync-calm, taken-calm, turn-calm}
@@ -57,6 +57,7 @@ use Rattle.ken_beside.proofs.Disks.{image-goes}
 use Rattle.ken_beside.proofs.Given.{handler-given, sender-given, step-given, taken, taken-just}
 use Rattle.ken_beside.proofs.Lists.{shuffled-first, shuffled-second}
 use Rattle.ken_beside.proofs.Over.{run-over}
+use Rattle.ken_beside.proofs.Sorts.{acks-out, mails-out, of-then}
 use Rattle.ken_beside.proofs.Spelled.{all-mails, handler-put, lines-mails, mails-put, none-put, put-then}
 
 -- ---- what an outlet took
@@ -84,6 +85,8 @@ module _ {D N O U : Type 0} (d : disk.Ghosts D) (e : net.Ghosts N) (o : oracle.G
     pub all : Shuffled by_handler by_sender out.puts
     pub handler_puts : WerePut g.nodes (e.put_between t0.net t.net) by_handler
     pub sender_puts : WerePut g.nodes (e.put_between s0.net s.net) by_sender
+    pub handler_acks : AreOf IsAnswer by_handler
+    pub sender_mails : AreOf IsMail by_sender
     pub emissions : (part_of s.worker).emissions ≡ (part_of s0.worker).emissions ++ emissions_by v out.outs
     pub took : u.took s.outlet ≡ also_took out.outs (u.took s0.outlet)
 
@@ -105,8 +108,8 @@ module _ {D N O U : Type 0} (d : disk.Ghosts D) (e : net.Ghosts N) (o : oracle.G
     same-took : out.outs ≡ [] → also_took so.out.outs (u.took s0.outlet) ≡ also_took all_out.outs (u.took s0.outlet)
     same-took none = ap (λ (os : List Out). also_took os (u.took s0.outlet)) (sym (append-nil so.out.outs) ∙ ap (λ (os : List Out). so.out.outs ++ os) (sym none))
 
-    pub handler-goes-on : (t2 : Handling D N O) → out.outs ≡ [] → IsWhole d.told d.size g v n2 t2.worker p s.worker → WerePut g.nodes (e.put_between t.net t2.net) out.puts → SoFar t2 p s
-    handler-goes-on t2 none whole put = record {
+    pub handler-goes-on : (t2 : Handling D N O) → out.outs ≡ [] → IsWhole d.told d.size g v n2 t2.worker p s.worker → WerePut g.nodes (e.put_between t.net t2.net) out.puts → AreOf IsAnswer out.puts → SoFar t2 p s
+    handler-goes-on t2 none whole put acks = record {
       events = so.events ++ es;
       out = all_out;
       after = n2;
@@ -119,6 +122,8 @@ module _ {D N O U : Type 0} (d : disk.Ghosts D) (e : net.Ghosts N) (o : oracle.G
       all = shuffled-first so.by_handler so.by_sender so.out.puts out.puts so.all;
       handler_puts = put-then g.nodes (e.put_between t0.net t.net) (e.put_between t.net t2.net) (e.put_between t0.net t2.net) so.by_handler out.puts (put_joins t0.net t.net t2.net) so.handler_puts put;
       sender_puts = so.sender_puts;
+      handler_acks = of-then IsAnswer so.by_handler out.puts so.handler_acks acks;
+      sender_mails = so.sender_mails;
       emissions = so.emissions ∙ ap (λ (x : List Emission). (part_of s0.worker).emissions ++ x) (same-emissions none);
       took = so.took ∙ same-took none;
     }
@@ -140,13 +145,15 @@ module _ {D N O U : Type 0} (d : disk.Ghosts D) (e : net.Ghosts N) (o : oracle.G
           all = subst (Shuffled so.by_handler so.by_sender) same so.all;
           handler_puts = so.handler_puts;
           sender_puts = so.sender_puts;
+          handler_acks = so.handler_acks;
+          sender_mails = so.sender_mails;
           emissions = so.emissions ∙ ap (λ (x : List Emission). (part_of s0.worker).emissions ++ x) (same-emissions outs);
           took = so.took ∙ same-took outs;
         }
 
-    pub sender-goes-on : (s2 : Sending N U) → IsWhole d.told d.size g v n2 t.worker p s2.worker → WerePut g.nodes (e.put_between s.net s2.net) out.puts
+    pub sender-goes-on : (s2 : Sending N U) → IsWhole d.told d.size g v n2 t.worker p s2.worker → WerePut g.nodes (e.put_between s.net s2.net) out.puts → AreOf IsMail out.puts
         → (part_of s2.worker).emissions ≡ (part_of s.worker).emissions ++ emissions_by v out.outs → u.took s2.outlet ≡ also_took out.outs (u.took s.outlet) → SoFar t p s2
-    sender-goes-on s2 whole put emissions took = record {
+    sender-goes-on s2 whole put mails emissions took = record {
       events = so.events ++ es;
       out = all_out;
       after = n2;
@@ -159,6 +166,8 @@ module _ {D N O U : Type 0} (d : disk.Ghosts D) (e : net.Ghosts N) (o : oracle.G
       all = shuffled-second so.by_handler so.by_sender so.out.puts out.puts so.all;
       handler_puts = so.handler_puts;
       sender_puts = put-then g.nodes (e.put_between s0.net s.net) (e.put_between s.net s2.net) (e.put_between s0.net s2.net) so.by_sender out.puts (put_joins s0.net s.net s2.net) so.sender_puts put;
+      handler_acks = so.handler_acks;
+      sender_mails = of-then IsMail so.by_sender out.puts so.sender_mails mails;
       emissions =
           emissions
           ∙ ap (λ (x : List Emission). x ++ emissions_by v out.outs) so.emissions
@@ -184,6 +193,7 @@ module _ {D N O U : Type 0} (d : disk.Ghosts D) (e : net.Ghosts N) (o : oracle.G
         (handler-put g given v so.after lead.after lead.call.events lead.before lead.last t.worker.order t2.worker.order (e.put_between t.net t2.net) few known
         (order-counts d.told d.size g v so.after t.worker p s.worker so.whole) (order-counts d.told d.size g v lead.after t2.worker p s.worker lead.whole)
         (subst (λ (ts : List Effects). length ts < 2 ^ 64) so.whole.workers.turns.kept short) (subst (λ (ts : List Effects). length ts < 2 ^ 64) lead.whole.workers.turns.kept short2) lead.call.run lead.was_put)
+        (of-then IsAnswer (acks_out v so.after lead.before).puts (acks_out v lead.after lead.last).puts (acks-out v so.after lead.before) (acks-out v lead.after lead.last))
 
     abbrev drew : List ℕ → Type 0
     drew = Drew o.telling.clocks o.telling.words g.handler t.oracle t2.oracle
@@ -218,7 +228,7 @@ module _ {D N O U : Type 0} (d : disk.Ghosts D) (e : net.Ghosts N) (o : oracle.G
         let out : Outgoing = one_after_other (acks_out v so.after lead.before) (acks_out v lead.after lead.last) in
         let run : NodeRun g (Contains (packets_from g.nodes lead.given)) v so.after [] out lead.after =
         subst (λ (es : List Event). NodeRun g (Contains (packets_from g.nodes lead.given)) v so.after es out lead.after) lead.call.which lead.call.run in
-        handler-goes-on t p s so [] nothing lead.after (refl, run.1) tt t2 refl lead.whole (none-put g.nodes (e.put_between t.net t2.net) is.takes.none)
+        handler-goes-on t p s so [] nothing lead.after (refl, run.1) tt t2 refl lead.whole (none-put g.nodes (e.put_between t.net t2.net) is.takes.none) tt
 
     pub handler-steps : (one : HandlerStep d e o g.handler t t2) → AreOfKind (handler-given d e o g.handler t t2 one) → SoFar t2 p s
     unfolding handler-given
@@ -271,6 +281,7 @@ module _ {D N O U : Type 0} (d : disk.Ghosts D) (e : net.Ghosts N) (o : oracle.G
         sender-goes-on t p s so some.sending.call.events out so.after
         (run-over g (Contains []) kind (λ packet there. absurd (omega (arith, there.1))) v so.after so.after some.sending.call.events out some.sending.call.run) (sends-calm g v so.after some.sending.call.events some.sending.call.which) s2 law.whole
         (mails-put g.nodes v so.after (e.put_between s.net s2.net) some.puts due some.sending.messages known some.were_put.0 some.were_put.1 some.sending.put (all-mails v (part_of s2.worker).due.lines (range_with_len 0 s.worker.nodes) mails))
+        (mails-out v so.after some.sending.messages)
         (no-more (ap (λ (x : Part). x.emissions) is.part)) (ap u.took is.outlet)
 
     heard-on : (is : TakesAcks e u s s2) → AreOfKind is.heard.packets → SoFar t p s2
@@ -278,14 +289,14 @@ module _ {D N O U : Type 0} (d : disk.Ghosts D) (e : net.Ghosts N) (o : oracle.G
         let law = (acks_keep_whole d.told d.size e.given_between g v so.after t.worker p s.worker s2.worker s.net s2.net (e.nones s.net) (e.nones s2.net) so.whole is.same is.sealed is.heard is.tells).some in
         sender-goes-on t p s so law.call.events nothing law.after
         (run-over g (Contains (packets_from g.nodes is.heard.packets)) kind kinds v so.after law.after law.call.events nothing law.call.run) (taken-calm v (acks_taken (acks_in v g.nodes is.heard.packets) (part_of s.worker).due.lines) law.call.events law.call.which) s2 law.whole
-        (none-put g.nodes (e.put_between s.net s2.net) is.put)
+        (none-put g.nodes (e.put_between s.net s2.net) is.put) tt
         (no-more (ap (λ (x : Part). x.emissions) is.part)) (ap u.took is.outlet)
 
     none-emitted : LeadsTo d.told d.size g v [] IsNone so.after nothing t.worker p s2.worker → s2.net ≡ s.net → (part_of s2.worker).emissions ≡ (part_of s.worker).emissions → u.took s2.outlet ≡ u.took s.outlet → SoFar t p s2
     none-emitted law net emissions outlet =
         sender-goes-on t p s so law.call.events nothing law.after
         (run-over g (Contains []) kind (λ packet there. absurd (omega (arith, there.1))) v so.after law.after law.call.events nothing law.call.run) (none-calm law.call.events law.call.which) s2 law.whole
-        (same-still net) (no-more emissions) outlet
+        (same-still net) tt (no-more emissions) outlet
 
     emitted-on : (answer : Emit) → EmitsOnce e u (Ok answer) s s2 → SoFar t p s2
     emitted-on (Done number) is =
@@ -296,7 +307,7 @@ module _ {D N O U : Type 0} (d : disk.Ghosts D) (e : net.Ghosts N) (o : oracle.G
         let out : Outgoing = record { puts = []; outs = one ∷ [] } in
         sender-goes-on t p s so law.comes.call.events out law.comes.after
         (run-over g (Contains []) kind (λ packet there. absurd (omega (arith, there.1))) v so.after law.comes.after law.comes.call.events out law.comes.call.run) (emit-calm v law.comes.call.events law.comes.call.which) s2 law.comes.whole
-        (same-still is.net)
+        (same-still is.net) tt
         (ap (λ (x : Part). x.emissions) is.part.1.1.2
         ∙ ap (λ (k : ℕ). (part_of s.worker).emissions ++ record { node = k; out = is.part.0 } ∷ []) so.whole.workers.of_run.sender
         ∙ ap (λ (x : Out). (part_of s.worker).emissions ++ record { node = v; out = x } ∷ []) same)

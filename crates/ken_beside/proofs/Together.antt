@@ -199,6 +199,8 @@ module _ {D N O U : Type 0} (d : disk.Ghosts D) (e : net.Ghosts N) (o : oracle.G
           all = none;
           handler_puts = none-put g.nodes (e.put_between t.net t.net) (put_still t.net);
           sender_puts = none-put g.nodes (e.put_between s.net s.net) (put_still s.net);
+          handler_acks = tt;
+          sender_mails = tt;
           emissions = sym (append-nil (part_of s.worker).emissions);
           took = refl;
         }) in
@@ -223,6 +225,8 @@ module _ {D N O U : Type 0} (d : disk.Ghosts D) (e : net.Ghosts N) (o : oracle.G
           all = so.all;
           handler_puts = so.handler_puts;
           sender_puts = so.sender_puts;
+          handler_acks = so.handler_acks;
+          sender_mails = so.sender_mails;
           emissions = so.emissions;
           took = so.took;
           refusals = sent_on.refusals;

@@ -24,7 +24,7 @@ use Rattle.ken_weave.specs.Workers.{Steps}
 use Rattle.ken_beside.specs.Accounts.{DrewEach, Refuses}
 use Rattle.ken_beside.specs.Calm.{IsCalm}
 use Rattle.ken_beside.specs.On.{IsOn}
-use Rattle.ken_beside.specs.Puts.{Shuffled, WerePut}
+use Rattle.ken_beside.specs.Puts.{AreOf, IsAnswer, IsMail, Shuffled, WerePut}
 use Rattle.ken_beside.specs.Seats.{Handling, Sending}
 use Rattle.ken_beside.specs.Steps.{HandlerStep, IsSameEnd, PatcherCall, SenderCall}
 
@@ -48,6 +48,9 @@ module _ {D N O U : Type 0} (d : disk.Ghosts D) (e : net.Ghosts N) (o : oracle.G
     pub all : Shuffled by_handler by_sender out.puts
     pub handler_puts : WerePut g.nodes (e.put_between t.net t2.net) by_handler
     pub sender_puts : WerePut g.nodes (e.put_between s.net s2.net) by_sender
+    -- the handler put acknowledgements, and the externaliser mail
+    pub handler_acks : AreOf IsAnswer by_handler
+    pub sender_mails : AreOf IsMail by_sender
     pub emissions : (part_of s2.worker).emissions ≡ (part_of s.worker).emissions ++ emissions_by v out.outs
     pub took : u.took s2.outlet ≡ also_took out.outs (u.took s.outlet)
     pub refusals : Refuses u (part_of s.worker).refusals s.outlet (part_of s2.worker).refusals s2.outlet

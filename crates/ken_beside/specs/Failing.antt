@@ -25,7 +25,7 @@ use Rattle.ken_weave.specs.Workers.{Steps}
 use Rattle.ken_beside.specs.Beside.{RanBeside}
 use Rattle.ken_beside.specs.Calm.{IsCalm}
 use Rattle.ken_beside.specs.On.{IsOn}
-use Rattle.ken_beside.specs.Puts.{WerePut}
+use Rattle.ken_beside.specs.Puts.{AreOf, IsAnswer, WerePut}
 use Rattle.ken_beside.specs.Seats.{Handling, Sending}
 use Rattle.ken_beside.specs.Steps.{HandlerStep, PatcherCall, SenderCall, TurnsOnce}
 
@@ -49,6 +49,7 @@ module _ {D N O U : Type 0} (d : disk.Ghosts D) (e : net.Ghosts N) (o : oracle.G
     pub calm : AllByRecursion IsCalm events
     pub turns : after.turning.turns ≡ ran.after.turning.turns
     pub puts : WerePut g.nodes (e.put_between t2.net t3.net) out.puts
+    pub acks : AreOf IsAnswer out.puts
     pub outs : out.outs ≡ []
     -- the two runs, as one over all that was given
     pub all_run : NodeRun g (Contains (packets_from g.nodes ((ran.handler_gave ++ gave) ++ ran.sender_gave))) v n (ran.events ++ events) (one_after_other ran.out out) after

@@ -1,6 +1,6 @@
 -- What two workers put side by side.
 use Rattle.std.specs.Prelude.{ℕ, List, [], ◌∷◌, map}
-use Rattle.std.specs.List.{Contains}
+use Rattle.std.specs.List.{AllByRecursion, Contains}
 use Rattle.ken_model.specs.declared.messages.Message.{Message}
 use Rattle.ken_packet.specs.Packets.{ack_bytes}
 use Rattle.ken_net.specs.Puts.{Put, handing}
@@ -15,6 +15,19 @@ pub data Shuffled {A : Type 0} : List A → List A → List A → Type 0 where
   none : Shuffled [] [] []
   first : {x : A} {xs ys all : List A} → Shuffled xs ys all → Shuffled (x ∷ xs) ys (x ∷ all)
   second : {y : A} {xs ys all : List A} → Shuffled xs ys all → Shuffled xs (y ∷ ys) (y ∷ all)
+
+-- a packet is mail, or an acknowledgement
+abbrev pub IsMail : Packet → Type 0
+IsMail (Mail m) = Unit {0}
+IsMail (Answer a) = ⊥
+
+abbrev pub IsAnswer : Packet → Type 0
+IsAnswer (Mail m) = ⊥
+IsAnswer (Answer a) = Unit {0}
+
+-- all puts are of one sort
+abbrev pub AreOf : (Packet → Type 0) → List core.Put → Type 0
+AreOf sort ps = AllByRecursion (λ (p : core.Put). sort p.packet) ps
 
 -- a packet as it is put on a network: it alone is handed in
 abbrev pub put_of : Packet → Put
