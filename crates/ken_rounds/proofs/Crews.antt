@@ -29,6 +29,7 @@ use Rattle.ken_beside.specs.Accounts.{Refuses}
 use Rattle.ken_beside.specs.Failing.{IsInDoubt}
 use Rattle.ken_beside.specs.Meetings.{HaveEmptied, IsDownAfter, IsUpAfter}
 use Rattle.ken_beside.specs.On.{IsOn}
+use Rattle.ken_beside.specs.Puts.{IsAnswer}
 use Rattle.ken_beside.specs.Seats.{Handling, Sending}
 use Rattle.ken_beside.proofs.Accounts.{has-sent}
 use Rattle.ken_beside.proofs.Calm.{calm-append}
@@ -36,6 +37,7 @@ use Rattle.ken_beside.proofs.Disks.{fault-fell, steps-unfailed}
 use Rattle.ken_beside.proofs.HandedIn.{shuffled_are_among}
 use Rattle.ken_beside.proofs.Lists.{shuffled-first}
 use Rattle.ken_beside.proofs.Meetings.{failure_and_meeting, steps_and_meeting}
+use Rattle.ken_beside.proofs.Sorts.{of-then}
 use Rattle.ken_beside.proofs.Spelled.{put-then}
 use Rattle.ken_beside.proofs.Taken.{packets-left, packets-right}
 use Rattle.ken_threads.specs.declared.crew.Crew.{Crew}
@@ -111,8 +113,10 @@ module _ {D N O U : Type 0} (d : disk.Ghosts D) (e : net.Ghosts N) (o : oracle.G
           calm = ran.calm;
           by_handler = ran.by_handler;
           handler_puts = ran.handler_puts;
+          handler_acks = ran.handler_acks;
           by_sender = ran.by_sender;
           sender_puts = ran.sender_puts;
+          sender_mails = ran.sender_mails;
           among = shuffled_are_among ran.by_handler ran.by_sender ran.out.puts ran.all;
           emissions = up-after.accounts.emissions ∙ ran.emissions;
           took = ran.took;
@@ -173,8 +177,10 @@ module _ {D N O U : Type 0} (d : disk.Ghosts D) (e : net.Ghosts N) (o : oracle.G
           handler_puts =
               put-then g.nodes (e.put_between acks turned.mid.net) (e.put_between turned.mid.net acks2) (e.put_between acks acks2) ran.by_handler f.out.puts
               (λ xs ys one two. put_joins acks turned.mid.net acks2 xs ys one two) ran.handler_puts f.puts;
+          handler_acks = of-then IsAnswer ran.by_handler f.out.puts ran.handler_acks f.acks;
           by_sender = ran.by_sender;
           sender_puts = ran.sender_puts;
+          sender_mails = ran.sender_mails;
           among =
               shuffled_are_among (ran.by_handler ++ f.out.puts) ran.by_sender (ran.out.puts ++ f.out.puts)
               (shuffled-first ran.by_handler ran.by_sender ran.out.puts f.out.puts ran.all);

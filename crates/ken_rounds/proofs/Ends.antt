@@ -18,6 +18,7 @@ use Rattle.ken_run.specs.declared.faults.RunFault.TheVariants as run_faults
 use Rattle.ken_run.specs.declared.run.Run.{Run}
 use Rattle.ken_run.specs.declared.station.Station.{Station}
 use Rattle.ken_run.specs.Accounts.{AreAccounted, Terms}
+use Rattle.ken_run.specs.Patched.{AddStates}
 use Rattle.ken_run.specs.Refusals.{AreRefused, IsUsedUpOf, IsWornOut, RefusedRunBy}
 use Rattle.ken_run.specs.Running.{IsRunning}
 use Rattle.ken_wire.specs.declared.wire_net.WireNet.{WireNet}
@@ -110,6 +111,12 @@ module _ {D R O U A : Type 0} {b : base.Ghosts (WireNet R)} (d : disk.Ghosts D) 
       let rd = rounded a.made in
       round.all-served w e o u handles rd.wires g made r running whole crews crews2 tallies now faults c0 t0 s0 lent rd come a.had last (a.raised.0 ∙ now-count a.made a.had) most r2 same restarts stations (leaves (Ok x) a) (all-on a.made a.had x a)
   serves (Err fault) a = tt
+
+  pub adds : (result : Result (Unit {0}) RunFault) → AnswersBy d o most ran faults result now last → AddStates w.told 16 r result r2
+  adds (Ok x) a =
+      let rd = rounded a.made in
+      round.all-added w e o u handles rd.wires g made r running whole crews crews2 tallies now faults c0 t0 s0 lent rd come a.had last (a.raised.0 ∙ now-count a.made a.had) most r2 same restarts stations (all-on a.made a.had x a)
+  adds (Err fault) a = tt
 
   pub grows : (result : Result (Unit {0}) RunFault) → AnswersBy d o most ran faults result now last → GrowsRounds 1 r result r2
   grows (Ok x) a =

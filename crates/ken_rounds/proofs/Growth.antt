@@ -2,7 +2,7 @@
 use Rattle.std.proofs.Common.{◌≡◌, ◌∙◌, ℕ, ◌+◌, ◌-◌, ◌<◌, ◌≤◌, ◌==◌, if◌then◌else◌, List, [], ◌∷◌, ◌++◌, length, Contains, Some, Err, slice_get, slice_set, refl, sym, ap, subst, arith, append-nil, length-append}
 use Rattle.std.specs.List.{All}
 use Rattle.std.proofs.lemmas.Grind.{flat_map-append}
-use Rattle.std.proofs.lemmas.List.Elements.{All-append, All-contains_itself, All-nil, All-weaker}
+use Rattle.std.proofs.lemmas.List.Elements.{All-append, All-contains, All-contains_itself, All-from_recursion, All-nil, All-weaker}
 use Rattle.std.proofs.lemmas.List.Sums.{sum_by-append}
 use Rattle.ken_model.specs.declared.messages.Message.{Message}
 use Rattle.ken_model.specs.Game.{Game}
@@ -28,7 +28,7 @@ use Rattle.ken_run.specs.declared.faults.RunFault.TheVariants as run_faults
 use Rattle.ken_run.specs.declared.run.Run.{Run}
 use Rattle.ken_run.specs.declared.station.Station.{Station}
 use Rattle.ken_run.proofs.Lifted.{after-length}
-use Rattle.ken_beside.specs.Puts.{puts_of}
+use Rattle.ken_beside.specs.Puts.{AreOf, IsAnswer, IsMail, puts_of}
 use Rattle.ken_rounds.specs.Growth.{GoOn, GrowsByFew, GrowsRounds, HasGrown, HaveGrown, IsOwn, IsOwnPut}
 use Rattle.ken_rounds.proofs.Puts.{spelled-by}
 
@@ -66,27 +66,27 @@ own-later v turns turns2 (Answer a) front own = record {
       omega (arith, most, parts, ap (consumed_from a.to) front.1);
 }
 
-put-later : (nodes v : ℕ) (turns turns2 : List Effects) → IsPrefixOf turns turns2 → (p : Put) → IsOwnPut nodes v turns p → IsOwnPut nodes v turns2 p
-put-later nodes v turns turns2 front p is = record { packet = is.packet; spelled = is.spelled; to = is.to; own = own-later v turns turns2 is.packet front is.own }
+put-later : (sort : Packet → Type 0) (nodes v : ℕ) (turns turns2 : List Effects) → IsPrefixOf turns turns2 → (p : Put) → IsOwnPut sort nodes v turns p → IsOwnPut sort nodes v turns2 p
+put-later sort nodes v turns turns2 front p put = record { packet = put.packet; spelled = put.spelled; is = put.is; to = put.to; own = own-later v turns turns2 put.packet front put.own }
 
 puts-then : (ps qs : List Put) (links : List Standing) → after_puts (ps ++ qs) links ≡ after_puts qs (after_puts ps links)
 puts-then [] qs links = refl
 puts-then (p ∷ ps) qs links = puts-then ps qs (slice_set links p.to (after_put p (link_to p.to links)))
 
-go-on-none : (turns : List Effects) (l : Leaving) → GoOn turns l l
-go-on-none turns l = record { puts = []; own = All-nil (IsOwnPut (length l.links) l.from turns); after = refl }
+go-on-none : (sort : Packet → Type 0) (turns : List Effects) (l : Leaving) → GoOn sort turns l l
+go-on-none sort turns l = record { puts = []; own = All-nil (IsOwnPut sort (length l.links) l.from turns); after = refl }
 
-go-on-then : (turns turns2 : List Effects) (a b c : Leaving) → IsPrefixOf turns turns2 → GoOn turns a b → GoOn turns2 b c → GoOn turns2 a c
-go-on-then turns turns2 a b c front one two =
+go-on-then : (sort : Packet → Type 0) (turns turns2 : List Effects) (a b c : Leaving) → IsPrefixOf turns turns2 → GoOn sort turns a b → GoOn sort turns2 b c → GoOn sort turns2 a c
+go-on-then sort turns turns2 a b c front one two =
     let from : b.from ≡ a.from = ap (λ (l : Leaving). l.from) one.after in
     let width : length b.links ≡ length a.links = ap (λ (l : Leaving). length l.links) one.after ∙ after-length one.puts a.links in
-    let first : All (IsOwnPut (length a.links) a.from turns2) one.puts =
-    All-weaker (IsOwnPut (length a.links) a.from turns) (IsOwnPut (length a.links) a.from turns2) (put-later (length a.links) a.from turns turns2 front) one.puts one.own in
-    let last : All (IsOwnPut (length a.links) a.from turns2) two.puts =
-    subst (λ (k : ℕ). All (IsOwnPut k a.from turns2) two.puts) width (subst (λ (v : ℕ). All (IsOwnPut (length b.links) v turns2) two.puts) from two.own) in
+    let first : All (IsOwnPut sort (length a.links) a.from turns2) one.puts =
+    All-weaker (IsOwnPut sort (length a.links) a.from turns) (IsOwnPut sort (length a.links) a.from turns2) (put-later sort (length a.links) a.from turns turns2 front) one.puts one.own in
+    let last : All (IsOwnPut sort (length a.links) a.from turns2) two.puts =
+    subst (λ (k : ℕ). All (IsOwnPut sort k a.from turns2) two.puts) width (subst (λ (v : ℕ). All (IsOwnPut sort (length b.links) v turns2) two.puts) from two.own) in
     record {
       puts = one.puts ++ two.puts;
-      own = All-append (IsOwnPut (length a.links) a.from turns2) one.puts two.puts first last;
+      own = All-append (IsOwnPut sort (length a.links) a.from turns2) one.puts two.puts first last;
       after =
           two.after ∙ ap (λ (l : Leaving). record l { links = after_puts two.puts l.links }) one.after
           ∙ ap (λ (ls : List Standing). record a { links = ls }) (sym (puts-then one.puts two.puts a.links));
@@ -113,21 +113,29 @@ module _ (g : Game) (given : Packet → Type 0) (v : ℕ) (ts : List Turn) (n : 
       let by = run_puts_true g given v ts n events out m run (Answer a) keeps put in
       record { from = by.from; most = let most = by.most in omega (arith, most, ap (consumed_from a.to) turns-made ∙ consumed-sealed a.to v made) }
 
-  own-puts : (by : List core.Put) → AreSpelled g.nodes (puts_of by) by → ((packet : Packet) → IsPut packet by → IsPut packet out.puts) → All (IsOwnPut g.nodes v turns) (puts_of by)
-  own-puts by spelled among =
-      All-weaker (Contains (puts_of by)) (IsOwnPut g.nodes v turns)
+  own-puts : (sort : Packet → Type 0) (by : List core.Put) → AreOf sort by → AreSpelled g.nodes (puts_of by) by → ((packet : Packet) → IsPut packet by → IsPut packet out.puts)
+      → All (IsOwnPut sort g.nodes v turns) (puts_of by)
+  own-puts sort by of_sort spelled among =
+      let sorts : All (λ (q : core.Put). sort q.packet) by = All-from_recursion (λ (q : core.Put). sort q.packet) by of_sort in
+      All-weaker (Contains (puts_of by)) (IsOwnPut sort g.nodes v turns)
       (λ p there.
       let s = spelled-by g.nodes (puts_of by) by p spelled there in
-      let one : IsOwnPut g.nodes v turns p = record { packet = s.put.packet; spelled = s.spells.packet; to = s.spells.to; own = own-packet s.put.packet (among s.put.packet (record { put = s.put; one = s.one; is = refl })) } in one)
+      let one : IsOwnPut sort g.nodes v turns p = record {
+        packet = s.put.packet;
+        spelled = s.spells.packet;
+        is = All-contains (λ (q : core.Put). sort q.packet) by s.put sorts s.one;
+        to = s.spells.to;
+        own = own-packet s.put.packet (among s.put.packet (record { put = s.put; one = s.one; is = refl }));
+      } in one)
       (puts_of by) (All-contains_itself (puts_of by))
 
-  pub go-on : (links links2 : Leaving) (by : List core.Put) → links.from ≡ v → length links.links ≡ g.nodes → AreSpelled g.nodes (puts_of by) by → ((packet : Packet) → IsPut packet by → IsPut packet out.puts)
-      → links2 ≡ record links { links = after_puts (puts_of by) links.links } → GoOn turns links links2
-  go-on links links2 by from width spelled among after = record {
+  pub go-on : (sort : Packet → Type 0) (links links2 : Leaving) (by : List core.Put) → AreOf sort by → links.from ≡ v → length links.links ≡ g.nodes → AreSpelled g.nodes (puts_of by) by → ((packet : Packet) → IsPut packet by → IsPut packet out.puts)
+      → links2 ≡ record links { links = after_puts (puts_of by) links.links } → GoOn sort turns links links2
+  go-on sort links links2 by of_sort from width spelled among after = record {
     puts = puts_of by;
     own =
-        subst (λ (k : ℕ). All (IsOwnPut k links.from turns) (puts_of by)) (sym width)
-        (subst (λ (u : ℕ). All (IsOwnPut g.nodes u turns) (puts_of by)) (sym from) (own-puts by spelled among));
+        subst (λ (k : ℕ). All (IsOwnPut sort k links.from turns) (puts_of by)) (sym width)
+        (subst (λ (u : ℕ). All (IsOwnPut sort g.nodes u turns) (puts_of by)) (sym from) (own-puts sort by of_sort spelled among));
     after = after;
   }
 
@@ -138,8 +146,8 @@ module _ {D O U : Type 0} where
   grown-none a = record {
     turns = front_same _;
     lines = record { front = front_same _; few = omega arith };
-    mail = go-on-none (turns_in a.node.stage) a.mail;
-    acks = go-on-none (turns_in a.node.stage) a.acks;
+    mail = go-on-none IsMail (turns_in a.node.stage) a.mail;
+    acks = go-on-none IsAnswer (turns_in a.node.stage) a.acks;
   }
 
   pub grown-then : (rounds : ℕ) (a b c : Station D O U) → HasGrown rounds a b → HasGrown 1 b c → HasGrown (rounds + 1) a c
@@ -149,8 +157,8 @@ module _ {D O U : Type 0} where
       front = front_then _ _ _ one.lines.front two.lines.front;
       few = let first = one.lines.few in let second = two.lines.few in omega (arith, first, second);
     };
-    mail = go-on-then (turns_in b.node.stage) (turns_in c.node.stage) a.mail b.mail c.mail two.turns one.mail two.mail;
-    acks = go-on-then (turns_in b.node.stage) (turns_in c.node.stage) a.acks b.acks c.acks two.turns one.acks two.acks;
+    mail = go-on-then IsMail (turns_in b.node.stage) (turns_in c.node.stage) a.mail b.mail c.mail two.turns one.mail two.mail;
+    acks = go-on-then IsAnswer (turns_in b.node.stage) (turns_in c.node.stage) a.acks b.acks c.acks two.turns one.acks two.acks;
   }
 
   pub grown-more : (some many : ℕ) (a b : Station D O U) → some ≤ many → HasGrown some a b → HasGrown many a b

@@ -15,6 +15,7 @@ mod Refused
 mod Risen
 mod Round
 mod Served
+mod States
 mod Steps
 mod Taken
 mod Turns

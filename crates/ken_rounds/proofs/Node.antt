@@ -33,7 +33,7 @@ use Rattle.ken_wire.specs.Ends.{heard_of, refused_by}
 use Rattle.ken_wire.specs.Nets.{consumed_to, EndsGrew, Grew, sealed_to}
 use Rattle.ken_wire.specs.Views.{nothing}
 use Rattle.ken_wire.proofs.Came.{handed}
-use Rattle.ken_beside.specs.Puts.{AreAmong, puts_of}
+use Rattle.ken_beside.specs.Puts.{AreAmong, AreOf, IsAnswer, IsMail, puts_of}
 use Rattle.ken_threads.specs.declared.crew.Crew.{Crew}
 use Rattle.ken_threads.specs.declared.crew.Faults.{Faults}
 use Rattle.ken_threads.specs.Rounds.{AreOver, AreWires}
@@ -94,6 +94,8 @@ module _ {R D O U : Type 0} {b : base.Ghosts (WireNet R)} (d : disk.Ghosts (Watc
     pub among : AreAmong by_handler by_sender out.puts
     pub handler_spelled : AreSpelled g.nodes (puts_of by_handler) by_handler
     pub sender_spelled : AreSpelled g.nodes (puts_of by_sender) by_sender
+    pub handler_acks : AreOf IsAnswer by_handler
+    pub sender_mails : AreOf IsMail by_sender
     pub mail : new.mail ≡ after by_sender old.mail
     pub acks : new.acks ≡ after by_handler old.acks
     pub emissions : emissions_in new.node.stage ≡ emissions_in old.node.stage ++ emissions_by v out.outs
@@ -125,6 +127,8 @@ module _ {R D O U : Type 0} {b : base.Ghosts (WireNet R)} (d : disk.Ghosts (Watc
     among = played.among;
     handler_spelled = played.handler_puts.spelled;
     sender_spelled = played.sender_puts.spelled;
+    handler_acks = played.handler_acks;
+    sender_mails = played.sender_mails;
     mail = links-after a.mail c.mail mail mail2 played.by_sender (over.mail_links.0 ∙ sym manned.mail) (over.mail_links.1 ∙ sym back.mail) played.sender_puts.were_put;
     acks = links-after a.acks c.acks acks acks2 played.by_handler (over.acks_links.0 ∙ sym manned.acks) (over.acks_links.1 ∙ sym back.acks) played.handler_puts.were_put;
     emissions = ap emissions_in back.stage ∙ played.emissions ∙ ap (λ es. es ++ emissions_by v played.out.outs) (sym (ap emissions_in manned.stage));

@@ -115,6 +115,8 @@ module _ {R D O U : Type 0} {b : base.Ghosts (WireNet R)} (d : disk.Ghosts (Watc
           among = node.among;
           handler_spelled = node.handler_spelled;
           sender_spelled = node.sender_spelled;
+          handler_acks = node.handler_acks;
+          sender_mails = node.sender_mails;
           mail = ap (λ (x : Station D O U). x.mail) raised.rest ∙ node.mail;
           acks = ap (λ (x : Station D O U). x.acks) raised.rest ∙ node.acks;
           emissions = raised.emissions ∙ node.emissions;

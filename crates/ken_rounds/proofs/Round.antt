@@ -1,7 +1,7 @@
 -- A round of a run: what it makes of all nodes, and what becomes of them by their faults.
-use Rattle.std.proofs.Common.{◌≡◌, ◌≢◌, ◌∙◌, ℕ, ◌*◌, ◌<◌, ◌≤◌, ◌⊎◌, List, [], ◌++◌, length, Contains, Bool, true, false, ◌||◌, Option, Some, None, Err, inl, inr, ⊎_elim, slice_index_or, refl, sym, ap, subst, arith}
+use Rattle.std.proofs.Common.{◌≡◌, ◌≢◌, ◌∙◌, ℕ, ◌+◌, ◌*◌, ◌<◌, ◌≤◌, ◌⊎◌, List, [], ◌++◌, length, Contains, Bool, true, false, ◌||◌, Option, Some, None, Err, inl, inr, ⊎_elim, slice_index_or, refl, sym, ap, subst, arith}
 use Rattle.std.proofs.lemmas.Bool.{cases_lt}
-use Rattle.std.proofs.lemmas.List.{get_or_default}
+use Rattle.std.proofs.lemmas.List.{get_or_default, length_push}
 use Rattle.std.proofs.lemmas.List.Elements.{All-contains, All-contains_itself, All-weaker}
 use Rattle.ken_disk.specs.declared.disk.Disk as disk
 use Rattle.ken_app.specs.declared.oracle.Oracle as oracle
@@ -25,12 +25,13 @@ use Rattle.ken_node.specs.declared.stage.Stage.TheVariants.{Created}
 use Rattle.ken_node.specs.declared.watched.Watched.{Watched}
 use Rattle.ken_node.specs.Down.{MayRestart}
 use Rattle.ken_node.specs.NodeCalls.{AreSpelled}
-use Rattle.ken_node.specs.Stages.{emissions_in, turns_in}
+use Rattle.ken_node.specs.Stages.{emissions_in, image_told, turns_in}
 use Rattle.ken_node.specs.Up.{IsUp}
 use Rattle.ken_run.specs.declared.run.Run.{Run}
 use Rattle.ken_run.specs.declared.station.Station.{Station}
 use Rattle.ken_run.specs.Accounts.{AreAccounted, IsAccounted, IsHeld, Terms}
 use Rattle.ken_run.specs.Counts.{KeepCounts}
+use Rattle.ken_run.specs.Patched.{AddsStates, AllAdd}
 use Rattle.ken_run.specs.Refusals.{AreRefused, HasFailedLast, IsRefused, IsWornOut}
 use Rattle.ken_run.specs.Running.{IsRunning}
 use Rattle.ken_run.proofs.AccountsCalls.{HasSome}
@@ -38,7 +39,7 @@ use Rattle.ken_run.proofs.Counts.{counts-then}
 use Rattle.ken_run.proofs.Lifted.{after-length}
 use Rattle.ken_wire.specs.declared.wire_net.WireNet.{WireNet}
 use Rattle.ken_beside.specs.On.{IsOn}
-use Rattle.ken_beside.specs.Puts.{puts_of}
+use Rattle.ken_beside.specs.Puts.{AreOf, IsAnswer, IsMail, puts_of}
 use Rattle.ken_beside.proofs.On.{up_is_on}
 use Rattle.ken_threads.specs.declared.crew.Crew.{Crew}
 use Rattle.ken_threads.specs.declared.crew.Faults.{Faults}
@@ -64,6 +65,7 @@ use Rattle.ken_rounds.proofs.Node.{HasGoneDown, node-is, state-is}
 use Rattle.ken_rounds.proofs.Raised.{NodePlayed, NodeThen, RaisedAs, not-looked-at, or-either, WentOn, went-on, WentOut, went-out, accounted-on, kept-not-looked-at, kept-out, lines-grow, refused-on, refused-out, refused-same, turns-go-on, turns-then}
 use Rattle.ken_rounds.proofs.Refused.{refused, worn_out}
 use Rattle.ken_rounds.proofs.Served.{has-made, HasMade, meets-quota}
+use Rattle.ken_rounds.proofs.States.{Adds, crew-adds}
 use Rattle.ken_rounds.proofs.Turns.{handler-makes}
 
 -- what faults come to that isn't want of memory comes of none
@@ -77,6 +79,10 @@ no-memory f (Some (Damaged disk place)) other is = absurd is
 first-false : (x y : Bool) → (x || y) ≡ false → x ≡ false
 first-false false y is = refl
 first-false true y is = let no : true ≡ false = is in absurd cc
+
+second-false : (x y : Bool) → (x || y) ≡ false → y ≡ false
+second-false false y is = is
+second-false true y is = let no : true ≡ false = is in absurd cc
 
 module _ {R D O U A : Type 0} {b : base.Ghosts (WireNet R)} (d : disk.Ghosts (Watched D)) (e : net.Ghosts (Lossy (WireNet R) b)) (o : oracle.Ghosts O) (u : outlet.Ghosts U) (handles : A → Handler) (wires : AreWires e)
     (g : Game) (made : ℕ) (r : Run D O U A) (running : IsRunning d.told d.size u.took handles g made r) (whole : made ≡ g.nodes)
@@ -169,6 +175,16 @@ module _ {R D O U A : Type 0} {b : base.Ghosts (WireNet R)} (d : disk.Ghosts (Wa
         (first-false (is_disk faults.handler) (is_disk faults.patcher) none_fell) (rounded.ran v c0 in-crews).handler on.whole.workers.working in
         let made = has-made d g.handler 16 (crew v).turns (crew2 v).turns has-come.turns (crew v).patches (crew2 v).patches has-come.patches (crew v).sends (crew2 v).sends has-come.sends makes (has-come.met not-memory) in
         subst (λ stage. HasMade 16 stage (is v).node.stage) (sym manned.stage) (subst (HasMade 16 (Created (crew v).turns (crew v).patches (crew v).sends)) (sym back.stage) made)
+
+    -- and its patcher made all its calls
+    pub added-states : has_fallen (crew2 v).faults ≡ false → Adds 16 (image_told d.told (was v).node.stage) (image_told d.told (is v).node.stage)
+    added-states none_fell =
+        let faults : Faults = (crew2 v).faults in
+        let adds =
+        crew-adds d (crew v).turns (crew2 v).turns has-come.turns (crew v).patches (crew2 v).patches has-come.patches (crew v).sends (crew2 v).sends has-come.sends faults.patcher
+        (no-memory faults (fault v) not-memory come-to).patcher (second-false (is_disk faults.handler) (is_disk faults.patcher) none_fell) (rounded.ran v c0 in-crews).patcher on.whole.pages.apart.patches.takes (has-come.met not-memory) in
+        subst (λ stage. Adds 16 (image_told d.told stage) (image_told d.told (is v).node.stage)) (sym manned.stage)
+        (subst (λ stage. Adds 16 (image_told d.told (Created (crew v).turns (crew v).patches (crew v).sends)) (image_told d.told stage)) (sym back.stage) adds)
 
     -- what the round made of its disks' counts of faults
     has-disks : HasSome (is v).node.stage
@@ -357,8 +373,8 @@ module _ {R D O U A : Type 0} {b : base.Ghosts (WireNet R)} (d : disk.Ghosts (Wa
 
       -- ---- what the round added to them
 
-      goes-on-by : (v : ℕ) (low : v < made) → Became v → (links links2 : Leaving) (by : List core.Put) → links.from ≡ v → length links.links ≡ g.nodes → AreSpelled g.nodes (puts_of by) by
-          → ((packet : Packet) → IsPut packet by → IsPut packet (node-played v low).out.puts) → links2 ≡ record links { links = after_puts (puts_of by) links.links } → GoOn (turns_in (then v).node.stage) links links2
+      goes-on-by : (v : ℕ) (low : v < made) → Became v → (sort : Packet → Type 0) (links links2 : Leaving) (by : List core.Put) → AreOf sort by → links.from ≡ v → length links.links ≡ g.nodes → AreSpelled g.nodes (puts_of by) by
+          → ((packet : Packet) → IsPut packet by → IsPut packet (node-played v low).out.puts) → links2 ≡ record links { links = after_puts (puts_of by) links.links } → GoOn sort (turns_in (then v).node.stage) links links2
       goes-on-by v low became =
           let played = node-played v low in
           let t = then-either v low became in
@@ -376,8 +392,8 @@ module _ {R D O U A : Type 0} {b : base.Ghosts (WireNet R)} (d : disk.Ghosts (Wa
           record {
             turns = turns-go-on d o u g v (running.nodes v) (rounded.acks2 v) (rounded.mail2 v) (crew2 v).faults (fault v) (come-to v low) (was v) (is v) (then v) played (up-before v low) t;
             lines = subst (λ (ls : List ℕ). GrowsByFew 1 ls (then v).lines.items) (ap (λ x. x.items) (back v low).lines) lines;
-            mail = goes-on-by v low became (was v).mail (then v).mail played.by_sender links.mail.from links.mail.to_each t.node.sender_spelled t.node.among.right t.node.mail;
-            acks = goes-on-by v low became (was v).acks (then v).acks played.by_handler links.acks.from links.acks.to_each t.node.handler_spelled t.node.among.left t.node.acks;
+            mail = goes-on-by v low became IsMail (was v).mail (then v).mail played.by_sender t.node.sender_mails links.mail.from links.mail.to_each t.node.sender_spelled t.node.among.right t.node.mail;
+            acks = goes-on-by v low became IsAnswer (was v).acks (then v).acks played.by_handler t.node.handler_acks links.acks.from links.acks.to_each t.node.handler_spelled t.node.among.left t.node.acks;
           }
 
       pub all-grown : ((v : ℕ) → v < made → Became v) → HaveGrown 1 r r2
@@ -427,6 +443,34 @@ module _ {R D O U A : Type 0} {b : base.Ghosts (WireNet R)} (d : disk.Ghosts (Wa
           let is_up : IsUp d.told d.size g v (now.nodes v) (then v).node.stage = subst (λ (s : Station D O U). IsUp d.told d.size g v (now.nodes v) s.node.stage) here (now.up v other low) in
           let one = served v low (λ old made_it. meets-quota d.told d.size g now.nodes now.emissions now.stands.limits now.stands.accord v 16 old (then v).node.stage is_up made_it) (all v low) in
           subst (λ (s : Station D O U). IsServed d.faults g (16 * 1) s (slice_index_or r2.stations.items v other)) (sym there) (subst (IsServed d.faults g (16 * 1) (was v)) (sym here) one)
+
+      -- ---- the stories of their images
+
+      added : (v : ℕ) (low : v < made) → WentOn d o most (fault v) (is v) (then v) → AddsStates d.told 16 (was v) (then v)
+      added v low (inl (none, alike)) =
+          let stood = (let so = subst (ComeTo (crew2 v).faults) none (come-to v low) in so.1) in
+          let kept = ap (λ (s : Station D O U). length s.lines.items) alike in
+          let same = ap (λ x. length x.items) (back v low).lines in
+          record {
+            lines = omega (arith, kept, same);
+            states = λ also. subst (λ (s : Station D O U). Adds 16 (image_told d.told (was v).node.stage) (image_told d.told s.node.stage)) (sym alike) (added-states v low stood);
+          }
+      added v low (inr (disk, raised)) =
+          let fallen = (let so = subst (ComeTo (crew2 v).faults) disk (come-to v low) in so.1) in
+          let went = (node-played v low).state.down fallen in
+          let answered = raised.back g v went.last (node-played v low).after_it went.doubt went.down in
+          let more : length (then v).lines.items ≡ length (is v).lines.items + 1 = ap length answered.1.1 ∙ length_push (is v).lines.items answered.0 in
+          let same = ap (λ x. length x.items) (back v low).lines in
+          record { lines = omega (arith, more, same); states = λ also. absurd (omega (arith, also, more, same)) }
+
+      pub all-added : ((v : ℕ) → v < made → WentOn d o most (fault v) (is v) (then v)) → AllAdd d.told 16 r r2
+      all-added all = record {
+        width = let width = running.stands.width in let there = ap length stations in omega (arith, width, there, count);
+        each = λ v other known.
+            let low : v < made = (let width = running.stands.width in omega (arith, known, width)) in
+            let there : slice_index_or r.stations.items v other ≡ was v = get_or_default r.stations.items v other s0 known in
+            subst (λ (s : Station D O U). AddsStates d.told 16 s (slice_index_or r2.stations.items v other)) (sym there) (subst (AddsStates d.told 16 (was v)) (sym (at v other low)) (added v low (all v low)));
+      }
 
       -- ---- their outlets' refusals, each of which counts
 

@@ -37,7 +37,7 @@ use Rattle.ken_node.specs.Synced.{LeavesSynced}
 use Rattle.ken_node.specs.Up.{IsUp}
 use Rattle.ken_beside.specs.Accounts.{DrewEach, Refuses}
 use Rattle.ken_beside.specs.Calm.{IsCalm}
-use Rattle.ken_beside.specs.Puts.{AreAmong, WerePut}
+use Rattle.ken_beside.specs.Puts.{AreAmong, AreOf, IsAnswer, IsMail, WerePut}
 use Rattle.ken_threads.specs.declared.crew.Crew.{Crew}
 use Rattle.ken_rounds.specs.Faults.{has_fallen}
 
@@ -103,11 +103,13 @@ module _ {D N O U : Type 0} (d : disk.Ghosts D) (e : net.Ghosts N) (o : oracle.G
     pub after : Node
     pub run : NodeRun g (Contains (packets_from g.nodes (mail_gave ++ acks_gave))) v n events out after
     pub calm : AllByRecursion IsCalm events
-    -- what each of the two put
+    -- what each of the two put: acknowledgements, and mail
     pub by_handler : List core.Put
     pub handler_puts : WerePut g.nodes (e.put_between acks acks2) by_handler
+    pub handler_acks : AreOf IsAnswer by_handler
     pub by_sender : List core.Put
     pub sender_puts : WerePut g.nodes (e.put_between mail mail2) by_sender
+    pub sender_mails : AreOf IsMail by_sender
     pub among : AreAmong by_handler by_sender out.puts
     -- what it emitted, and how its outlet refused
     pub emissions : (part_of s).emissions ≡ (part_of old.sends).emissions ++ emissions_by v out.outs

@@ -12,6 +12,7 @@ use Rattle.ken_core.specs.Turns.{consumed_from, mails_to}
 use Rattle.ken_ship.specs.Laws.{packet_from}
 use Rattle.ken_node.specs.NodeCalls.{receiver}
 use Rattle.ken_node.specs.Stages.{turns_in}
+use Rattle.ken_beside.specs.Puts.{IsAnswer, IsMail}
 use Rattle.ken_run.specs.declared.faults.RunFault.{RunFault}
 use Rattle.ken_run.specs.declared.faults.RunFault.TheVariants as run_faults
 use Rattle.ken_run.specs.declared.run.Run.{Run}
@@ -37,26 +38,28 @@ abbrev pub IsOwn : ℕ → List Effects → Packet → Type 0
 IsOwn v turns (Mail m) = IsOwnMail v turns m
 IsOwn v turns (Answer a) = IsOwnAnswer v turns a
 
--- a put of node v of so many: the bytes of a packet that its turns let it put, for the node that it is for
-pub record IsOwnPut (nodes v : ℕ) (turns : List Effects) (p : Put) : Type 0 where
+-- a put of node v of so many: the bytes of a packet of this sort that its turns let it put, for the node that it is for
+pub record IsOwnPut (sort : Packet → Type 0) (nodes v : ℕ) (turns : List Effects) (p : Put) : Type 0 where
   pub packet : Packet
   pub spelled : packet_from nodes (packet_of p.bytes) ≡ packet ∷ []
+  pub is : sort packet
   pub to : p.to ≡ receiver packet
   pub own : IsOwn v turns packet
 
--- links go on: their node made puts of its own on them, and nothing else was done
-pub record GoOn (turns : List Effects) (old new : Leaving) : Type 0 where
+-- links go on: their node made puts of its own on them, all of this sort, and nothing else was done
+pub record GoOn (sort : Packet → Type 0) (turns : List Effects) (old new : Leaving) : Type 0 where
   pub puts : List Put
-  pub own : All (IsOwnPut (length old.links) old.from turns) puts
+  pub own : All (IsOwnPut sort (length old.links) old.from turns) puts
   pub after : new ≡ record old { links = after_puts puts old.links }
 
 module _ {D O U : Type 0} (rounds : ℕ) where
-  -- a node keeps its turns, and the lines of its restarts, of which each round adds one at most; and its links go on
+  -- a node keeps its turns, and the lines of its restarts, of which each round adds one at most; and its links go on, by mail
+  -- the one, and by acknowledgements the other
   pub record HasGrown (old new : Station D O U) : Type 0 where
     pub turns : IsPrefixOf (turns_in old.node.stage) (turns_in new.node.stage)
     pub lines : GrowsByFew rounds old.lines.items new.lines.items
-    pub mail : GoOn (turns_in new.node.stage) old.mail new.mail
-    pub acks : GoOn (turns_in new.node.stage) old.acks new.acks
+    pub mail : GoOn IsMail (turns_in new.node.stage) old.mail new.mail
+    pub acks : GoOn IsAnswer (turns_in new.node.stage) old.acks new.acks
 
 module _ {D O U A : Type 0} (rounds : ℕ) where
   -- so does each node of a run

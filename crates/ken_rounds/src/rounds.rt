@@ -1,6 +1,7 @@
 // Rounds of threads over the nodes of a run.
-ghost use Rattle.std.specs.Prelude.{◌≡◌, ◌≤◌, length};
+ghost use Rattle.std.specs.Prelude.{◌≡◌, ◌*◌, ◌≤◌, length};
 ghost use Rattle.ken_run.specs.Clauses.{Drains};
+ghost use Rattle.ken_run.specs.Patched.{AddStates};
 ghost use Rattle.ken_rounds.specs.Clauses.{AccountsRounds, KeepsRest, LeavesRounds, QuotaRounds, RefusesRounds, StopsRounds};
 ghost use Rattle.ken_rounds.specs.Growth.{GrowsRounds};
 ghost use Rattle.ken_rounds.specs.Heeded.{HeedsRounds};
@@ -10,6 +11,7 @@ use crate::lending::{bring_all_back, lend_all};
 use crate::raising::raise_all;
 use ken_app::{App, Oracle};
 use ken_disk::Disk;
+use ken_node::Watched;
 use ken_run::{Run, RunFault, Station};
 use ken_ship::{NodeFault, Outlet};
 use ken_threads::{Gate, round};
@@ -61,6 +63,7 @@ where
     ensures heeds { HeedsRounds U.Outlet run.old result run.new }
     ensures quota { QuotaRounds D.Disk U.Outlet A.App 1 run.old result run.new }
     ensures growth { GrowsRounds 1 run.old result run.new }
+    ensures states { AddStates ⟦<Watched<D> as Disk>⟧.told 16 run.old result run.new }
     ensures rest { KeepsRest run.old run.new }
 {
     let nodes = usize::from(run.nodes());
@@ -103,6 +106,7 @@ where
     ensures heeds { HeedsRounds U.Outlet run.old result run.new }
     ensures quota { QuotaRounds D.Disk U.Outlet A.App rounds run.old result run.new }
     ensures growth { GrowsRounds rounds run.old result run.new }
+    ensures states { AddStates ⟦<Watched<D> as Disk>⟧.told (16 * rounds) run.old result run.new }
     ensures rest { KeepsRest run.old run.new }
 {
     for _round in 0..rounds {

@@ -164,5 +164,14 @@ returns-clause-growth g c =
     (lent g c) (come g c) (rest g c) (restarts g c) (put g c) c.round-ran.result (asked.it-ran (watched_disk.ghosts g.row.D g.D.Disk g.D.Disk-dict) _ g.O.Oracle g.U.Outlet c.lend_all.new.crews.items c.round-ran.new.crews.items (g.A.App.handler c.app.result.now) c.requires.game.handler (of-game g c c.requires.game c.requires.made c.requires.running c.requires.all) c.round-ran.result c.round-ran.ensures.ok)
     c.answer_for-answer.result c.answer_for-answer.ensures
 
+pub returns-clause-states : goal.returns-clause-states
+returns-clause-states g c =
+    ends.adds g.D.Disk (watched_disk.ghosts g.row.D g.D.Disk g.D.Disk-dict) _ g.O.Oracle g.U.Outlet g.A.App.handler c.restarts.result
+    (λ result old new r. record { back = r.back; accounts = r.accounts; counts = r.counts; emissions = r.emissions; refusals = r.refusals; rest = r.rest })
+    c.requires.game c.requires.made c.args.run.now c.put_stations.new.self c.requires.running c.requires.all c.lend_all.new.crews.items c.round-ran.new.crews.items c.lend_all.new.tallies.items c.bring_all_back.new.stations.items c.answer_for-answer.new.stations.items c.as_slice.result.now
+    (some_at c.lend_all.new.crews.items 0 (crews-some g c c.requires.game c.requires.made c.requires.running c.requires.all)) (some_at c.lend_all.new.tallies.items 0 (tallies-some g c c.requires.game c.requires.made c.requires.running c.requires.all)) (some_at c.args.run.now.stations.items 0 (stations-some g c c.requires.game c.requires.made c.requires.running c.requires.all))
+    (lent g c) (come g c) (rest g c) (restarts g c) (put g c) c.round-ran.result (asked.it-ran (watched_disk.ghosts g.row.D g.D.Disk g.D.Disk-dict) _ g.O.Oracle g.U.Outlet c.lend_all.new.crews.items c.round-ran.new.crews.items (g.A.App.handler c.app.result.now) c.requires.game.handler (of-game g c c.requires.game c.requires.made c.requires.running c.requires.all) c.round-ran.result c.round-ran.ensures.ok)
+    c.answer_for-answer.result c.answer_for-answer.ensures
+
 pub returns-clause-rest : goal.returns-clause-rest
 returns-clause-rest g c = record { nodes = (rest g c).0; app = (rest g c).1; restarts = restarts g c; waiting = (rest g c).2 }

@@ -8,6 +8,7 @@ use Rattle.ken_rounds.specs.Clauses.{KeepsRest}
 use Rattle.ken_rounds.proofs.Growth.{all-grown-then, grown-more, grown-none, grows-then}
 use Rattle.ken_rounds.proofs.Heeded.{all-heeded-then, fault-heeded-then, heeded-none}
 use Rattle.ken_rounds.proofs.Served.{served-fewer, served-none, served-then}
+use Rattle.ken_rounds.proofs.States.{all-added-fewer, all-added-none, all-added-then}
 use Rattle.ken_rounds.proofs.rounds.threaded.Goals as goal
 
 rest-then : {D O U A : Type 0} {a b c : Run D O U A} → KeepsRest a b → KeepsRest b c → KeepsRest a c
@@ -20,6 +21,7 @@ loop-round-init g c = record {
   refused = λ terms game made up whole are. are;
   quota = λ game made up whole v d low. served-none (λ w. g.D.Disk.faults w.disk) game _;
   growth = λ v d low. grown-none _;
+  states = all-added-none (λ w. g.D.Disk.told w.disk) c.args.run.now;
   heeds = λ v d low. heeded-none g.U.Outlet _;
   within = omega arith;
   rest = record { nodes = refl; app = refl; restarts = refl; waiting = refl };
@@ -47,6 +49,7 @@ loop-round-preserved g c =
           served-then (λ w. g.D.Disk.faults w.disk) game c.loop-round._round _ _ _ (up-has (λ w. g.D.Disk.told w.disk) (λ w. g.D.Disk.size w.disk) game v (mid.nodes v) _ (mid.up v d low))
           (before.quota game made up whole v d low) (one.quota game made (before.leaves game made up whole) whole v d low);
       growth = all-grown-then c.args.run.now c.loop-round.run c.one_round.new.run wide c.loop-round._round before.growth one.growth;
+      states = all-added-then (λ w. g.D.Disk.told w.disk) c.loop-round._round c.args.run.now c.loop-round.run c.one_round.new.run before.states one.states;
       heeds = all-heeded-then g.U.Outlet c.args.run.now c.loop-round.run c.one_round.new.run wide before.heeds (length c.args.run.now.stations.items) (omega (arith, wide))
           (λ v d low. one.heeds v d (omega (arith, wide, low)));
       within = let more = c.loop-round-test.true in omega (arith, more);
@@ -115,6 +118,16 @@ pub returns-clause-growth : goal.returns-clause-growth
 returns-clause-growth g c = λ v d low.
     let within = c.loop-round.invariant.within in
     grown-more _ _ _ _ (omega (arith, within)) (c.loop-round.invariant.growth v d low)
+
+pub returns-in_err-one_round-clause-states : goal.returns-in_err-one_round-clause-states
+returns-in_err-one_round-clause-states g c =
+    let p = err_from_is_err_and c.from_residual.result c.from_residual.ensures.1 in
+    rw p.1 tt
+
+pub returns-clause-states : goal.returns-clause-states
+returns-clause-states g c =
+    let past = c.loop-round-test.false in
+    all-added-fewer (λ w. g.D.Disk.told w.disk) c.args.rounds c.loop-round._round c.args.run.now c.loop-round.run (omega (arith, past)) c.loop-round.invariant.states
 
 pub returns-in_err-one_round-clause-heeds : goal.returns-in_err-one_round-clause-heeds
 returns-in_err-one_round-clause-heeds g c =

@@ -1,4 +1,5 @@
-use Rattle.std.proofs.Common.{◌≤◌, length, Ok}
+use Rattle.std.proofs.Common.{◌*◌, ◌≤◌, length, Ok}
+use Rattle.ken_run.specs.Patched.{AllAdd}
 use Rattle.ken_rounds.specs.Clauses.{AccountsRounds, KeepsRest, LeavesRounds, QuotaRounds, RefusesRounds}
 use Rattle.ken_rounds.specs.Growth.{HaveGrown}
 use Rattle.ken_rounds.specs.Heeded.{AreHeededBelow}
@@ -11,6 +12,7 @@ invariant-loop-round g l = record {
   refused : RefusesRounds g.D.Disk g.U.Outlet g.A.App {T = Unit {0}} l.fn.run (Ok tt) l.run;
   quota : QuotaRounds g.D.Disk g.U.Outlet g.A.App {T = Unit {0}} l._round l.fn.run (Ok tt) l.run;
   growth : HaveGrown l._round l.fn.run l.run;
+  states : AllAdd (λ w. g.D.Disk.told w.disk) (16 * l._round) l.fn.run l.run;
   heeds : AreHeededBelow g.U.Outlet (length l.fn.run.stations.items) l.fn.run l.run;
   within : l._round ≤ l.rounds;
   rest : KeepsRest l.fn.run l.run;
