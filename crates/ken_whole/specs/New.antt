@@ -1,5 +1,5 @@
 -- Workers that made no turn, over a created store.
-use Rattle.std.specs.Prelude.{◌≡◌, ℕ, [], Option}
+use Rattle.std.specs.Prelude.{◌≡◌, ℕ, [], Option, false}
 use Rattle.ken_disk.specs.Story.{Story}
 use Rattle.ken_model.specs.Game.{Game}
 use Rattle.ken_model.specs.Handler.{Handler}
@@ -23,7 +23,8 @@ use Rattle.ken_work.specs.Workers.{Working}
 abbrev pub owner_of : Game → ℕ → Owner
 owner_of g v = record { node = v; nodes = g.nodes; pages = heap_pages g }
 
--- the workers of node v of a run that made no turn, over a store that stands: nothing was handed over, and no one was told of anything
+-- the workers of node v of a run that made no turn, over a store that stands and takes calls: nothing was handed over, and no one was
+-- told of anything
 pub record AreNew {D : Type 0} (told : D → Option Story) (size : D → ℕ) (g : Game) (v : ℕ) (t : TurnWorker D) (p : PatchWorker D) (s : SendWorker) : Type 0 where
   pub node : t.node ≡ v
   pub nodes : t.nodes ≡ g.nodes
@@ -37,6 +38,7 @@ pub record AreNew {D : Type 0} (told : D → Option Story) (size : D → ℕ) (g
   pub progress : IsNewRing s.told t.progress
   pub working : (h : Handler) → Working told size h t
   pub stands : let store : Store D = record { turns = t.side; patches = p.side } in Standing told size store (first_image_pages (first_heap (heap_pages g)))
+  pub unspent : p.side.image.spent ≡ false
   pub new : IsNew (owner_of g v) t.side
   pub value : t.side.objects.value ≡ empty_heap g.size
   pub turns : t.turns.items ≡ []
