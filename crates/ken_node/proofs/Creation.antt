@@ -22,7 +22,7 @@ use Rattle.ken_store.specs.Answers.{TellsAll, disks_in}
 use Rattle.ken_store.specs.Apart.{disks_apart}
 use Rattle.ken_store.specs.Creations.{Creates, FailsBy, IsNew, TellsStill}
 use Rattle.ken_store.specs.Numbers.{no_numbers}
-use Rattle.ken_store.specs.Standing.{Standing}
+use Rattle.ken_store.specs.Standing.{Standing, TakesCalls}
 use Rattle.ken_store.specs.Turning.{Turning}
 use Rattle.ken_order.specs.Consumed.{Consumed}
 use Rattle.ken_links.specs.declared.pop_end.PopEnd.{PopEnd}
@@ -92,9 +92,9 @@ module _ {D : Type 0} (told : D → Option Story) (size : D → ℕ) where
       }
 
   -- the workers that are made of these parts
-  new_workers : (g : Game) (v : ℕ) (x : Parts) (store : Store D) (t : TurnWorker D) (p : PatchWorker D) (s : SendWorker) → IsWithinLimits g → AreFirst g v x → AreOver x store (first_order x.nodes) t p s → Standing told size store (first_image_pages (first_heap x.size)) → store.turns.objects.begun ≡ None
+  new_workers : (g : Game) (v : ℕ) (x : Parts) (store : Store D) (t : TurnWorker D) (p : PatchWorker D) (s : SendWorker) → IsWithinLimits g → AreFirst g v x → AreOver x store (first_order x.nodes) t p s → Standing told size store (first_image_pages (first_heap x.size)) → TakesCalls told size store → store.turns.objects.begun ≡ None
       → store.turns.objects.value ≡ empty_heap (256 * x.size) → IsNew (owner_in x) store.turns → AreNew told size g v t p s
-  new_workers g v x store t p s limits is over standing idle value new =
+  new_workers g v x store t p s limits is over standing takes idle value new =
       let patches : p.side ≡ store.patches = ap (λ (w : PatchWorker D). w.side) over.patches in
       record {
         node = over.node ∙ is.node;
@@ -112,6 +112,7 @@ module _ {D : Type 0} (told : D → Option Story) (size : D → ℕ) where
             subst (λ (n : ℕ). let both : Store D = record { turns = t.side; patches = p.side } in Standing told size both (first_image_pages (first_heap n))) is.size
             (subst (λ (y : PatchSide D). let both : Store D = record { turns = t.side; patches = y } in Standing told size both (first_image_pages (first_heap x.size))) (sym patches)
             (subst (λ (y : TurnSide D). let both : Store D = record { turns = y; patches = store.patches } in Standing told size both (first_image_pages (first_heap x.size))) (sym over.side) standing));
+        unspent = ap (λ (y : PatchSide D). y.image.spent) patches ∙ takes.unspent;
         new = subst (λ (o : Owner). IsNew o t.side) (owner_is g v x is) (subst (IsNew (owner_in x)) (sym over.side) new);
         value = ap (λ (y : TurnSide D). y.objects.value) over.side ∙ value ∙ ap (λ (n : ℕ). empty_heap (256 * n)) is.size ∙ ap empty_heap (size_is g limits);
         turns = over.turns ∙ is.turns;
@@ -121,14 +122,14 @@ module _ {D : Type 0} (told : D → Option Story) (size : D → ℕ) where
 
   module _ (count : D → ℕ) (fate : D → Option Fate) where
     pub created_ok : (g : Game) (v : ℕ) (x : Parts) (old : Disks D) (store : Store D) (t : TurnWorker D) (p : PatchWorker D) (s : SendWorker) → IsWithinLimits g → AreFirst g v x → AreOver x store (first_order x.nodes) t p s
-        → Standing told size store (first_image_pages (first_heap x.size)) → store.turns.objects.begun ≡ None → store.turns.objects.value ≡ empty_heap (256 * x.size) → IsNew (owner_in x) store.turns
+        → Standing told size store (first_image_pages (first_heap x.size)) → TakesCalls told size store → store.turns.objects.begun ≡ None → store.turns.objects.value ≡ empty_heap (256 * x.size) → IsNew (owner_in x) store.turns
         → TellsAll told old (λ l i s. Tells (told (disks_in store).log) (λ l2. Tells (told (disks_in store).image) (λ i2. Creates {T = Store D} (owner_in x) (Ok store) l i s l2 i2)))
         → CallsDisks {T = Store D} told count (owner_in x) (Ok store) old (disks_in store)
         → TellsStill (told old.log) (told (disks_in store).log) × TellsStill (told old.image) (told (disks_in store).image)
         → (disks_in store).second ≡ old.second → FailsBy count fate {T = Store D} (Ok store) old (disks_in store)
         → IsCreation {T = Unit {0}} told size count fate g v (Ok tt) old (Created t p s)
-    created_ok g v x old store t p s limits is over standing idle value new creates calls tells second faults = record {
-      ok = record { turns = t; patches = p; sends = s; stage_is = refl; new = new_workers g v x store t p s limits is over standing idle value new };
+    created_ok g v x old store t p s limits is over standing takes idle value new creates calls tells second faults = record {
+      ok = record { turns = t; patches = p; sends = s; stage_is = refl; new = new_workers g v x store t p s limits is over standing takes idle value new };
       disks = disks_in store;
       has = ap (λ (y : TurnSide D). disks_apart y store.patches) (sym over.side) ∙ ap (λ (y : PatchSide D). disks_apart t.side y) (sym (ap (λ (w : PatchWorker D). w.side) over.patches));
       err = tt;

@@ -84,6 +84,7 @@ module _ {D : Type 0} (told : D → Option Story) (size count : D → ℕ) (fate
           settled = new-empty p.settled t.settled new.settled;
           progress = new-empty made.sends.told t.progress new.progress;
         };
+        unspent = new.unspent;
         tell = subst (AreTold told) at (c.tells.0 tell.0, c.tells.1 tell.1, subst (λ (y : D). IsSome (told y)) (sym c.second) tell.2);
       }
 

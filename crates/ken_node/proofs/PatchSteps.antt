@@ -79,6 +79,11 @@ module _ {D : Type 0} (told : D → Option Story) (size count : D → ℕ) (fate
   settled-told : {T : Type 0} (result : Result T StoreFault) (p p2 : PatchWorker D) → SettlesOnce told size count fate result p p2 → IsSome (told p.side.image.disk) → IsSome (told p2.side.image.disk)
   settled-told result p p2 settles some = still-told (Called (disk_answer result) (Sync ∷ [])) (told p.side.image.disk) (told p2.side.image.disk) settles.calls some
 
+  -- after Ok no call of it failed
+  patched-unspent : (more : Bool) (p p2 : PatchWorker D) → PatchesOnce told size count fate (Ok more) p p2 → p2.side.image.spent ≡ false
+  patched-unspent more p p2 (went mid takes is patches) = patches.takes.unspent
+  patched-unspent more p p2 (no_room e takes) = absurd cc
+
   -- the disks of the node are told still
   disks-told : (t : TurnWorker D) (p p2 : PatchWorker D) → (IsSome (told p.side.image.disk) → IsSome (told p2.side.image.disk)) → AreTold told (disks_apart t.side p.side) → AreTold told (disks_apart t.side p2.side)
   disks-told t p p2 goes tell = told-image told t.side.which t.side.log.disk p.side.image.disk p2.side.image.disk t.side.other goes tell
@@ -117,12 +122,12 @@ module _ {D : Type 0} (told : D → Option Story) (size count : D → ℕ) (fate
 
   module _ (g : Game) (v : ℕ) (n : Node) (t t2 : TurnWorker D) (p p1 p2 : PatchWorker D) (s s2 : SendWorker) (up : AreUp told size g v n t p s) (met : HaveMet told size t t2 p1 p2 s s2) (joined : AreJoined t2 p2 s2) (same : IsSameSender s s2) (empty : AreEmpty t2 p2 s2) where
     -- events that lead to a node for which the workers stand lead to one that is up
-    patcher-steps : (says : List Event → Type 0) → (IsSome (told p.side.image.disk) → IsSome (told p1.side.image.disk)) → LeadsTo told size g v [] says n nothing t p1 s → Steps told size g v n [] [] says nothing (Created t2 p2 s2)
-    patcher-steps says goes leads = record {
+    patcher-steps : (says : List Event → Type 0) → p1.side.image.spent ≡ false → (IsSome (told p.side.image.disk) → IsSome (told p1.side.image.disk)) → LeadsTo told size g v [] says n nothing t p1 s → Steps told size g v n [] [] says nothing (Created t2 p2 s2)
+    patcher-steps says unspent goes leads = record {
       after = leads.after;
       call = leads.call;
       spelled = tt;
-      up = met-up told size t t2 p1 p2 s s2 met g v leads.after up.limits up.known leads.whole (disks-told t p p1 goes up.tell) same joined empty;
+      up = met-up told size t t2 p1 p2 s s2 met g v leads.after up.limits up.known leads.whole unspent (disks-told t p p1 goes up.tell) same joined empty;
     }
 
     -- and, where the call failed, to one that may be restarted
@@ -153,9 +158,9 @@ module _ {D : Type 0} (told : D → Option Story) (size count : D → ℕ) (fate
 
     pub patch-steps : (result : Result Bool NodeFault) → IsFaultOfWorker result → IsSamePatcher p p1 → PatchesOnce told size count fate (store_answer result) p p1 → PatchStepsBy told size result g v n (Created t2 p2 s2)
     patch-steps (Ok true) sound still is =
-        patcher-steps (IsPatchOf v) (patched-told (Ok true) p p1 is) (patch_keeps_whole told size count fate g v n t p p1 s (Ok true) up.whole still is (met-fronts told size t t2 p1 p2 s s2 met empty))
+        patcher-steps (IsPatchOf v) (patched-unspent true p p1 is) (patched-told (Ok true) p p1 is) (patch_keeps_whole told size count fate g v n t p p1 s (Ok true) up.whole still is (met-fronts told size t t2 p1 p2 s s2 met empty))
     patch-steps (Ok false) sound still is =
-        (patcher-steps IsNone (patched-told (Ok false) p p1 is) (patch_keeps_whole told size count fate g v n t p p1 s (Ok false) up.whole still is (met-fronts told size t t2 p1 p2 s s2 met empty)), none-ahead is)
+        (patcher-steps IsNone (patched-unspent false p p1 is) (patched-told (Ok false) p p1 is) (patch_keeps_whole told size count fate g v n t p p1 s (Ok false) up.whole still is (met-fronts told size t t2 p1 p2 s s2 met empty)), none-ahead is)
     patch-steps (Err Disk) sound still is =
         let goes = patched-told (Err store.Disk) p p1 is in
         patcher-fails (IsPatchOf v) goes
@@ -165,7 +170,7 @@ module _ {D : Type 0} (told : D → Option Story) (size count : D → ℕ) (fate
     patch-steps (Err (Damaged disk place)) sound still is = sound
 
     pub settle-steps : (result : Result (Unit {0}) NodeFault) → IsFaultOfWorker result → IsSamePatcher p p1 → SettlesOnce told size count fate (store_answer result) p p1 → SettleStepsBy told size result g v n (Created t2 p2 s2)
-    settle-steps (Ok x) sound still is = patcher-steps (IsSync v) (settled-told (Ok x) p p1 is) (sync_keeps_whole told size count fate g v n t p p1 s (Ok x) up.whole still is)
+    settle-steps (Ok x) sound still is = patcher-steps (IsSync v) is.takes.unspent (settled-told (Ok x) p p1 is) (sync_keeps_whole told size count fate g v n t p p1 s (Ok x) up.whole still is)
     settle-steps (Err Disk) sound still is =
         let goes = settled-told {T = Unit {0}} (Err store.Disk) p p1 is in
         patcher-fails IsNone goes (told-so (told p1.side.image.disk) (goes (image-told t p up.tell)) (sync_keeps_whole told size count fate g v n t p p1 s (Err store.Disk) up.whole still is))

@@ -105,7 +105,7 @@ module _ {D : Type 0} (told : D → Option Story) (g : Game) (v : ℕ) (given : 
   pub state-mails : (size : D → ℕ) (store : Store D) (state : State) → IsReadyStore told size (owner_in x) store state → All (IsMailFrom x.sends.backlog.node) state.messages
   state-mails size store state ready =
       let t = store.turns in
-      let turning = ready.takes.turns in
+      let turning = ready.takes.store.turns in
       let r : AreReady g v x = d.of_node in
       let owner : t.owner.node ≡ x.node = ap (λ (o : Owner). o.node) ready.owner in
       let node : t.owner.node ≡ x.sends.backlog.node = owner ∙ r.node ∙ sym r.sender in

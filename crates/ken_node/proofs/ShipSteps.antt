@@ -188,7 +188,7 @@ module _ {D : Type 0} (told : D → Option Story) (size : D → ℕ) (g : Game) 
           after = n;
           call = event.call;
           spelled = spelled;
-          up = met-up told size t t2 p p2 s1 s2 met g v n up.limits up.known law.whole up.tell same joined empty;
+          up = met-up told size t t2 p p2 s1 s2 met g v n up.limits up.known law.whole up.unspent up.tell same joined empty;
         };
       }
 
@@ -207,7 +207,7 @@ module _ {D : Type 0} (told : D → Option Story) (size : D → ℕ) (g : Game) 
           after = law.after;
           call = law.call;
           spelled = tt;
-          up = met-up told size t t2 p p2 s1 s2 met g v law.after up.limits up.known law.whole up.tell same joined empty;
+          up = met-up told size t t2 p p2 s1 s2 met g v law.after up.limits up.known law.whole up.unspent up.tell same joined empty;
         };
   }
 
@@ -220,7 +220,7 @@ module _ {D : Type 0} (told : D → Option Story) (size : D → ℕ) (g : Game) 
       after = law.after;
       call = law.call;
       spelled = tt;
-      up = met-up told size t t2 p p2 s1 s2 met g v law.after up.limits up.known law.whole up.tell same joined empty;
+      up = met-up told size t t2 p p2 s1 s2 met g v law.after up.limits up.known law.whole up.unspent up.tell same joined empty;
     };
     emitted = ap (λ (x : Part). x.emissions) met.rest ∙ emissions;
   }
@@ -246,7 +246,7 @@ module _ {D : Type 0} (told : D → Option Story) (size : D → ℕ) (g : Game) 
           after = law.comes.after;
           call = law.comes.call;
           spelled = tt;
-          up = met-up told size t t2 p p2 s1 s2 met g v law.comes.after up.limits up.known law.comes.whole up.tell same joined empty;
+          up = met-up told size t t2 p p2 s1 s2 met g v law.comes.after up.limits up.known law.comes.whole up.unspent up.tell same joined empty;
         };
         emitted =
             ap (λ (x : Part). x.emissions) met.rest ∙ ap (λ (x : Part). x.emissions) is.1.1.2

@@ -185,7 +185,7 @@ module _ {D O N : Type 0} (told : D → Option Story) (size count : D → ℕ) (
       spelled =
           handler-spelled g (Contains (packets_from g.nodes lead.given)) v n lead.after lead.call.events lead.before lead.last t.order t1.order few-nodes up.known (order-counts told size g v n t p s up.whole) (order-counts told size g v lead.after t1 p s lead.whole)
           (subst (λ (es : List Effects). length es < 2 ^ 64) up.whole.workers.turns.kept short) (subst (λ (es : List Effects). length es < 2 ^ 64) lead.whole.workers.turns.kept short2) lead.call.run;
-      up = met-up told size t1 t2 p p2 s s2 met g v lead.after up.limits up.known lead.whole tell same joined empty;
+      up = met-up told size t1 t2 p p2 s s2 met g v lead.after up.limits up.known lead.whole up.unspent tell same joined empty;
     };
   }
 
@@ -333,7 +333,7 @@ module _ {D O N : Type 0} (told : D → Option Story) (size count : D → ℕ) (
           after = lead.after;
           call = record { events = []; run = (refl, run.1); which = refl };
           spelled = tt;
-          up = met-up told size t1 t2 p p2 s s2 met g v lead.after up.limits up.known lead.whole (tell-after Capped takes) same joined empty;
+          up = met-up told size t1 t2 p p2 s s2 met g v lead.after up.limits up.known lead.whole up.unspent (tell-after Capped takes) same joined empty;
         };
         same = run.1;
         heard = mid;

@@ -1,5 +1,5 @@
 -- A call of a node's workers, and the meeting after it.
-use Rattle.std.proofs.Common.{◌≡◌, ℕ, ◌<◌, Option, Some, None, IsSome, inl, inr, refl, sym, ap, subst, ◌∙◌}
+use Rattle.std.proofs.Common.{◌≡◌, ℕ, ◌<◌, Option, Some, None, IsSome, false, inl, inr, refl, sym, ap, subst, ◌∙◌}
 use Rattle.std.proofs.lemmas.Bool.{false≢true}
 use Rattle.ken_disk.specs.Fates.{Fate}
 use Rattle.ken_disk.specs.Story.{Story, Follows}
@@ -71,6 +71,7 @@ module _ {D : Type 0} (told : D → Option Story) (size : D → ℕ) where
     pub known : v < g.nodes
     pub whole : IsWhole told size g v n t p s
     pub empty : AreEmpty t p s
+    pub unspent : p.side.image.spent ≡ false
     pub tell : AreTold told (disks_apart t.side p.side)
 
   abbrev AreUpIn : Game → ℕ → Node → Stage D → Type 0
@@ -80,7 +81,7 @@ module _ {D : Type 0} (told : D → Option Story) (size : D → ℕ) where
 
   pub are-up : (g : Game) (v : ℕ) (n : Node) (t : TurnWorker D) (p : PatchWorker D) (s : SendWorker) → IsUp told size g v n (Created t p s) → AreUp g v n t p s
   are-up g v n t p s up =
-      subst (AreUpIn g v n) (sym up.stage_is) (record { limits = up.limits; known = up.known; whole = up.whole; empty = up.empty; tell = up.tell })
+      subst (AreUpIn g v n) (sym up.stage_is) (record { limits = up.limits; known = up.known; whole = up.whole; empty = up.empty; unspent = up.unspent; tell = up.tell })
 
   -- the handler of a stage
   abbrev handler_or : TurnWorker D → Stage D → TurnWorker D
@@ -109,9 +110,9 @@ module _ {D : Type 0} (told : D → Option Story) (size : D → ℕ) where
     met-disks = ap (λ (x : TurnSide D). disks_apart x p2.side) met-side ∙ ap (λ (i : Image D). disks_from t.side.which t.side.log.disk i.disk t.side.other) met.patches.handed.image
 
     -- the node is up still
-    pub met-up : (g : Game) (v : ℕ) (n : Node) → IsWithinLimits g → v < g.nodes → IsWhole told size g v n t p s → AreTold told (disks_apart t.side p.side)
+    pub met-up : (g : Game) (v : ℕ) (n : Node) → IsWithinLimits g → v < g.nodes → IsWhole told size g v n t p s → p.side.image.spent ≡ false → AreTold told (disks_apart t.side p.side)
         → IsSameSender s s2 → AreJoined t2 p2 s2 → AreEmpty t2 p2 s2 → IsUp told size g v n (Created t2 p2 s2)
-    met-up g v n limits known whole tell same joined empty = record {
+    met-up g v n limits known whole unspent tell same joined empty = record {
       limits = limits;
       known = known;
       handler = t2;
@@ -120,5 +121,6 @@ module _ {D : Type 0} (told : D → Option Story) (size : D → ℕ) where
       stage_is = refl;
       whole = meeting_keeps_whole told size g v n t t2 p p2 s s2 whole same joined met;
       empty = empty;
+      unspent = ap (λ (i : Image D). i.spent) met.patches.handed.image ∙ unspent;
       tell = subst (AreTold told) (sym met-disks) tell;
     }

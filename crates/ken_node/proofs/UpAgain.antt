@@ -143,7 +143,7 @@ module _ {D : Type 0} (told : D → Option Story) (size : D → ℕ) (g : Game) 
 
     not-other : left.finds.which ≡ other_log t.side.which → t.side.which ≡ other_log left.finds.which → ⊥
     not-other is back =
-        let passes = ready.takes.turns.other (log_on t.side.which l s) logs-now.0 (log_on (other_log t.side.which) l s) logs-now.1 in
+        let passes = ready.takes.store.turns.other (log_on t.side.which l s) logs-now.0 (log_on (other_log t.side.which) l s) logs-now.1 in
         let whole : mount_of (log_on (other_log t.side.which) l s).now.seen ≡ mounts.Whole k.head k.base k.records =
         ap mount_of (seen_on (other_log t.side.which) l s) ∙ ap (λ (w : Which). mount_of (log_on w l.now.seen s.now.seen)) (sym is) ∙ left.finds.mounts in
         let passed : (k.head.generation < t.side.log.header.generation) × (is_owned t.side.owner k.head ≡ true) =
@@ -173,7 +173,7 @@ module _ {D : Type 0} (told : D → Option Story) (size : D → ℕ) (g : Game) 
 
     items-are : t.side.records.items ≡ k.records
     items-are =
-        let side = ready.takes.turns.mounts (log_on t.side.which l s) logs-now.0 in
+        let side = ready.takes.store.turns.mounts (log_on t.side.which l s) logs-now.0 in
         let whole : mounts.Whole t.side.log.header t.side.log.base t.side.records.items ≡ mounts.Whole t.side.log.header t.side.log.base records = sym side ∙ ap mount_of (seen_on t.side.which l s) ∙ mounted in
         let items : t.side.records.items ≡ records = cc whole in
         items ∙ records-are
@@ -181,7 +181,7 @@ module _ {D : Type 0} (told : D → Option Story) (size : D → ℕ) (g : Game) 
     numbers-are : t.side.numbers ≡ left.tells.numbers
     numbers-are =
         let there : Ok t.side.numbers ≡ Ok left.tells.numbers =
-        sym ready.takes.turns.numbers
+        sym ready.takes.store.turns.numbers
         ∙ ap (λ (o : Owner). numbers_of o t.side.log.header t.side.log.base t.side.records.items) ready.owner
         ∙ ap (λ (h : Header). numbers_of (owner_of g v) h t.side.log.base t.side.records.items) head-is
         ∙ ap (λ (b : Option Base). numbers_of (owner_of g v) k.head b t.side.records.items) base-is
@@ -280,7 +280,7 @@ module _ {D : Type 0} (told : D → Option Story) (size : D → ℕ) (g : Game) 
 
       working : Working told size g.handler t
       working = record {
-        side = ready.takes.turns;
+        side = ready.takes.store.turns;
         idle = ready.idle;
         node = ap (λ (o : Owner). o.node) ready.owner ∙ sym go.node;
         nodes = ap (λ (o : Owner). o.nodes) ready.owner ∙ sym go.nodes;

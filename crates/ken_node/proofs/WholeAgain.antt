@@ -94,6 +94,7 @@ module _ {D : Type 0} (told : D → Option Story) (size count : D → ℕ) (fate
         stage_is = go.stage_is;
         whole = up.1.2;
         empty = go.goes.empty;
+        unspent = ap (λ (y : PatchSide D). y.image.spent) go.goes.patches ∙ ready.takes.unspent;
         tell = subst (λ (y : TurnSide D). AreTold told (disks_apart y go.patcher.side)) (sym go.goes.side) (subst (λ (y : PatchSide D). AreTold told (disks_apart store.turns y)) (sym go.goes.patches) (tells-in store same));
       }
 

@@ -1,5 +1,5 @@
 -- The restart of a node.
-use Rattle.std.specs.Prelude.{◌≡◌, ℕ, ◌⊎◌, if◌then◌else◌, List, [], length, Option, Result, Ok, Err}
+use Rattle.std.specs.Prelude.{◌≡◌, ℕ, ◌⊎◌, if◌then◌else◌, List, [], length, Option, Result, Ok, Err, false}
 use Rattle.ken_disk.specs.Fates.{Fate, Raised}
 use Rattle.ken_disk.specs.Steps.{WentDown}
 use Rattle.ken_disk.specs.Story.{Story, Follows}
@@ -69,6 +69,7 @@ pub record IsUpAgain {D : Type 0} (told : D → Option Story) (size : D → ℕ)
   pub stage_is : stage ≡ Created handler patcher sender
   pub whole : IsWhole told size g v after handler patcher sender
   pub empty : AreEmpty handler patcher sender
+  pub unspent : patcher.side.image.spent ≡ false
   pub tell : AreTold told (disks_apart handler.side patcher.side)
 
 -- the pick for a restart: the one that the lowest disk proposes which has failed since that disk's last restart that

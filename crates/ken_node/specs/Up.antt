@@ -1,5 +1,5 @@
 -- A node that is up, and takes calls.
-use Rattle.std.specs.Prelude.{◌≡◌, ℕ, ◌<◌, Option}
+use Rattle.std.specs.Prelude.{◌≡◌, ℕ, ◌<◌, Option, false}
 use Rattle.ken_disk.specs.Story.{Story}
 use Rattle.ken_model.specs.Game.{Game}
 use Rattle.ken_model.specs.Handler.{Handler}
@@ -17,7 +17,8 @@ use Rattle.ken_whole.specs.Whole.{IsWhole}
 use Rattle.ken_app.specs.Limits.{KeepsLimits}
 
 module _ {D : Type 0} (told : D → Option Story) (size : D → ℕ) where
-  -- node v of a run, which is up: its workers stand for this node of the core, with nothing on its way in their rings
+  -- node v of a run, which is up: its workers stand for this node of the core, with nothing on its way in their rings, and no call of
+  -- its image's disk failed
   pub record IsUp (g : Game) (v : ℕ) (n : Node) (stage : Stage D) : Type 0 where
     pub limits : IsWithinLimits g
     pub known : v < g.nodes
@@ -27,6 +28,7 @@ module _ {D : Type 0} (told : D → Option Story) (size : D → ℕ) where
     pub stage_is : stage ≡ Created handler patcher sender
     pub whole : IsWhole told size g v n handler patcher sender
     pub empty : AreEmpty handler patcher sender
+    pub unspent : patcher.side.image.spent ≡ false
     pub tell : AreTold told (disks_apart handler.side patcher.side)
 
   -- some node of a run is up, and takes calls

@@ -8,7 +8,7 @@ pub settle-answer-requires-clause-takes : goal.settle-answer-requires-clause-tak
 settle-answer-requires-clause-takes g c =
     let takes = c.requires in
     let up = are-up g.D.Disk.told g.D.Disk.size takes.game takes.node takes.stands_for c.args.turns.now c.args.patches.now c.args.sends.now takes.up in
-    up.whole.pages.apart.patches.takes
+    record { side = up.whole.pages.apart.patches.takes; unspent = up.unspent }
 
 pub meet-requires : goal.meet-requires
 meet-requires g c =

@@ -19,6 +19,7 @@ returns-clause-steps g c = λ game v n up of_run.
       stage_is = sym c.in-Created.is ∙ up.stage_is;
       whole = up.whole;
       empty = up.empty;
+      unspent = up.unspent;
       tell = up.tell;
     })
     of_run

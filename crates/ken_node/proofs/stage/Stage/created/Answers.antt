@@ -41,7 +41,7 @@ returns-in-Ok-clause-creation g c = λ game v disks u.
     subst (λ (o : Consumed). AreOver x c.in-Ok.store o c.over-turns.result.0 c.over-turns.result.1 c.over-turns.result.2) c.new-order.ensures c.over-turns.ensures in
     subst (λ (d : Disks g.row.D.Denot). IsCreation {T = Unit {0}} g.D.Disk.told g.D.Disk.size g.D.Disk.faults g.D.Disk.fate game v (Ok tt) d stage) same
     (created_ok g.D.Disk.told g.D.Disk.size g.D.Disk.faults g.D.Disk.fate game v x c.in-Uncreated.disks c.in-Ok.store c.over-turns.result.0 c.over-turns.result.1 c.over-turns.result.2
-    u.limits (subst (AreFirst game v) parts u.first) over e.ready e.idle e.value e.new e.creates (record { format = e.calls; log = e.log; image = e.image }) e.tells e.second e.faults)
+    u.limits (subst (AreFirst game v) parts u.first) over e.ready e.takes e.idle e.value e.new e.creates (record { format = e.calls; log = e.log; image = e.image }) e.tells e.second e.faults)
 
 pub returns-in-Err-clause-creation : goal.returns-in-Err-clause-creation
 returns-in-Err-clause-creation g c = λ game v disks u.
