@@ -24,7 +24,7 @@ use Rattle.ken_beside.specs.Meetings.{by_handler, by_patcher, by_sender, CallAnd
 use Rattle.ken_beside.specs.On.{IsOn}
 use Rattle.ken_beside.specs.Seats.{Handling, Sending}
 use Rattle.ken_beside.proofs.Failing.{failure_beside}
-use Rattle.ken_beside.proofs.On.{meeting_is_up, up_is_on}
+use Rattle.ken_beside.proofs.On.{meeting_is_up, on-met, up_is_on}
 use Rattle.ken_beside.proofs.Together.{side_by_side}
 
 module _ {D N O U : Type 0} (d : disk.Ghosts D) (e : net.Ghosts N) (o : oracle.Ghosts O) (u : outlet.Ghosts U)
@@ -47,7 +47,8 @@ module _ {D N O U : Type 0} (d : disk.Ghosts D) (e : net.Ghosts N) (o : oracle.G
       let ran = side_by_side d e o u put_still put_joins given_still given_joins g v n t t2 p p2 s s2 ts ps ss on by_t by_p by_s fronts in
       record {
         ran = ran;
-        up = meeting_is_up d.told d.size g v ran.after t2.worker t3 p2 p3 s2.worker s3 ran.on meets.same meets.joined meets.met meets.empty;
+        on = on-met d g v ran.after t2.worker t3 p2 p3 s2.worker s3 ran.on meets;
+        up = λ unspent. meeting_is_up d.told d.size g v ran.after t2.worker t3 p2 p3 s2.worker s3 ran.on meets.same meets.joined meets.met meets.empty unspent;
         accounts = accounts-met g v t t2 p p2 s s2 t3 p3 s3 meets ran.refusals ran.synced;
       }
 

@@ -43,10 +43,12 @@ module _ {D N O U : Type 0} (d : disk.Ghosts D) (e : net.Ghosts N) (o : oracle.G
     pub refusals : Refuses u (part_of s.worker).refusals s.outlet (part_of s3).refusals s2.outlet
     pub synced : LeavesSynced d.told d.faults g v (disks_apart t.worker.side p.side) → LeavesSynced d.told d.faults g v (disks_apart t3.side p3.side)
 
-  -- all steps ended well, or the patcher or the externaliser stopped at a fault: the node is up where their events lead to
+  -- all steps ended well, or the patcher or the externaliser stopped at a fault: the node stands where their events lead to, and is up
+  -- there where no call of its image's disk failed
   pub record IsUpAfter (g : Game) (v : ℕ) (n : Node) (t t2 : Handling D N O) (p p2 : PatchWorker D) (s s2 : Sending N U) (t3 : TurnWorker D) (p3 : PatchWorker D) (s3 : SendWorker) : Type 0 where
     pub ran : RanBeside d e o u g v n t t2 p p2 s s2
-    pub up : IsUp d.told d.size g v ran.after (Created t3 p3 s3)
+    pub on : IsOn d.told d.size g v ran.after t3 p3 s3
+    pub up : p2.side.image.spent ≡ false → IsUp d.told d.size g v ran.after (Created t3 p3 s3)
     pub accounts : HasAccounts g v t p s s2 t3 p3 s3
 
   abbrev pub StepsAndMeeting : Type 0
@@ -78,7 +80,7 @@ module _ {D N O U : Type 0} (d : disk.Ghosts D) (e : net.Ghosts N) (o : oracle.G
     by_patcher : {t : Handling D N O} {p p2 : PatchWorker D} {s : Sending N U} → PatcherCall d p p2 → OneCall h t t p p2 s s
     by_sender : {t : Handling D N O} {p : PatchWorker D} {s s2 : Sending N U} → SenderCall e u s s2 → OneCall h t t p p s s2
 
-  -- a node that is up is so again after a call and a meeting
+  -- a node that is up stands after a call and a meeting, and is up again where no call of its image's disk failed
   abbrev pub CallAndMeeting : Type 0
   CallAndMeeting =
       (g : Game) (v : ℕ) (n : Node) (t t2 : Handling D N O) (p p2 : PatchWorker D) (s s2 : Sending N U) (t3 : TurnWorker D) (p3 : PatchWorker D) (s3 : SendWorker)

@@ -81,18 +81,18 @@ pub fn a_sender_goes_on<N: Net, U: Outlet>()
     ensures { SenderGoesOn N.Net U.Outlet }
 {}
 
-/// A node that is up is on its way, with empty rings.
+/// A node that is up is on its way, with empty rings and a patcher that may be called; and such a node is up.
 pub fn up_is_on<D: Disk>()
     ensures { UpIsOnAlways D.told D.size }
 {}
 
-/// A node on its way is up after a meeting that empties its rings.
+/// A node on its way is up after a meeting that empties its rings, where no call of its image's disk failed.
 pub fn a_meeting_is_up<D: Disk>()
     ensures { MeetingIsUp D.told D.size }
 {}
 
-/// So many steps of a node's three workers, however they came, and a meeting after them leave a node that is up where their events lead
-/// to, with its accounts. Where the handler's last call failed it went down there, and may be restarted after the meeting.
+/// So many steps of a node's three workers, however they came, and a meeting after them leave a node that stands where their events
+/// lead to, and is up there where no call of its image's disk failed, with its accounts. Where the handler's last call failed it went down there, and may be restarted after the meeting.
 pub fn steps_and_a_meeting<D: Disk, N: Net, O: Oracle, U: Outlet>()
     ensures up { StepsAndMeeting D.Disk N.Net O.Oracle U.Outlet }
     ensures down { FailureAndMeeting D.Disk N.Net O.Oracle U.Outlet }
