@@ -38,6 +38,7 @@ use Rattle.ken_beside.proofs.HandedIn.{shuffled_are_among}
 use Rattle.ken_beside.proofs.Lists.{shuffled-first}
 use Rattle.ken_beside.proofs.Meetings.{failure_and_meeting, steps_and_meeting}
 use Rattle.ken_beside.proofs.Sorts.{of-then}
+use Rattle.ken_beside.proofs.On.{steps-unspent}
 use Rattle.ken_beside.proofs.Spelled.{put-then}
 use Rattle.ken_beside.proofs.Taken.{packets-left, packets-right}
 use Rattle.ken_threads.specs.declared.crew.Crew.{Crew}
@@ -98,8 +99,9 @@ module _ {D N O U : Type 0} (d : disk.Ghosts D) (e : net.Ghosts N) (o : oracle.G
         on turned.steps patched.calls posted.calls meets
 
     played-well : (has_fallen new.faults ≡ false → AreUnfailed d.told d.faults d.fate disks (disks_apart new.turns.side new.patches.side))
+        → (has_fallen new.faults ≡ false → new.patches.side.image.spent ≡ false)
         → (has_fallen new.faults ≡ true → HaveFailed d disks (disks_apart new.turns.side new.patches.side)) → CrewPlayed d e o u g v n old new acks acks2 mail mail2 t p s
-    played-well unfailed failed =
+    played-well unfailed unspent failed =
         let ran = up-after.ran in
         record {
           mail_gave = ran.handler_gave;
@@ -128,7 +130,7 @@ module _ {D N O U : Type 0} (d : disk.Ghosts D) (e : net.Ghosts N) (o : oracle.G
           drew = ran.drew;
           origin = ran.origin;
           synced = up-after.accounts.synced;
-          up = λ none. record { up = up-after.up; unfailed = subst (AreUnfailed d.told d.faults d.fate disks) (sym met) (unfailed none); undrawn = refl };
+          up = λ none. record { up = up-after.up (unspent none); unfailed = subst (AreUnfailed d.told d.faults d.fate disks) (sym met) (unfailed none); undrawn = refl };
           down = λ some. record {
             last = [];
             among = λ packet there. let low = there.1 in absurd (omega (arith, low));
@@ -207,7 +209,7 @@ module _ {D N O U : Type 0} (d : disk.Ghosts D) (e : net.Ghosts N) (o : oracle.G
 
   -- ---- by the faults
 
-  module _ (had : HadMemory new.faults) (ran : CrewRan d e o u g.handler old new acks acks2 mail mail2) where
+  module _ (unspent : old.patches.side.image.spent ≡ false) (had : HadMemory new.faults) (ran : CrewRan d e o u g.handler old new acks acks2 mail mail2) where
     abbrev Played : Type 0
     Played = CrewPlayed d e o u g v n old new acks acks2 mail mail2 t p s
 
@@ -218,10 +220,12 @@ module _ {D N O U : Type 0} (d : disk.Ghosts D) (e : net.Ghosts N) (o : oracle.G
         let none : has_fallen new.faults ≡ false = ap (λ (b : Bool). b || is_disk new.faults.patcher) isnt ∙ well in
         played-well worn turned (patched-well d old.patches new.patches patched) posted
         (λ still. steps-unfailed d e o g.handler before after old.patches new.patches turned.states patched.states turned.steps patched.steps)
+        (λ still. steps-unspent d old.patches new.patches patched.states patched.steps unspent)
         (λ some. let both : false ≡ true = sym none ∙ some in absurd (cc))
     by-patcher worn posted (inl (isnt, turned)) (inr (is, patched)) =
         let some : has_fallen new.faults ≡ true = ap (λ (b : Bool). b || is_disk new.faults.patcher) isnt ∙ is in
         played-well worn turned (patched-badly d old.patches new.patches patched) posted
+        (λ none. let both : true ≡ false = sym some ∙ none in absurd (cc))
         (λ none. let both : true ≡ false = sym some ∙ none in absurd (cc))
         (λ fell. record {
           mid = disks_apart new.turns.side patched.mid.side;

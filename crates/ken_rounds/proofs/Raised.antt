@@ -147,6 +147,7 @@ module _ {R D O U : Type 0} {b : base.Ghosts (WireNet R)} (d : disk.Ghosts (Watc
             stage_is = again.stage_is;
             whole = again.whole;
             empty = again.empty;
+            unspent = again.unspent;
             tell = again.tell;
           };
         }

@@ -41,7 +41,7 @@ module _ {D O U : Type 0} (d : disk.Ghosts (Watched D)) (g : Game) (made v : ℕ
         handler = (of_run.node, of_run.nodes ∙ sym whole);
         pages = let room = empty.pages.free_now in omega (arith, room);
         sealed = let room = empty.sealed.free_now in omega (arith, room);
-        patches = upright.whole.pages.apart.patches.takes;
+        patches = record { side = upright.whole.pages.apart.patches.takes; unspent = upright.unspent };
         settled = let room = empty.settled.free_now in omega (arith, room);
         sender = (of_run.sender, of_run.receivers ∙ sym whole);
         told = let room = empty.progress.free_now in omega (arith, room);

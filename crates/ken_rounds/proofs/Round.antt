@@ -140,6 +140,9 @@ module _ {R D O U A : Type 0} {b : base.Ghosts (WireNet R)} (d : disk.Ghosts (Wa
     on : IsOn d.told d.size g v (running.nodes v) (crew v).turns (crew v).patches (crew v).sends
     on = (up_is_on d.told d.size g v (running.nodes v) (crew v).turns (crew v).patches (crew v).sends).on (subst (IsUp d.told d.size g v (running.nodes v)) manned.stage up-before)
 
+    unspent : (crew v).patches.side.image.spent ≡ false
+    unspent = (up_is_on d.told d.size g v (running.nodes v) (crew v).turns (crew v).patches (crew v).sends).unspent (subst (IsUp d.told d.size g v (running.nodes v)) manned.stage up-before)
+
     abbrev Played : Type 0
     Played =
         CrewPlayed d e o u g v (running.nodes v) (crew v) (crew2 v) (rounded.acks v) (rounded.acks2 v) (rounded.mail v) (rounded.mail2 v) has-come.turns has-come.patches has-come.sends
@@ -147,7 +150,7 @@ module _ {R D O U A : Type 0} {b : base.Ghosts (WireNet R)} (d : disk.Ghosts (Wa
     played : Played
     played =
         crew-played d e o u wires.put_still wires.put_joins wires.given_still wires.given_joins g v (running.nodes v) (crew v) (crew2 v) (rounded.acks v) (rounded.acks2 v) (rounded.mail v) (rounded.mail2 v)
-        has-come.turns has-come.patches has-come.sends on (has-come.met not-memory) (no-memory (crew2 v).faults (fault v) not-memory come-to) (rounded.ran v c0 in-crews)
+        has-come.turns has-come.patches has-come.sends on (has-come.met not-memory) unspent (no-memory (crew2 v).faults (fault v) not-memory come-to) (rounded.ran v c0 in-crews)
 
     pub node-played : NodePlayed d o u g v (running.nodes v) (rounded.acks2 v) (rounded.mail2 v) (crew2 v).faults (was v) (is v)
     node-played = record {

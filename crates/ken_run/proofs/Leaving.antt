@@ -329,6 +329,7 @@ module _ {D O U A : Type 0} (told : Watched D → Option Story) (size : Watched 
           stage_is = up.stage_is;
           whole = up.whole;
           empty = up.empty;
+          unspent = up.unspent;
           tell = up.tell;
         })
         stopped.others

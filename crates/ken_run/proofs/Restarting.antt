@@ -82,6 +82,7 @@ module _ {D O U A : Type 0} (told : Watched D → Option Story) (size : Watched 
         stage_is = again.stage_is;
         whole = again.whole;
         empty = again.empty;
+        unspent = again.unspent;
         tell = again.tell;
       } in
       let grows = run-grows g (Contains stopped.given) v (stopped.nodes v) again.after again.call.events nothing again.call.run in
