@@ -28,7 +28,7 @@ use Rattle.ken_store.specs.Turning.{AreChangedPages, IsSealed, Turning, coming_r
 abbrev pub RecoversTo : {D : Type 0} → (D → Option Story) → Owner → Disks D → Recovery → Type 0
 RecoversTo told o disks recovery = TellsAll told disks (λ l i s. (log image second : List ℕ) → IsImage l.now log → IsImage i.now image → IsImage s.now second → recovered o log image second ≡ recovery)
 
--- what stands of a store: its sides are of one node
+-- what stands of a store: its handler's side takes calls, what stands of its patcher's side does, and they are of one node
 pub record IsStore {D : Type 0} (told : D → Option Story) (size : D → ℕ) (store : Store D) : Type 0 where
   pub turns : Turning told size store.turns
   pub patches : IsPatchSide told size store.patches
