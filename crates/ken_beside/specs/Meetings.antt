@@ -43,8 +43,8 @@ module _ {D N O U : Type 0} (d : disk.Ghosts D) (e : net.Ghosts N) (o : oracle.G
     pub refusals : Refuses u (part_of s.worker).refusals s.outlet (part_of s3).refusals s2.outlet
     pub synced : LeavesSynced d.told d.faults g v (disks_apart t.worker.side p.side) → LeavesSynced d.told d.faults g v (disks_apart t3.side p3.side)
 
-  -- all steps ended well, or the patcher or the externaliser stopped at a fault: the node stands where their events lead to, and is up
-  -- there where no call of its image's disk failed
+  -- all steps ended well, or the patcher or the externaliser stopped at a fault: the node stands where their events lead
+  -- to, and is up there where no call of its image's disk failed
   pub record IsUpAfter (g : Game) (v : ℕ) (n : Node) (t t2 : Handling D N O) (p p2 : PatchWorker D) (s s2 : Sending N U) (t3 : TurnWorker D) (p3 : PatchWorker D) (s3 : SendWorker) : Type 0 where
     pub ran : RanBeside d e o u g v n t t2 p p2 s s2
     pub on : IsOn d.told d.size g v ran.after t3 p3 s3

@@ -16,8 +16,8 @@ use Rattle.ken_node.specs.Up.{IsUp}
 use Rattle.ken_whole.specs.Whole.{IsWhole}
 
 module _ {D : Type 0} (told : D → Option Story) (size : D → ℕ) where
-  -- node v of a run: what stands of one that is up stands, but that its rings need not be empty. Its patcher may be called only where
-  -- no call of the image's disk failed
+  -- node v of a run: what stands of one that is up stands, but that its rings need not be empty. Its patcher may be called
+  -- only where no call of the image's disk failed
   pub record IsOn (g : Game) (v : ℕ) (n : Node) (t : TurnWorker D) (p : PatchWorker D) (s : SendWorker) : Type 0 where
     pub limits : IsWithinLimits g
     pub known : v < g.nodes

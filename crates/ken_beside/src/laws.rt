@@ -91,8 +91,9 @@ pub fn a_meeting_is_up<D: Disk>()
     ensures { MeetingIsUp D.told D.size }
 {}
 
-/// So many steps of a node's three workers, however they came, and a meeting after them leave a node that stands where their events
-/// lead to, and is up there where no call of its image's disk failed, with its accounts. Where the handler's last call failed it went down there, and may be restarted after the meeting.
+/// So many steps of a node's three workers, however they came, and a meeting after them leave a node that stands where
+/// their events lead to, and is up there where no call of its image's disk failed, with its accounts. Where the handler's
+/// last call failed it went down there, and may be restarted after the meeting.
 pub fn steps_and_a_meeting<D: Disk, N: Net, O: Oracle, U: Outlet>()
     ensures up { StepsAndMeeting D.Disk N.Net O.Oracle U.Outlet }
     ensures down { FailureAndMeeting D.Disk N.Net O.Oracle U.Outlet }

@@ -17,8 +17,8 @@ use Rattle.ken_whole.specs.Whole.{IsWhole}
 use Rattle.ken_app.specs.Limits.{KeepsLimits}
 
 module _ {D : Type 0} (told : D → Option Story) (size : D → ℕ) where
-  -- node v of a run, which is up: its workers stand for this node of the core, with nothing on its way in their rings, and no call of
-  -- its image's disk failed
+  -- node v of a run, which is up: its workers stand for this node of the core, with nothing on its way in their rings, and
+  -- no call of its image's disk failed
   pub record IsUp (g : Game) (v : ℕ) (n : Node) (stage : Stage D) : Type 0 where
     pub limits : IsWithinLimits g
     pub known : v < g.nodes

@@ -28,7 +28,7 @@ use Rattle.ken_store.specs.Turning.{AreChangedPages, IsSealed, Turning, coming_r
 abbrev pub RecoversTo : {D : Type 0} → (D → Option Story) → Owner → Disks D → Recovery → Type 0
 RecoversTo told o disks recovery = TellsAll told disks (λ l i s. (log image second : List ℕ) → IsImage l.now log → IsImage i.now image → IsImage s.now second → recovered o log image second ≡ recovery)
 
--- what stands of a store: its handler's side takes calls, what stands of its patcher's side does, and they are of one node
+-- what stands of a store: its handler's side takes calls, what stands of its patcher's does, and they are of one node
 pub record IsStore {D : Type 0} (told : D → Option Story) (size : D → ℕ) (store : Store D) : Type 0 where
   pub turns : Turning told size store.turns
   pub patches : IsPatchSide told size store.patches
@@ -40,8 +40,8 @@ pub record TakesCalls {D : Type 0} (told : D → Option Story) (size : D → ℕ
   pub store : IsStore told size whole
   pub unspent : whole.patches.image.spent ≡ false
 
--- the pages of a store's image, whether it takes calls or not: they are covered, what is to patch is behind the live records, and
--- no page changed in a turn to come
+-- the pages of a store's image, whether it takes calls or not: they are covered, what is to patch is behind the live
+-- records, and no page changed in a turn to come
 pub record Standing {D : Type 0} (told : D → Option Story) (size : D → ℕ) (store : Store D) (i : ImagePages) : Type 0 where
   pub takes : IsStore told size store
   pub patches : Patching told size store.patches i

@@ -160,8 +160,8 @@ impl<D: Disk> Store<D> {
 
     /// Writes the next page of the oldest record that is to patch, by one call of the image's disk: false exactly where there is
     /// none, and then no call is made. A crash at any moment leaves disks that recover to the same state. After `Disk` the page
-    /// counts as written, and is no longer to patch; the store is to be released, and no call follows. After `Memory` nothing has
-    /// changed.
+    /// counts as written, and is no longer to patch; the store is to be released, and no call follows. After `Memory`
+    /// nothing has changed.
     pub fn patch_next(&mut self) -> Result<bool, StoreFault>
         requires { TakesCalls D.told D.size self.old }
         ensures stands { (i : ImagePages) → Standing D.told D.size self.old i → PatchesBy (D.told self.new.patches.image.disk) result (Standing D.told D.size self.new) i }

@@ -11,8 +11,8 @@ ghost use Rattle.ken_store.specs.Turning.{turn_pages, state_in};
 
 use ken_disk::Disk;
 
-/// Each image that a crash may leave of the disks of a store that stands recovers to what its log tells, and to the value of
-/// the heap after its sealed turns.
+/// Each image that a crash may leave of the disks of a store that stands recovers to what its log tells, and to the value
+/// of the heap after its sealed turns.
 pub fn standing_stores<D: Disk>()
     ensures { (store : Store D) (i : ImagePages) (v : Value) → Standing D.told D.size store i
         → read_value (turn_pages store.turns).heap ≡ Some v

@@ -139,8 +139,8 @@ impl<D: Disk> PatchSide<D> {
     }
 
     /// Writes the next page of the oldest record that is to patch, by one call of the disk: false exactly where there is none, and
-    /// then no call is made. After `Disk` the page counts as written, and is no longer to patch; no call follows. After `Memory`
-    /// nothing has changed.
+    /// then no call is made. After `Disk` the page counts as written, and is no longer to patch; no call follows. After
+    /// `Memory` nothing has changed.
     pub fn patch_next(&mut self) -> Result<bool, StoreFault>
         requires { TakesPatches D.told D.size self.old }
         ensures stands { (i : ImagePages) → Patching D.told D.size self.old i → PatchesBy (D.told self.new.image.disk) result (Patching D.told D.size self.new) i }

@@ -23,8 +23,8 @@ use Rattle.ken_work.specs.Workers.{Working}
 abbrev pub owner_of : Game → ℕ → Owner
 owner_of g v = record { node = v; nodes = g.nodes; pages = heap_pages g }
 
--- the workers of node v of a run that made no turn, over a store that stands and takes calls: nothing was handed over, and no one was
--- told of anything
+-- the workers of node v of a run that made no turn, over a store that stands and takes calls: nothing was handed over, and
+-- no one was told of anything
 pub record AreNew {D : Type 0} (told : D → Option Story) (size : D → ℕ) (g : Game) (v : ℕ) (t : TurnWorker D) (p : PatchWorker D) (s : SendWorker) : Type 0 where
   pub node : t.node ≡ v
   pub nodes : t.nodes ≡ g.nodes
