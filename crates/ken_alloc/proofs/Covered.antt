@@ -1,10 +1,8 @@
 -- Frames that several writes take, one after the other.
-use Rattle.std.proofs.Common.{◌≡◌, ℕ, ◌+◌, ◌-◌, ◌/◌, ◌<◌, ◌≤◌, suc, zero, List, [], ◌∷◌, length, Bool, true, false, Result, Ok, Err, IsOk, OnOk, OnErr, eqb, refl, sym, ap, ap₂, ◌∙◌, subst, arith, inl, inr}
-use Rattle.std.proofs.lemmas.Bool.Decides.{eqb_tells}
+use Rattle.std.proofs.Common.{◌≡◌, ℕ, ◌+◌, ◌-◌, ◌/◌, ◌≤◌, suc, zero, List, [], ◌∷◌, Bool, true, false, Result, Ok, Err, OnOk, OnErr, cond, eqb, refl, sym, ap, ap₂, ◌∙◌, subst, arith}
 use Rattle.ken_pages.specs.Paged.{Paged, touched, with_own, lacking, own_count}
-use Rattle.ken_pages.proofs.Counted.{lacking-none, with_own-none, touched-some}
+use Rattle.ken_pages.proofs.Counted.{lacking-none, lacking-grows, with_own-none, touched-some}
 use Rattle.ken_model.specs.Heap.{rounded}
-use Rattle.ken_model.proofs.Choices.{is_true, is_false}
 use Rattle.ken_alloc.specs.Frames.{Frames, frames_of, lacks, taken, LosesNone, HasMoreSpare, gap_head, alloc_len}
 
 -- what was lacking is the turn's own
@@ -57,7 +55,10 @@ both at n at' n' all long f is =
 
 -- n bytes, and then the m behind them
 pub takes_on : (at n m : ℕ) (f : Frames) → 1 ≤ m → TakesBoth at n (at + n) m at (n + m) f
-takes_on at zero m f some = both at 0 (at + 0) m at (0 + m) f (ap₂ (λ k own. with_own (k / 256) (touched k m) own) (omega arith) (with_own-none (at / 256) f.own))
+takes_on at zero m f some =
+    let start : at + 0 ≡ at = omega arith in
+    let count : m ≡ 0 + m = omega arith in
+    both at 0 (at + 0) m at (0 + m) f (ap₂ (λ k own. with_own (k / 256) (touched k m) own) start (with_own-none (at / 256) f.own) ∙ ap (λ k. with_own (at / 256) (touched at k) f.own) count)
 takes_on at (suc n) m f some =
     let one : touched at (suc n) ≡ (at + suc n - 1) / 256 + 1 - at / 256 = touched-some at (suc n) (omega arith) in
     let two : touched (at + suc n) m ≡ (at + suc n + m - 1) / 256 + 1 - (at + suc n) / 256 = touched-some (at + suc n) m some in
@@ -79,15 +80,17 @@ taken_none at p =
     let left : p.spare - lacking (at / 256) 0 p.own ≡ p.spare = omega (arith, none) in
     ap₂ (λ s own. let g : Frames = record { spare = s; own = own } in g) left (with_own-none (at / 256) p.own)
 
--- what a write of n bytes says
-pub took : {X E : Type 0} (r : Result X E) (p q : Paged) (at n k : ℕ) → n ≡ k → OnOk r (q.spare ≡ p.spare - lacking (at / 256) (touched at n) p.own) → OnOk r (q.own ≡ with_own (at / 256) (touched at n) p.own) → OnOk r (frames_of q ≡ taken at k (frames_of p))
-took (Ok x) p q at n k is spare own =
-    subst (λ j. frames_of q ≡ taken at j (frames_of p)) is (ap₂ (λ s o. let g : Frames = record { spare = s; own = o } in g) spare own)
-took (Err e) p q at n k is spare own = tt
+-- more bytes lack no fewer
+pub lacks_grows : (at n m : ℕ) (f : Frames) → n ≤ m → lacks at n f ≤ lacks at m f
+lacks_grows at zero m f le = let none : lacking (at / 256) 0 f.own ≡ 0 = lacking-none (at / 256) f.own in omega (arith, none)
+lacks_grows at (suc n) m f le =
+    let one : touched at (suc n) ≡ (at + suc n - 1) / 256 + 1 - at / 256 = touched-some at (suc n) (omega arith) in
+    let two : touched at m ≡ (at + m - 1) / 256 + 1 - at / 256 = touched-some at m (omega (arith, le)) in
+    lacking-grows (at / 256) (touched at (suc n)) (touched at m) f.own (omega (arith, one, two, le))
 
-pub has_more : {X E : Type 0} (r : Result X E) (p q : Paged) → OnErr r (q.own ≡ p.own) → OnErr r (p.spare ≤ q.spare) → OnErr r (HasMoreSpare (frames_of p) (frames_of q))
-has_more (Ok x) p q own more = tt
-has_more (Err e) p q own more = record { own = own; more = more }
+-- what a write of n bytes says after Ok
+pub took : (p q : Paged) (at n k : ℕ) → n ≡ k → q.spare ≡ p.spare - lacking (at / 256) (touched at n) p.own → q.own ≡ with_own (at / 256) (touched at n) p.own → frames_of q ≡ taken at k (frames_of p)
+took p q at n k is spare own = subst (λ j. frames_of q ≡ taken at j (frames_of p)) is (ap₂ (λ s o. let g : Frames = record { spare = s; own = o } in g) spare own)
 
 -- frames that are taken are the turn's own
 pub loses_taken : (f g : Frames) (at n : ℕ) → g ≡ taken at n f → LosesNone f g
@@ -112,3 +115,51 @@ covers_first at n at' n' all long f t covered = omega (arith, t.sum, covered)
 -- and then the second
 pub covers_second : (at n at' n' all long : ℕ) (f g : Frames) → TakesBoth at n at' n' all long f → g ≡ taken at n f → lacks all long f ≤ f.spare → lacks at' n' g ≤ g.spare
 covers_second at n at' n' all long f g t is covered = subst (λ (h : Frames). lacks at' n' h ≤ h.spare) (sym is) (omega (arith, t.sum, covered))
+
+-- two places that are one have no head of a gap between them
+pub no_gap : (at from to : ℕ) (p : Paged) → eqb from to ≡ true → frames_of p ≡ taken at (gap_head from to) (frames_of p)
+no_gap at from to p is =
+    let none : 0 ≡ gap_head from to = ap (λ (b : Bool). cond b 0 16) (sym is) in
+    sym (taken_none at p) ∙ ap (λ n. taken at n (frames_of p)) none
+
+-- the head of a gap at a place, or none, then n bytes behind a block's head, and that head: they take what all of it takes
+pub record TakesThree (at gap from n all : ℕ) (f : Frames) : Type 0 where
+  pub same : taken from 16 (taken (from + 16) n (taken at gap f)) ≡ taken from all f
+  pub first : lacks from all f ≤ f.spare → lacks at gap f ≤ f.spare
+  pub second : lacks from all f ≤ f.spare → lacks (from + 16) n (taken at gap f) ≤ (taken at gap f).spare
+  pub third : lacks from all f ≤ f.spare → lacks from 16 (taken (from + 16) n (taken at gap f)) ≤ (taken (from + 16) n (taken at gap f)).spare
+
+takes_block : (at from n : ℕ) (p : Paged) → 1 ≤ n → TakesThree at 0 from n (16 + n) (frames_of p)
+takes_block at from n p some =
+    let f : Frames = frames_of p in
+    let none : taken at 0 f ≡ f = taken_none at p in
+    let no : lacking (at / 256) 0 p.own ≡ 0 = lacking-none (at / 256) p.own in
+    let both : TakesBoth (from + 16) n from 16 from (16 + n) f = takes_back from 16 (from + 16) n (16 + n) f (omega arith) some (omega arith) (omega arith) (omega arith) in
+    record {
+      same = ap (λ g. taken from 16 (taken (from + 16) n g)) none ∙ both.same;
+      first = λ covered. omega (arith, no);
+      second = λ covered. subst (λ (g : Frames). lacks (from + 16) n g ≤ g.spare) (sym none) (covers_first (from + 16) n from 16 from (16 + n) f both covered);
+      third = λ covered. subst (λ (g : Frames). lacks from 16 (taken (from + 16) n g) ≤ (taken (from + 16) n g).spare) (sym none) (covers_second (from + 16) n from 16 from (16 + n) f (taken (from + 16) n f) both refl covered);
+    }
+
+takes_gap : (from n : ℕ) (f : Frames) → 1 ≤ n → TakesThree (from + 16 + rounded n) 16 from n (32 + rounded n) f
+takes_gap from n f some =
+    let at : ℕ = from + 16 + rounded n in
+    let inner : TakesBoth (from + 16 + rounded n) 16 (from + 16) n (from + 16) (rounded n + 16) f = takes_back (from + 16) n (from + 16 + rounded n) 16 (rounded n + 16) f some (omega arith) (omega arith) (omega arith) (omega arith) in
+    let outer : TakesBoth (from + 16) (rounded n + 16) from 16 from (32 + rounded n) f = takes_back from 16 (from + 16) (rounded n + 16) (32 + rounded n) f (omega arith) (omega arith) (omega arith) (omega arith) (omega arith) in
+    let few : lacks from (32 + rounded n) f ≤ f.spare → lacks (from + 16) (rounded n + 16) f ≤ f.spare = covers_first (from + 16) (rounded n + 16) from 16 from (32 + rounded n) f outer in
+    record {
+      same = ap (taken from 16) inner.same ∙ outer.same;
+      first = λ covered. covers_first (from + 16 + rounded n) 16 (from + 16) n (from + 16) (rounded n + 16) f inner (few covered);
+      second = λ covered. covers_second (from + 16 + rounded n) 16 (from + 16) n (from + 16) (rounded n + 16) f (taken (from + 16 + rounded n) 16 f) inner refl (few covered);
+      third = λ covered. covers_second (from + 16) (rounded n + 16) from 16 from (32 + rounded n) f (taken (from + 16) n (taken (from + 16 + rounded n) 16 f)) outer inner.same covered;
+    }
+
+-- what a block of n bytes takes that is made in a gap
+pub takes_three : (at from n to : ℕ) (p : Paged) → at ≡ from + 16 + rounded n → 1 ≤ n → TakesThree at (gap_head at to) from n (alloc_len (from + 16) n to) (frames_of p)
+takes_three at from n to p is some =
+    subst (λ k. TakesThree k (gap_head k to) from n (alloc_len (from + 16) n to) (frames_of p)) (sym is) (go (eqb (from + 16 + rounded n) to))
+  where
+    go : (b : Bool) → TakesThree (from + 16 + rounded n) (cond b 0 16) from n (cond b (16 + n) (32 + rounded n)) (frames_of p)
+    go true = takes_block (from + 16 + rounded n) from n p some
+    go false = takes_gap from n (frames_of p) some

@@ -10,7 +10,7 @@ ghost use Rattle.ken_pages.specs.Paged.{dirty_pages, page_of, frozen_pages, shar
 ghost use Rattle.ken_model.specs.Layout.{StandsFor, first_bytes, first_heap};
 ghost use Rattle.ken_model.specs.Broken.{BreaksAt};
 ghost use Rattle.ken_model.specs.Reading.{value_of};
-ghost use Rattle.ken_alloc.specs.Objects.{Heap, heap_in, IsBlock, with_zeros, rewritten, place_of_front};
+ghost use Rattle.ken_alloc.specs.Objects.{heap_in, IsBlock, with_zeros, rewritten, place_of_front};
 ghost use Rattle.ken_alloc.specs.Changes.{after_alloc, after_free, room_start};
 ghost use Rattle.ken_alloc.specs.Frames.{HasMoreSpare, LosesNone, frames_in, lacks, taken, alloc_lacks, alloc_taken};
 
