@@ -185,7 +185,7 @@ module _ {R D O U A : Type 0} {b : base.Ghosts (WireNet R)} (d : disk.Ghosts (Wa
         let faults : Faults = (crew2 v).faults in
         let adds =
         crew-adds d (crew v).turns (crew2 v).turns has-come.turns (crew v).patches (crew2 v).patches has-come.patches (crew v).sends (crew2 v).sends has-come.sends faults.patcher
-        (no-memory faults (fault v) not-memory come-to).patcher (second-false (is_disk faults.handler) (is_disk faults.patcher) none_fell) (rounded.ran v c0 in-crews).patcher on.whole.pages.apart.patches.takes (has-come.met not-memory) in
+        (no-memory faults (fault v) not-memory come-to).patcher (second-false (is_disk faults.handler) (is_disk faults.patcher) none_fell) (rounded.ran v c0 in-crews).patcher (record { side = on.whole.pages.apart.patches.takes; unspent = unspent }) (has-come.met not-memory) in
         subst (λ stage. Adds 16 (image_told d.told stage) (image_told d.told (is v).node.stage)) (sym manned.stage)
         (subst (λ stage. Adds 16 (image_told d.told (Created (crew v).turns (crew v).patches (crew v).sends)) (image_told d.told stage)) (sym back.stage) adds)
 

@@ -87,7 +87,7 @@ module _ {D : Type 0} (d : disk.Ghosts D) where
       by : PatchesOnce d.told d.size d.faults d.fate (Ok true) a b → Takes b × Adds 1 (image a) (image b)
       by (went mid over same is) =
           let before : Takes mid = over.handed.takes takes in
-          let one_call = one-write mid.side.known mid.side.ahead.items before.order (is.more.0 tt) in
+          let one_call = one-write mid.side.known mid.side.ahead.items before.side.order (is.more.0 tt) in
           let adds = all-add true (patch_calls mid.side.ahead.items) (image mid) (image b) is.calls in
           (is.takes, subst (λ i. Adds 1 (d.told i.disk) (image b)) over.handed.image (adds-fewer 1 _ (image mid) (image b) (omega (arith, one_call)) adds))
       by (no_room no taken) = absurd no

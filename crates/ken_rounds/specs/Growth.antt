@@ -53,8 +53,8 @@ pub record GoOn (sort : Packet → Type 0) (turns : List Effects) (old new : Lea
   pub after : new ≡ record old { links = after_puts puts old.links }
 
 module _ {D O U : Type 0} (rounds : ℕ) where
-  -- a node keeps its turns, and the lines of its restarts, of which each round adds one at most; and its links go on, by mail
-  -- the one, and by acknowledgements the other
+  -- a node keeps its turns, and the lines of its restarts, of which each round adds one at most; and its links go on, the
+  -- one by mail, the other by acknowledgements
   pub record HasGrown (old new : Station D O U) : Type 0 where
     pub turns : IsPrefixOf (turns_in old.node.stage) (turns_in new.node.stage)
     pub lines : GrowsByFew rounds old.lines.items new.lines.items
