@@ -46,6 +46,7 @@ impl Blocks {
                 self.oracle.word = row.words.number()?;
             }
             b"turn" => self.turn(row)?,
+            b"reserve" => self.heap.reserve(row.words.within(0, 1 << 32)? as usize)?,
             b"freeze" => row.answer.number(self.heap.freeze()?.len() as u64)?,
             b"commit" => {
                 self.heap.commit();
@@ -79,6 +80,7 @@ impl Blocks {
             }
             b"first" => Ok(row.answer.numbers(self.heap.first().as_slice())?),
             b"is-block" => Ok(row.answer.flag(self.heap.is_block(row.words.number()?))?),
+            b"spare" => Ok(row.answer.number(self.heap.spare() as u64)?),
             b"dirty" => row.put(format!(in row.alloc; "{:?}", self.heap.dirty()?)?),
             _ => Err(RowFault::Usage),
         }
