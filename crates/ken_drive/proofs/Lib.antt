@@ -18,3 +18,4 @@ pub mod StartingDevices
 pub mod StartingAll
 pub mod Acts
 pub mod Stopping
+pub mod Answering

@@ -1,5 +1,5 @@
 -- What a whole run leaves: what its world keeps of each node, beside the lines of its report.
-use Rattle.std.specs.Prelude.{◌≡◌, ◌⊎◌, ℕ, ◌+◌, ◌<◌, ◌≤◌, ◌==◌, List, [], length, map, filter, slice_index_or, Bool, Option, Some, None, IfSome, Result, Ok, Err}
+use Rattle.std.specs.Prelude.{◌≡◌, ◌⊎◌, ℕ, ◌+◌, ◌<◌, ◌≤◌, ◌==◌, List, [], length, map, filter, slice_index_or, Bool, true, Option, Some, None, IfSome, IfErr, Result, Ok, Err}
 use Rattle.std.specs.List.{AllByRecursion, flat_map}
 use Rattle.ken_disk.specs.Story.{Story}
 use Rattle.ken_model.specs.declared.messages.Out.{Out}
@@ -33,6 +33,7 @@ use Rattle.ken_run.specs.Patched.{HaveImages}
 use Rattle.ken_drive.specs.Recovering.{HoldsHeapAt, RecoversAt}
 use Rattle.ken_run.specs.Refusals.{AreRefused, IsWornOut}
 use Rattle.ken_run.specs.Sequences.{IsSubsequence, descents}
+use Rattle.ken_drive.specs.Sparing.{IsLetBy}
 use Rattle.ken_drive.specs.Starting.{game_by, terms_of}
 use Rattle.ken_drive.specs.Worlds.{HasKeptNothing}
 use Rattle.ken_run.specs.Devices.{IsOf, IsTold, MayFailAt}
@@ -182,6 +183,11 @@ module _ {D O U : Type 0} (views : Views D O U) (h : Handler) (script : Script) 
   DrivesBy (Err (Down v)) = HasGoneDown views (game_by h script) (terms_of views.scripted script) v kept
   DrivesBy (Err run_faults.Memory) = HasKeptNothing kept
   DrivesBy (Err (run_faults.Damaged v disk place)) = ⊥
+
+-- so after a drive, whose error the script lets come, in a scripted world
+pub record Drives {D O U : Type 0} (views : Views D O U) (h : Handler) (script : Script) (kept : ℕ → Option (Disks D × O × U)) (result : Result Lines RunFault) : Type 0 where
+  pub drives : DrivesBy views h script kept result
+  pub lets : views.scripted ≡ true → IfErr result (IsLetBy script)
 
 -- ---- how they follow
 

@@ -1,16 +1,15 @@
 // A whole run.
-ghost use Rattle.std.specs.Prelude.{◌≡◌, ◌<◌, true, IfErr, OnOk};
+ghost use Rattle.std.specs.Prelude.{◌≡◌, ◌<◌, OnOk};
 ghost use Rattle.ken_model.specs.Kinds.{handler_of};
 ghost use Rattle.ken_script.specs.Within.{KeepsRules};
-ghost use Rattle.ken_drive.specs.Driven.{DrivesBy};
+ghost use Rattle.ken_drive.specs.Driven.{Drives};
 ghost use Rattle.ken_run.specs.Patched.{HaveImages};
-ghost use Rattle.ken_drive.specs.Sparing.{IsLetBy};
 ghost use Rattle.ken_drive.specs.Starting.{Serves};
 ghost use Rattle.ken_drive.specs.Worlds.{HasKeptNothing};
 ghost use Rattle.ken_run.specs.Clauses.{Drains};
 ghost use Rattle.ken_drive.specs.Clauses.{TellsRun, views_of};
 
-use crate::finishing::finish;
+use crate::finishing::give_back;
 use crate::laws::{ended_runs_keep, kinds_serve};
 use crate::report::lines;
 use crate::starting::start;
@@ -29,8 +28,21 @@ use std::alloc::Global;
 use std::sync::Wait;
 use std::thread::Threads;
 
+/// Drains a run, and answers what it says then. The errors are those of `drain` and `lines`.
+fn told<D: Disk, O: Oracle, U: Outlet, A: App>(
+    alloc: Global,
+    run: &mut Run<D, O, U, A>,
+) -> Result<Lines, RunFault>
+    requires { Drains D.Disk U.Outlet A.App run.old }
+    ensures tells { TellsRun D.Disk O.Oracle U.Outlet A.App run.old result run.new }
+    ensures images { OnOk result (HaveImages ⟦<Watched<D> as Disk>⟧.told run.new) }
+{
+    run.drain()?;
+    Ok(lines(alloc, run)?)
+}
+
 /// Makes so many rounds of a run, drains it, and answers what it says then. The errors are those of `threaded`, `drain` and `lines`.
-fn told<R, D, O, U, A>(
+fn told_by_rounds<R, D, O, U, A>(
     rt: &R,
     alloc: Global,
     run: &mut Run<D, O, U, A>,
@@ -47,14 +59,13 @@ where
     ensures images { OnOk result (HaveImages ⟦<Watched<D> as Disk>⟧.told run.new) }
 {
     threaded(rt, alloc, run, rounds, &OpenGate)?;
-    run.drain()?;
-    Ok(lines(alloc, run)?)
+    told(alloc, run)
 }
 
 /// Runs a script with an application over the devices of a world, and answers the lines of its report. The script's kind isn't
 /// looked at. Where it asks for rounds, the workers of all nodes run as threads in these, and then one thread goes on. A round
-/// may wait where a wire is in another thread's hands; with no rounds nothing waits. The disks, the oracle and the outlet of each
-/// node are given to `World::keep` then. `Down`: that node's disks failed once more than it may be restarted, or its outlet refused
+/// may wait where a wire is in another thread's hands; with no rounds this is `drive_alone`. The disks, the oracle and the outlet of
+/// each node are given to `World::keep` then. `Down`: that node's disks failed once more than it may be restarted, or its outlet refused
 /// one output 65 times in a row; the devices of each node that was made are given back too. After `Memory` nothing is kept.
 pub fn drive<R: Threads + Wait + Sync, W: World, A: App + Sync + Drop>(
     rt: &R,
@@ -66,27 +77,35 @@ pub fn drive<R: Threads + Wait + Sync, W: World, A: App + Sync + Drop>(
     requires serves { Serves (A.handler app) script.now }
     requires rules { KeepsRules script.now }
     requires none { HasKeptNothing (W.kept world.old) }
-    ensures drives { DrivesBy (views_of W.Dev.Disk W.Luck.Oracle W.Out.Outlet W.scripted) (A.handler app) script.now
+    ensures { Drives (views_of W.Dev.Disk W.Luck.Oracle W.Out.Outlet W.scripted) (A.handler app) script.now
         (W.kept world.new) result }
-    ensures lets { W.scripted ≡ true → IfErr result (IsLetBy script.now) }
 {
-    let mut run = start(alloc, app, script, world)?;
-    match told(rt, alloc, &mut run, script.rounds) {
-        Ok(lines) => {
-            finish(run, world);
-            ended_runs_keep::<W::Dev, W::Luck, W::Out, A>();
-            Ok(lines)
-        }
-        Err(RunFault::Memory) => Err(RunFault::Memory),
-        Err(RunFault::Down { node }) => {
-            finish(run, world);
-            Err(RunFault::Down { node })
-        }
-        Err(RunFault::Damaged { node, disk, place }) => {
-            finish(run, world);
-            Err(RunFault::Damaged { node, disk, place })
-        }
+    if script.rounds == 0 {
+        return drive_alone(alloc, app, script, world);
     }
+    ended_runs_keep::<W::Dev, W::Luck, W::Out, A>();
+    let mut run = start(alloc, app, script, world)?;
+    let answer = told_by_rounds(rt, alloc, &mut run, script.rounds);
+    give_back(run, answer, world)
+}
+
+/// Runs a script as `drive` does, but makes no rounds, whatever the script asks for. It starts no thread and waits for nobody.
+pub fn drive_alone<W: World, A: App + Drop>(
+    alloc: Global,
+    app: A,
+    script: &Script,
+    world: &mut W,
+) -> Result<Lines, RunFault>
+    requires serves { Serves (A.handler app) script.now }
+    requires rules { KeepsRules script.now }
+    requires none { HasKeptNothing (W.kept world.old) }
+    ensures { Drives (views_of W.Dev.Disk W.Luck.Oracle W.Out.Outlet W.scripted) (A.handler app) script.now
+        (W.kept world.new) result }
+{
+    ended_runs_keep::<W::Dev, W::Luck, W::Out, A>();
+    let mut run = start(alloc, app, script, world)?;
+    let answer = told(alloc, &mut run);
+    give_back(run, answer, world)
 }
 
 /// Runs a script with the handler of its kind, as `drive` does with an application.
@@ -98,10 +117,24 @@ pub fn drive_kind<R: Threads + Wait + Sync, W: World>(
 ) -> Result<Lines, RunFault>
     requires rules { KeepsRules script.now }
     requires none { HasKeptNothing (W.kept world.old) }
-    ensures drives { DrivesBy (views_of W.Dev.Disk W.Luck.Oracle W.Out.Outlet W.scripted)
+    ensures { Drives (views_of W.Dev.Disk W.Luck.Oracle W.Out.Outlet W.scripted)
         (handler_of script.now.facts.kind) script.now (W.kept world.new) result }
-    ensures lets { W.scripted ≡ true → IfErr result (IsLetBy script.now) }
 {
     kinds_serve();
     drive(rt, alloc, KindApp(script.facts.kind), script, world)
+}
+
+/// Runs a script with the handler of its kind, as `drive_alone` does with an application.
+pub fn drive_kind_alone<W: World>(
+    alloc: Global,
+    script: &Script,
+    world: &mut W,
+) -> Result<Lines, RunFault>
+    requires rules { KeepsRules script.now }
+    requires none { HasKeptNothing (W.kept world.old) }
+    ensures { Drives (views_of W.Dev.Disk W.Luck.Oracle W.Out.Outlet W.scripted)
+        (handler_of script.now.facts.kind) script.now (W.kept world.new) result }
+{
+    kinds_serve();
+    drive_alone(alloc, KindApp(script.facts.kind), script, world)
 }

@@ -1,12 +1,14 @@
 // How a run ends.
-ghost use Rattle.std.specs.Prelude.{◌≡◌, ◌≢◌, ◌<◌, ◌≤◌, ℕ, length, slice_index_or};
+ghost use Rattle.std.specs.Prelude.{◌≡◌, ◌≢◌, ◌<◌, ◌≤◌, ℕ, length, slice_index_or, Err};
+ghost use Rattle.std.specs.Bool.{Decides};
 ghost use Rattle.ken_model.specs.declared.facts.TheConstants.{MAX_NODES};
 ghost use Rattle.ken_run.specs.declared.station.Station.{Station as Stood};
-ghost use Rattle.ken_drive.specs.Finishing.{WasKept};
+ghost use Rattle.ken_drive.specs.Finishing.{WereKept, WasKept};
 
 use crate::world::World;
 use ken_disk::Disk;
-use ken_run::{Run, Station};
+use ken_model::Lines;
+use ken_run::{Run, RunFault, Station};
 use ken_store::Disks;
 
 /// Gives the devices of a node to the world.
@@ -40,4 +42,29 @@ pub fn finish<W: World, A: Drop>(run: Run<W::Dev, W::Luck, W::Out, A>, world: &m
     for (node, station) in (0..).zip(run.into_stations()) {
         keep_station(station, node, world);
     }
+}
+
+/// Ends a run that has answered so, as `finish` does; but where memory was short nothing is given back. The answer stays.
+pub(crate) fn give_back<W: World, A: Drop>(
+    run: Run<W::Dev, W::Luck, W::Out, A>,
+    answer: Result<Lines, RunFault>,
+    world: &mut W,
+) -> Result<Lines, RunFault>
+    requires { (answer ≡ Err RunFault.Memory → ⊥) → length run.stations.items ≤ MAX_NODES }
+    ensures same { result ≡ answer }
+    ensures given { (answer ≡ Err RunFault.Memory → ⊥) → WereKept run (W.kept world.old) (W.kept world.new) }
+    ensures none { answer ≡ Err RunFault.Memory → (v : ℕ) → W.kept world.new v ≡ W.kept world.old v }
+{
+    if is_short(&answer) {
+        return answer;
+    }
+    finish(run, world);
+    answer
+}
+
+/// Whether memory was short.
+fn is_short(answer: &Result<Lines, RunFault>) -> bool
+    ensures { Decides result (answer.now ≡ Err RunFault.Memory) }
+{
+    matches!(answer, Err(RunFault::Memory))
 }

@@ -12,7 +12,7 @@ mod report;
 mod starting;
 mod world;
 
-pub use driving::{drive, drive_kind};
+pub use driving::{drive, drive_alone, drive_kind, drive_kind_alone};
 pub use finishing::finish;
 pub use ken_run::{Run, RunFault};
 pub use laws::{a_node_is_recovered, ended_runs_keep, kinds_serve};
