@@ -1,3 +1,4 @@
 pub mod Spared
 pub mod Summed
 pub mod Tormented
+pub mod Answered

@@ -6,4 +6,4 @@ mod soaking;
 mod totals;
 
 pub use laws::torment_spares;
-pub use soaking::soak;
+pub use soaking::{soak, soak_alone};

@@ -1,16 +1,14 @@
 // A soak run.
-ghost use Rattle.std.specs.Prelude.{◌≡◌, ◌<◌, ◌≤◌, true, IfErr};
-ghost use Rattle.ken_model.specs.declared.facts.TheConstants.{MAX_INPUTS, MAX_NODES};
-ghost use Rattle.ken_script.specs.declared.scripts.TheConstants.{MAX_ROUNDS};
+ghost use Rattle.std.specs.Prelude.{◌≡◌, ℕ, IfOk};
 ghost use Rattle.ken_drive.specs.Clauses.{views_of};
-ghost use Rattle.ken_drive.specs.Worlds.{HasKeptNothing};
-ghost use Rattle.ken_soak.specs.Soaking.{SoaksBy};
+ghost use Rattle.ken_gen.specs.Summary.{summary};
+ghost use Rattle.ken_soak.specs.Soaking.{IsSoakRun, MaySoak, Soaked};
 
 use crate::totals::totals_of;
-use ken_drive::{RunFault, World, drive_kind};
+use ken_drive::{RunFault, World, drive_kind, drive_kind_alone};
 use ken_gen::{script_of, summary_of};
-use ken_model::Octets;
-use std::alloc::Global;
+use ken_model::{Lines, Octets};
+use std::alloc::{AllocError, Global};
 use std::sync::Wait;
 use std::thread::Threads;
 
@@ -27,17 +25,38 @@ pub fn soak<R: Threads + Wait + Sync, W: World>(
     rounds: u64,
     world: &mut W,
 ) -> Result<Octets, RunFault>
-    requires some { 0 < nodes }
-    requires few_nodes { nodes ≤ MAX_NODES }
-    requires few_inputs { inputs ≤ MAX_INPUTS }
-    requires few_rounds { rounds ≤ MAX_ROUNDS }
-    requires none { HasKeptNothing (W.kept world.old) }
-    ensures soaks { SoaksBy (views_of W.Dev.Disk W.Luck.Oracle W.Out.Outlet W.scripted) (W.kept world.new)
+    requires { MaySoak nodes inputs rounds (W.kept world.old) }
+    ensures { Soaked (views_of W.Dev.Disk W.Luck.Oracle W.Out.Outlet W.scripted) (W.kept world.new)
         seed nodes inputs rounds result }
-    ensures lets { W.scripted ≡ true → IfErr result (λ fault. fault ≡ RunFault.Memory) }
 {
     let script = script_of(alloc, seed, nodes, inputs, rounds)?;
     let lines = drive_kind(rt, alloc, &script, world)?;
-    let totals = totals_of(alloc, &lines)?;
-    Ok(summary_of(alloc, seed, inputs, totals.as_slice())?)
+    Ok(summed_up(alloc, seed, inputs, &lines)?)
+}
+
+/// A soak run as `soak` makes it, with no rounds. It starts no thread and waits for nobody.
+pub fn soak_alone<W: World>(
+    alloc: Global,
+    seed: u64,
+    nodes: u8,
+    inputs: u16,
+    world: &mut W,
+) -> Result<Octets, RunFault>
+    requires { MaySoak nodes inputs 0 (W.kept world.old) }
+    ensures { Soaked (views_of W.Dev.Disk W.Luck.Oracle W.Out.Outlet W.scripted) (W.kept world.new)
+        seed nodes inputs 0 result }
+{
+    let script = script_of(alloc, seed, nodes, inputs, 0)?;
+    let lines = drive_kind_alone(alloc, &script, world)?;
+    Ok(summed_up(alloc, seed, inputs, &lines)?)
+}
+
+/// The summary of what the nodes of a soak run came to.
+fn summed_up(alloc: Global, seed: u64, inputs: u16, lines: &Lines) -> Result<Octets, AllocError>
+    requires { (nodes : ℕ) × IsSoakRun seed nodes inputs lines.now }
+    ensures { (nodes : ℕ) → IsSoakRun seed nodes inputs lines.now
+        → IfOk result (λ text. text ≡ summary seed nodes inputs) }
+{
+    let totals = totals_of(alloc, lines)?;
+    summary_of(alloc, seed, inputs, totals.as_slice())
 }
