@@ -5,3 +5,4 @@ pub mod Checked
 pub mod Pieces
 pub mod Statuses
 pub mod Soaks
+pub mod Does

@@ -3,6 +3,8 @@ ghost use Rattle.ken_top.specs.Programs.{kinds};
 
 use crate::cast::Cast;
 use ken_actors::KindPlayer;
+use ken_apps::KindApp;
+use ken_drive::kinds_serve;
 use ken_script::{Script, ScriptFault, read};
 use std::alloc::Global;
 
@@ -11,6 +13,8 @@ use std::alloc::Global;
 pub(crate) struct Kinds;
 
 impl Cast for Kinds {
+    type App = KindApp;
+
     type Player = KindPlayer;
 
     ghost program = { λ _. kinds };
@@ -18,6 +22,11 @@ impl Cast for Kinds {
     #[tactic(auto, using(crate::proofs::Reported::fault_of_kinds))]
     fn read(&self, alloc: Global, bytes: &[u8]) -> Result<Script, ScriptFault> {
         read(alloc, bytes)
+    }
+
+    fn app(self, script: &Script) -> KindApp {
+        kinds_serve();
+        KindApp(script.facts.kind)
     }
 
     fn player(self, script: &Script) -> KindPlayer {

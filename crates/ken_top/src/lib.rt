@@ -4,6 +4,7 @@
 
 mod cast;
 mod checking;
+mod doing;
 mod incoming;
 mod kinds;
 mod running;
@@ -13,6 +14,6 @@ mod status;
 mod top;
 
 pub use checking::MOST_INPUT;
-pub use service::serve;
+pub use service::{serve, serve_alone};
 pub use status::Status;
-pub use top::ken;
+pub use top::{ken, ken_alone};

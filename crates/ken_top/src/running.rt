@@ -1,22 +1,102 @@
-// A script is read, and the report of its run written.
-ghost use Rattle.std.specs.Prelude.{◌≡◌, ◌≢◌, ◌+◌, ◌≤◌, IfOk, IfErr, IsErrOf};
+// A script is read and run, and the report of its run written.
+ghost use Rattle.std.specs.Prelude.{◌≡◌, ◌≢◌, ◌+◌, ◌≤◌, IfOk, IfErr, OnOk, IsErrOf};
 ghost use Rattle.ken_io.specs.Causes.{Rose};
 ghost use Rattle.ken_io.specs.Transfers.{TakesAtMost};
 ghost use Rattle.ken_script.specs.Within.{KeepsRules};
+ghost use Rattle.ken_drive.specs.Clauses.{views_of};
+ghost use Rattle.ken_drive.specs.Worlds.{HasKeptNothing};
+ghost use Rattle.ken_top.specs.Does.{PlaysSource, ReportsSource};
 ghost use Rattle.ken_top.specs.Headline.{IsOut, IsScriptOf, IsUnsaid};
 ghost use Rattle.ken_top.specs.Programs.{by_seed, drawn_by};
 
 use crate::cast::Cast;
 use crate::status::Status;
+use ken_drive::{World, drive, drive_alone};
 use ken_gen::torment;
 use ken_io::{Sink, Source, read_all};
 use ken_model::Lines;
 use ken_report::print;
 use ken_script::{LIMIT, Script};
 use std::alloc::{AllocError, Global};
+use std::sync::Wait;
+use std::thread::Threads;
+
+/// Reads a script, with the faults of a seed where there is one, runs it, and writes its report.
+pub(crate) fn ran<R: Threads + Wait + Sync, C: Cast, S: Source, K: Sink, W: World>(
+    rt: &R,
+    alloc: Global,
+    cast: C,
+    seed: Option<u64>,
+    source: &mut S,
+    sink: &mut K,
+    world: &mut W,
+) -> Status
+    requires { HasKeptNothing (W.kept world.old) }
+    ensures { ReportsSource S.Source K.Sink (by_seed seed (C.program cast))
+        (views_of W.Dev.Disk W.Luck.Oracle W.Out.Outlet W.scripted) (W.kept world.new)
+        source.old source.new sink.old sink.new result }
+{
+    let run = run(rt, alloc, cast, seed, source, world);
+    reported(alloc, sink, run)
+}
+
+/// Does what `ran` does, with no rounds.
+pub(crate) fn ran_alone<C: Cast, S: Source, K: Sink, W: World>(
+    alloc: Global,
+    cast: C,
+    seed: Option<u64>,
+    source: &mut S,
+    sink: &mut K,
+    world: &mut W,
+) -> Status
+    requires { HasKeptNothing (W.kept world.old) }
+    ensures { ReportsSource S.Source K.Sink (by_seed seed (C.program cast))
+        (views_of W.Dev.Disk W.Luck.Oracle W.Out.Outlet W.scripted) (W.kept world.new)
+        source.old source.new sink.old sink.new result }
+{
+    let run = run_alone(alloc, cast, seed, source, world);
+    reported(alloc, sink, run)
+}
+
+/// Reads a script and runs it.
+fn run<R: Threads + Wait + Sync, C: Cast, S: Source, W: World>(
+    rt: &R,
+    alloc: Global,
+    cast: C,
+    seed: Option<u64>,
+    source: &mut S,
+    world: &mut W,
+) -> Result<Lines, Status>
+    requires { HasKeptNothing (W.kept world.old) }
+    ensures { PlaysSource S.Source (by_seed seed (C.program cast))
+        (views_of W.Dev.Disk W.Luck.Oracle W.Out.Outlet W.scripted) (W.kept world.new)
+        source.old source.new result }
+{
+    let script = said(&cast, seed, alloc, source)?;
+    let lines = drive(rt, alloc, cast.app(&script), &script, world)?;
+    Ok(lines)
+}
+
+/// Reads a script and runs it with no rounds.
+fn run_alone<C: Cast, S: Source, W: World>(
+    alloc: Global,
+    cast: C,
+    seed: Option<u64>,
+    source: &mut S,
+    world: &mut W,
+) -> Result<Lines, Status>
+    requires { HasKeptNothing (W.kept world.old) }
+    ensures { PlaysSource S.Source (by_seed seed (C.program cast))
+        (views_of W.Dev.Disk W.Luck.Oracle W.Out.Outlet W.scripted) (W.kept world.new)
+        source.old source.new result }
+{
+    let script = said(&cast, seed, alloc, source)?;
+    let lines = drive_alone(alloc, cast.app(&script), &script, world)?;
+    Ok(lines)
+}
 
 /// Reads a script of a program, and puts the faults of a seed behind its own, where there is a seed.
-pub(crate) fn said<C: Cast, S: Source>(
+fn said<C: Cast, S: Source>(
     cast: &C,
     seed: Option<u64>,
     alloc: Global,
@@ -48,8 +128,22 @@ fn with_faults(seed: Option<u64>, script: Script) -> Result<Script, AllocError>
     }
 }
 
+/// Writes the report of a run, or answers why there is none.
+fn reported<K: Sink>(alloc: Global, sink: &mut K, run: Result<Lines, Status>) -> Status
+    ensures out { IfOk run (λ lines. IsOut (K.took sink.old) (K.took sink.new) lines result) }
+    ensures refused { IfErr run (λ status. (result ≡ status) × (sink.new ≡ sink.old)) }
+    ensures write { OnOk run (result ≡ Status.Write → Rose (K.faults sink.old) (K.faults sink.new)) }
+    ensures no_failed_write { OnOk run (result ≢ Status.Write → K.faults sink.new ≡ K.faults sink.old) }
+    ensures faults { K.faults sink.old ≤ K.faults sink.new }
+{
+    match run {
+        Ok(lines) => written(alloc, sink, &lines),
+        Err(status) => status,
+    }
+}
+
 /// Writes a report, and answers how its run ended.
-pub(crate) fn written<K: Sink>(alloc: Global, sink: &mut K, lines: &Lines) -> Status
+fn written<K: Sink>(alloc: Global, sink: &mut K, lines: &Lines) -> Status
     ensures out { IsOut (K.took sink.old) (K.took sink.new) lines.now result }
     ensures write { result ≡ Status.Write → Rose (K.faults sink.old) (K.faults sink.new) }
     ensures no_failed_write { result ≢ Status.Write → K.faults sink.new ≡ K.faults sink.old }

@@ -1,17 +1,17 @@
 // A soak run, and its summary.
-ghost use Rattle.std.specs.Prelude.{◌≡◌, ◌≢◌, ◌<◌, ◌≤◌, true};
+ghost use Rattle.std.specs.Prelude.{◌≡◌, ◌≢◌, ◌≤◌, IfOk, IfErr, OnOk};
 ghost use Rattle.ken_io.specs.Causes.{Rose};
-ghost use Rattle.ken_model.specs.declared.facts.TheConstants.{MAX_INPUTS, MAX_NODES};
-ghost use Rattle.ken_script.specs.declared.scripts.TheConstants.{MAX_ROUNDS};
 ghost use Rattle.ken_drive.specs.Clauses.{views_of};
-ghost use Rattle.ken_drive.specs.Worlds.{HasKeptNothing};
-ghost use Rattle.ken_top.specs.Headline.{IsQuiet};
-ghost use Rattle.ken_top.specs.Soaks.{IsSummedUp, IsThrough, Soaks};
+ghost use Rattle.ken_soak.specs.Soaking.{MaySoak};
+ghost use Rattle.ken_top.specs.Does.{SumsUp};
+ghost use Rattle.ken_top.specs.Soaks.{IsSummedUp};
+ghost use Rattle.ken_top.specs.Statuses.{of_running};
 
 use crate::status::Status;
-use ken_drive::World;
+use ken_drive::{RunFault, World};
 use ken_io::{Sink, write_all};
-use ken_soak::soak;
+use ken_model::Octets;
+use ken_soak::{soak, soak_alone};
 use std::alloc::Global;
 use std::sync::Wait;
 use std::thread::Threads;
@@ -27,27 +27,47 @@ pub(crate) fn soaked<R: Threads + Wait + Sync, K: Sink, W: World>(
     sink: &mut K,
     world: &mut W,
 ) -> Status
-    requires some { 0 < nodes }
-    requires few_nodes { nodes ≤ MAX_NODES }
-    requires few_inputs { inputs ≤ MAX_INPUTS }
-    requires few_rounds { rounds ≤ MAX_ROUNDS }
-    requires none { HasKeptNothing (W.kept world.old) }
-    ensures soaks { Soaks (views_of W.Dev.Disk W.Luck.Oracle W.Out.Outlet W.scripted) (W.kept world.new)
-        seed nodes inputs rounds (K.took sink.old) (K.took sink.new) result }
-    ensures through { W.scripted ≡ true → result ≢ Status.Write → IsThrough result }
-    ensures write { result ≡ Status.Write → Rose (K.faults sink.old) (K.faults sink.new) }
-    ensures no_failed_write { result ≢ Status.Write → K.faults sink.new ≡ K.faults sink.old }
-    ensures faults { K.faults sink.old ≤ K.faults sink.new }
-    ensures unwritten { IsQuiet result → sink.new ≡ sink.old }
+    requires { MaySoak nodes inputs rounds (W.kept world.old) }
+    ensures { SumsUp K.Sink (views_of W.Dev.Disk W.Luck.Oracle W.Out.Outlet W.scripted) (W.kept world.new)
+        seed nodes inputs rounds sink.old sink.new result }
 {
-    match soak(rt, alloc, seed, nodes, inputs, rounds, world) {
-        Ok(text) => summed_up(sink, text.as_slice()),
+    let soak = soak(rt, alloc, seed, nodes, inputs, rounds, world);
+    summed_up(sink, soak)
+}
+
+/// Does what `soaked` does, with no rounds.
+pub(crate) fn soaked_alone<K: Sink, W: World>(
+    alloc: Global,
+    seed: u64,
+    nodes: u8,
+    inputs: u16,
+    sink: &mut K,
+    world: &mut W,
+) -> Status
+    requires { MaySoak nodes inputs 0 (W.kept world.old) }
+    ensures { SumsUp K.Sink (views_of W.Dev.Disk W.Luck.Oracle W.Out.Outlet W.scripted) (W.kept world.new)
+        seed nodes inputs 0 sink.old sink.new result }
+{
+    let soak = soak_alone(alloc, seed, nodes, inputs, world);
+    summed_up(sink, soak)
+}
+
+/// Writes the summary of a soak, or answers why there is none.
+fn summed_up<K: Sink>(sink: &mut K, soak: Result<Octets, RunFault>) -> Status
+    ensures out { IfOk soak (λ text. IsSummedUp text (K.took sink.old) (K.took sink.new) result) }
+    ensures refused { IfErr soak (λ fault. (result ≡ of_running fault) × (sink.new ≡ sink.old)) }
+    ensures write { OnOk soak (result ≡ Status.Write → Rose (K.faults sink.old) (K.faults sink.new)) }
+    ensures no_failed_write { OnOk soak (result ≢ Status.Write → K.faults sink.new ≡ K.faults sink.old) }
+    ensures faults { K.faults sink.old ≤ K.faults sink.new }
+{
+    match soak {
+        Ok(text) => written(sink, text.as_slice()),
         Err(fault) => Status::from(fault),
     }
 }
 
 /// Writes a summary.
-fn summed_up<K: Sink>(sink: &mut K, text: &[u8]) -> Status
+fn written<K: Sink>(sink: &mut K, text: &[u8]) -> Status
     ensures out { IsSummedUp text.now (K.took sink.old) (K.took sink.new) result }
     ensures write { result ≡ Status.Write → Rose (K.faults sink.old) (K.faults sink.new) }
     ensures no_failed_write { result ≢ Status.Write → K.faults sink.new ≡ K.faults sink.old }
