@@ -4,6 +4,7 @@ use Rattle.std.specs.declared.sync.Arc.{Arc}
 use Rattle.ken_disk.specs.declared.disk.Disk as disk
 use Rattle.ken_disk.specs.Story.{Story, Follows}
 use Rattle.ken_disk.specs.Steps.{after_writing, after_syncing}
+use Rattle.ken_image.specs.declared.image.Image.{Image}
 use Rattle.ken_image.specs.Calls.{Call, Called, Sync, Write, after_calls}
 use Rattle.ken_store.specs.declared.disks.Disks.{Disks}
 use Rattle.ken_store.specs.declared.patching.Ahead.{Ahead}
@@ -87,10 +88,10 @@ module _ {D : Type 0} (d : disk.Ghosts D) where
       by : PatchesOnce d.told d.size d.faults d.fate (Ok true) a b → Takes b × Adds 1 (image a) (image b)
       by (went mid over same is) =
           let before : Takes mid = over.handed.takes takes in
-          let one_call = one-write mid.side.known mid.side.ahead.items before.side.order (is.more.0 tt) in
+          let one_call = one-write mid.side.known mid.side.ahead.items before.side.order (is.more.0 refl) in
           let adds = all-add true (patch_calls mid.side.ahead.items) (image mid) (image b) is.calls in
-          (is.takes, subst (λ i. Adds 1 (d.told i.disk) (image b)) over.handed.image (adds-fewer 1 _ (image mid) (image b) (omega (arith, one_call)) adds))
-      by (no_room no taken) = absurd no
+          (is.takes, subst (λ (i : Image D). Adds 1 (d.told i.disk) (image b)) over.handed.image (adds-fewer 1 _ (image mid) (image b) (omega (arith, one_call)) adds))
+      by (no_room err taken) = absurd cc
 
   look-adds : (a b : PatchWorker D) → Patches d (Ok false) a b → Takes a → Takes b × Adds 0 (image a) (image b)
   look-adds a b one takes = by one.patches
@@ -98,8 +99,8 @@ module _ {D : Type 0} (d : disk.Ghosts D) where
       by : PatchesOnce d.told d.size d.faults d.fate (Ok false) a b → Takes b × Adds 0 (image a) (image b)
       by (went mid over same is) =
           let adds = all-add false (patch_calls mid.side.ahead.items) (image mid) (image b) is.calls in
-          (is.takes, subst (λ i. Adds 0 (d.told i.disk) (image b)) over.handed.image (adds-fewer 0 _ (image mid) (image b) (omega arith) adds))
-      by (no_room no taken) = absurd no
+          (is.takes, subst (λ (i : Image D). Adds 0 (d.told i.disk) (image b)) over.handed.image (adds-fewer 0 _ (image mid) (image b) (omega arith) adds))
+      by (no_room err taken) = absurd cc
 
   sync-adds : (a b : PatchWorker D) → Settles d (Ok tt) a b → Takes b × Adds 1 (image a) (image b)
   sync-adds a b one = (one.settles.takes, all-add tt (Sync ∷ []) (image a) (image b) one.settles.calls)
