@@ -5,6 +5,7 @@ use Rattle.ken_model.specs.declared.values.Block.{Block}
 use Rattle.ken_model.specs.declared.values.Value.{Value}
 use Rattle.ken_model.specs.Effects.{answered}
 use Rattle.ken_model.specs.KeyValue.{get_from, pair_of}
+use Rattle.ken_alloc.specs.Objects.{Heap}
 use Rattle.ken_app.specs.Turning.{IsAllowed}
 use Rattle.ken_apps.proofs.kv.get.Goals as goal
 
@@ -19,7 +20,7 @@ returns-in-Some-clause-effect g c =
     let value = c.args.turn.now.objects.now.value in
     let key = c.args.key.now in
     let pair = c.in-Some.ensures.text in
-    let found : pair_of key value.blocks ≡ Some pair.0 = rw c.objects.ensures.heap at pair.1 in
+    let found : pair_of key value.blocks ≡ Some pair.0 = subst (λ blocks. pair_of key blocks ≡ Some pair.0) (ap (λ (h : Heap). h.value.blocks) c.objects.ensures.heap) pair.1 in
     on_ok_weaker c.output_text.result
     (λ ok allowed. by_front _ value key (pair_of key value.blocks) pair.0 c.in-Some.text.now found pair.2 allowed ∙ search rules)
     c.output_text.ensures.ok
