@@ -47,11 +47,11 @@ use Rattle.ken_drive.proofs.CutsMet.{raised-met, unwatched-met}
 use Rattle.ken_drive.proofs.Recovering.{up-recovers, up-image}
 
 -- an element of a list
-record HasElement {A : Type 0} (xs : List A) (v : ℕ) : Type 0 where
-  element : A
-  is : slice_index_or xs v element ≡ element
+pub record HasElement {A : Type 0} (xs : List A) (v : ℕ) : Type 0 where
+  pub element : A
+  pub is : slice_index_or xs v element ≡ element
 
-element-at : {A : Type 0} (xs : List A) (v : ℕ) → v < length xs → HasElement xs v
+pub element-at : {A : Type 0} (xs : List A) (v : ℕ) → v < length xs → HasElement xs v
 element-at [] v low = absurd (omega (arith, low))
 element-at (x ∷ xs) zero low = record { element = x; is = refl }
 element-at (x ∷ xs) (suc v) low = let rest = element-at xs v (omega (arith, low)) in record { element = rest.element; is = rest.is }
@@ -77,7 +77,7 @@ module _ {D O U : Type 0} where
       ∙ ap (λ (xs : List RestartLine). map (λ (l : RestartLine). l.turns) xs ++ restarts_of v (restarts_from (u + 1) ss)) (lines-there u v s.lines.items (λ same. omega (arith, same, low)))
       ∙ restarts-past v (u + 1) ss (omega (arith, low))
 
-  restarts-at : (v u : ℕ) (ss : List (Station D O U)) (s : Station D O U) → slice_index_or ss v s ≡ s → v < length ss → restarts_of (u + v) (restarts_from u ss) ≡ s.lines.items
+  pub restarts-at : (v u : ℕ) (ss : List (Station D O U)) (s : Station D O U) → slice_index_or ss v s ≡ s → v < length ss → restarts_of (u + v) (restarts_from u ss) ≡ s.lines.items
   restarts-at v u [] s is low = absurd (omega (arith, low))
   restarts-at zero u (x ∷ ss) s is low =
       let at : u + zero ≡ u = omega arith in

@@ -13,6 +13,7 @@ pub mod RestartOrder
 pub mod EndingRun
 pub mod CutsMet
 pub mod Keeping
+pub mod Made
 pub mod Giving
 pub mod StartingDevices
 pub mod StartingAll

@@ -28,6 +28,7 @@ use Rattle.ken_store.specs.Recovered.{Whole}
 use Rattle.ken_store.specs.Standing.{RecoversTo}
 use Rattle.ken_store.specs.Turning.{state_in, turn_pages}
 use Rattle.ken_node.specs.declared.stage.Stage.{Stage}
+use Rattle.ken_node.specs.declared.stage.Stage.TheVariants.{Created, Moved, Uncreated}
 use Rattle.ken_whole.specs.New.{owner_of}
 use Rattle.ken_work.specs.Patches.{waits_of}
 use Rattle.ken_work.specs.declared.items.Frozen.{Frozen}
@@ -46,6 +47,12 @@ taken-of u v n ts are = ap (consumed_from u) are ∙ consumed-sealed u v ts
 image-from : {D : Type 0} (which : Which) (current image other : D) → (disks_from which current image other).image ≡ image
 image-from First current image other = refl
 image-from Second current image other = refl
+
+-- and what it tells
+pub image-of : {D : Type 0} (told : D → Option Story) (disks : Disks D) (stage : Stage D) → HasDisks disks stage → image_told told stage ≡ told disks.image
+image-of {D} told disks (Uncreated own parts) has = ap (λ (ds : Disks D). told ds.image) (sym has)
+image-of {D} told disks (Created t p s) has = ap told (sym (ap (λ (ds : Disks D). ds.image) has ∙ image-from t.side.which t.side.log.disk p.side.image.disk t.side.other))
+image-of told disks Moved has = absurd has
 
 module _ {D : Type 0} (told : D → Option Story) (size : D → ℕ) (g : Game) (v : ℕ) (nodes : ℕ → Node) (emissions : List Emission) (lines : List TurnLine) (stage : Stage D)
     (accord : Accord g (group_of g nodes emissions)) (played : IsPlayedBy g (group_of g nodes emissions) lines) (up : IsUp told size g v (nodes v) stage)

@@ -151,13 +151,13 @@ module _ {D O U : Type 0} (views : Views D O U) (h : Handler) (script : Script) 
 
   -- ---- at the start
 
-  module _ {A : Type 0} (kept : ℕ → Option (Disks D × O × U)) (size : Watched D → ℕ) (handles : A → Handler) where
+  module _ {A : Type 0} (made : ℕ) (kept : ℕ → Option (Disks D × O × U)) (size : Watched D → ℕ) (handles : A → Handler) where
     pub start-drives : (result : Result Lines RunFault) (fault : RunFault) → IsErrAnd result (λ e. e ≡ fault)
         → StartsBy (λ w. views.told w.disk) size views.took handles scripted views.telling views.refused calls h script (Err fault) kept
         → StartsAccountsBy (λ w. views.told w.disk) (λ w. views.faults w.disk) falls views.telling (terms_of scripted script) (game_by h script) {A = A} (Err fault) kept
-        → DrivesBy views h script kept result
+        → DrivesBy views h script made kept result
     start-drives (Ok x) fault same starts accounts = absurd same
-    start-drives (Err e) (Down v) same starts accounts = subst (λ (x : RunFault). DrivesBy views h script kept (Err x)) (sym same) (record {
+    start-drives (Err e) (Down v) same starts accounts = subst (λ (x : RunFault). DrivesBy views h script made kept (Err x)) (sym same) (record {
       made = v + 1;
       known = omega arith;
       few = omega (arith, starts.0);
@@ -175,7 +175,7 @@ module _ {D O U : Type 0} (views : Views D O U) (h : Handler) (script : Script) 
           (cases_eq u v);
       others = λ u high. starts.2 u (omega (arith, high));
     })
-    start-drives (Err e) Memory same starts accounts = subst (λ (x : RunFault). DrivesBy views h script kept (Err x)) (sym same) starts
+    start-drives (Err e) Memory same starts accounts = subst (λ (x : RunFault). DrivesBy views h script made kept (Err x)) (sym same) starts
     start-drives (Err e) (Damaged v disk place) same starts accounts = absurd starts
 
     pub start-lets : (result : Result Lines RunFault) (fault : RunFault) → scripted ≡ true → IsErrAnd result (λ e. e ≡ fault)
@@ -213,8 +213,8 @@ module _ {D O U : Type 0} (views : Views D O U) (h : Handler) (script : Script) 
         stopped.cause
 
   -- a run that was driven and may not go on, where its devices are kept
-  module _ {A : Type 0} (size : Watched D → ℕ) (handles : A → Handler) (r : Run D O U A) (kept : ℕ → Option (Disks D × O × U)) (given : (v : ℕ) (d : Station D O U) → v < length r.stations.items → WasKept (slice_index_or r.stations.items v d) (kept v)) where
-    pub end-drives : ((v : ℕ) → length r.stations.items ≤ v → kept v ≡ None) → (fault : RunFault) → (fault ≡ Memory → ⊥) → EndsBy (λ w. views.told w.disk) size (λ w. views.faults w.disk) falls views.telling views.took handles views.refused calls (terms_of scripted script) (game_by h script) (Err fault) r → DrivesBy views h script kept (Err fault)
+  module _ {A : Type 0} (made : ℕ) (size : Watched D → ℕ) (handles : A → Handler) (r : Run D O U A) (kept : ℕ → Option (Disks D × O × U)) (given : (v : ℕ) (d : Station D O U) → v < length r.stations.items → WasKept (slice_index_or r.stations.items v d) (kept v)) where
+    pub end-drives : ((v : ℕ) → length r.stations.items ≤ v → kept v ≡ None) → (fault : RunFault) → (fault ≡ Memory → ⊥) → EndsBy (λ w. views.told w.disk) size (λ w. views.faults w.disk) falls views.telling views.took handles views.refused calls (terms_of scripted script) (game_by h script) (Err fault) r → DrivesBy views h script made kept (Err fault)
     end-drives others (Down v) not stopped =
         let known = low size handles v r stopped in
         let width = stopped.width in

@@ -1,9 +1,9 @@
 // A whole run.
-ghost use Rattle.std.specs.Prelude.{◌≡◌, ◌<◌, OnOk};
+ghost use Rattle.std.specs.Prelude.{◌≡◌, ◌*◌, ◌<◌, OnOk};
 ghost use Rattle.ken_model.specs.Kinds.{handler_of};
 ghost use Rattle.ken_script.specs.Within.{KeepsRules};
 ghost use Rattle.ken_drive.specs.Driven.{Drives};
-ghost use Rattle.ken_run.specs.Patched.{HaveImages};
+ghost use Rattle.ken_run.specs.Patched.{AddStates, HaveImages};
 ghost use Rattle.ken_drive.specs.Starting.{Serves};
 ghost use Rattle.ken_drive.specs.Worlds.{HasKeptNothing};
 ghost use Rattle.ken_run.specs.Clauses.{Drains};
@@ -36,6 +36,7 @@ fn told<D: Disk, O: Oracle, U: Outlet, A: App>(
     requires { Drains D.Disk U.Outlet A.App run.old }
     ensures tells { TellsRun D.Disk O.Oracle U.Outlet A.App run.old result run.new }
     ensures images { OnOk result (HaveImages ⟦<Watched<D> as Disk>⟧.told run.new) }
+    ensures states { AddStates ⟦<Watched<D> as Disk>⟧.told 0 run.old result run.new }
 {
     run.drain()?;
     Ok(lines(alloc, run)?)
@@ -57,6 +58,7 @@ where
     requires { Drains D.Disk U.Outlet A.App run.old }
     ensures tells { TellsRun D.Disk O.Oracle U.Outlet A.App run.old result run.new }
     ensures images { OnOk result (HaveImages ⟦<Watched<D> as Disk>⟧.told run.new) }
+    ensures states { AddStates ⟦<Watched<D> as Disk>⟧.told (16 * rounds) run.old result run.new }
 {
     threaded(rt, alloc, run, rounds, &OpenGate)?;
     told(alloc, run)
@@ -77,7 +79,7 @@ pub fn drive<R: Threads + Wait + Sync, W: World, A: App + Sync + Drop>(
     requires serves { Serves (A.handler app) script.now }
     requires rules { KeepsRules script.now }
     requires none { HasKeptNothing (W.kept world.old) }
-    ensures { Drives (views_of W.Dev.Disk W.Luck.Oracle W.Out.Outlet W.scripted) (A.handler app) script.now
+    ensures { Drives (views_of W.Dev.Disk W.Luck.Oracle W.Out.Outlet W.scripted) (A.handler app) script.now script.now.rounds
         (W.kept world.new) result }
 {
     if script.rounds == 0 {
@@ -99,7 +101,7 @@ pub fn drive_alone<W: World, A: App + Drop>(
     requires serves { Serves (A.handler app) script.now }
     requires rules { KeepsRules script.now }
     requires none { HasKeptNothing (W.kept world.old) }
-    ensures { Drives (views_of W.Dev.Disk W.Luck.Oracle W.Out.Outlet W.scripted) (A.handler app) script.now
+    ensures { Drives (views_of W.Dev.Disk W.Luck.Oracle W.Out.Outlet W.scripted) (A.handler app) script.now 0
         (W.kept world.new) result }
 {
     ended_runs_keep::<W::Dev, W::Luck, W::Out, A>();
@@ -118,7 +120,7 @@ pub fn drive_kind<R: Threads + Wait + Sync, W: World>(
     requires rules { KeepsRules script.now }
     requires none { HasKeptNothing (W.kept world.old) }
     ensures { Drives (views_of W.Dev.Disk W.Luck.Oracle W.Out.Outlet W.scripted)
-        (handler_of script.now.facts.kind) script.now (W.kept world.new) result }
+        (handler_of script.now.facts.kind) script.now script.now.rounds (W.kept world.new) result }
 {
     kinds_serve();
     drive(rt, alloc, KindApp(script.facts.kind), script, world)
@@ -133,7 +135,7 @@ pub fn drive_kind_alone<W: World>(
     requires rules { KeepsRules script.now }
     requires none { HasKeptNothing (W.kept world.old) }
     ensures { Drives (views_of W.Dev.Disk W.Luck.Oracle W.Out.Outlet W.scripted)
-        (handler_of script.now.facts.kind) script.now (W.kept world.new) result }
+        (handler_of script.now.facts.kind) script.now 0 (W.kept world.new) result }
 {
     kinds_serve();
     drive_alone(alloc, KindApp(script.facts.kind), script, world)

@@ -1,5 +1,8 @@
 -- A run of a script, from its start to its end.
 use mir.Syntax.{of_param}
+use Rattle.std.proofs.Common.{ℕ, sym, subst}
+use Rattle.ken_drive.specs.Clauses.{views_of}
+use Rattle.ken_drive.specs.Driven.{Drives}
 use Rattle.ken_drive.proofs.Acts.{script-modest}
 use Rattle.ken_drive.proofs.Answering.{driven, few-nodes, may-drain, unstarted}
 use Rattle.ken_drive.proofs.driving.drive.Goals as goal
@@ -18,8 +21,11 @@ give_back-requires g c = (record { owned = c.type_bounds.send-W-Dev.owned; leavi
 
 pub returns : goal.returns
 returns g c =
-    driven g.W.Dev.Disk g.W.Luck.Oracle g.W.Out.Outlet g.A.App g.W.World.scripted (g.A.App.handler c.args.app) c.args.script.now c.requires.rules c.in_ok-run.run' (g.W.World.kept c.start.new.world) (c.in_ok-run.ensures.starts) c.in_ok-run.ensures.accounts c.in_ok-run.ensures.refused c.told_by_rounds.result c.told_by_rounds.new.run c.told_by_rounds.ensures.tells (g.W.World.kept c.give_back.new.world) (c.ended_runs_keep.ensures g.W.World.scripted)
-    c.told_by_rounds.ensures.images c.give_back.ensures.given c.give_back.ensures.none c.give_back.result c.give_back.ensures.same
+    driven g.W.Dev.Disk g.W.Luck.Oracle g.W.Out.Outlet g.A.App g.W.World.scripted (g.A.App.handler c.args.app) c.args.script.now c.requires.rules c.in_ok-run.run' (g.W.World.kept c.start.new.world) (c.in_ok-run.ensures.starts) c.in_ok-run.ensures.accounts c.in_ok-run.ensures.refused c.told_by_rounds.result c.told_by_rounds.new.run c.told_by_rounds.ensures.tells c.args.script.now.rounds (g.W.World.kept c.give_back.new.world) (c.ended_runs_keep.ensures g.W.World.scripted)
+    c.told_by_rounds.ensures.images c.told_by_rounds.ensures.states c.give_back.ensures.given c.give_back.ensures.none c.give_back.result c.give_back.ensures.same
 
 pub returns-in_err-run : goal.returns-in_err-run
-returns-in_err-run g c = unstarted g.W.Dev.Disk g.W.Luck.Oracle g.W.Out.Outlet g.A.App g.W.World.scripted (g.A.App.handler c.args.app) c.args.script.now c.requires.rules (g.W.World.kept c.start.new.world) c.from_residual.result c.in_err-run.field-0.0 c.from_residual.ensures.1 c.in_err-run.ensures.starts c.in_err-run.ensures.accounts
+returns-in_err-run g c = unstarted g.W.Dev.Disk g.W.Luck.Oracle g.W.Out.Outlet g.A.App g.W.World.scripted (g.A.App.handler c.args.app) c.args.script.now c.requires.rules c.args.script.now.rounds (g.W.World.kept c.start.new.world) c.from_residual.result c.in_err-run.field-0.0 c.from_residual.ensures.1 c.in_err-run.ensures.starts c.in_err-run.ensures.accounts
+
+pub returns-then-eq : goal.returns-then-eq
+returns-then-eq g c = subst (λ (n : ℕ). Drives (views_of g.W.Dev.Disk g.W.Luck.Oracle g.W.Out.Outlet g.W.World.scripted) (g.A.App.handler c.args.app) c.args.script.now n (g.W.World.kept c.drive_alone.new.world) c.drive_alone.result) (sym c.if-eq.true) c.drive_alone.ensures

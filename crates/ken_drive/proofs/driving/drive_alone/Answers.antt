@@ -15,8 +15,8 @@ give_back-requires g c = (record { owned = c.type_bounds.send-W-Dev.owned; leavi
 
 pub returns : goal.returns
 returns g c =
-    driven g.W.Dev.Disk g.W.Luck.Oracle g.W.Out.Outlet g.A.App g.W.World.scripted (g.A.App.handler c.args.app) c.args.script.now c.requires.rules c.in_ok-run.run' (g.W.World.kept c.start.new.world) (c.in_ok-run.ensures.starts) c.in_ok-run.ensures.accounts c.in_ok-run.ensures.refused c.told.result c.told.new.run c.told.ensures.tells (g.W.World.kept c.give_back.new.world) (c.ended_runs_keep.ensures g.W.World.scripted)
-    c.told.ensures.images c.give_back.ensures.given c.give_back.ensures.none c.give_back.result c.give_back.ensures.same
+    driven g.W.Dev.Disk g.W.Luck.Oracle g.W.Out.Outlet g.A.App g.W.World.scripted (g.A.App.handler c.args.app) c.args.script.now c.requires.rules c.in_ok-run.run' (g.W.World.kept c.start.new.world) (c.in_ok-run.ensures.starts) c.in_ok-run.ensures.accounts c.in_ok-run.ensures.refused c.told.result c.told.new.run c.told.ensures.tells 0 (g.W.World.kept c.give_back.new.world) (c.ended_runs_keep.ensures g.W.World.scripted)
+    c.told.ensures.images c.told.ensures.states c.give_back.ensures.given c.give_back.ensures.none c.give_back.result c.give_back.ensures.same
 
 pub returns-in_err-run : goal.returns-in_err-run
-returns-in_err-run g c = unstarted g.W.Dev.Disk g.W.Luck.Oracle g.W.Out.Outlet g.A.App g.W.World.scripted (g.A.App.handler c.args.app) c.args.script.now c.requires.rules (g.W.World.kept c.start.new.world) c.from_residual.result c.in_err-run.field-0.0 c.from_residual.ensures.1 c.in_err-run.ensures.starts c.in_err-run.ensures.accounts
+returns-in_err-run g c = unstarted g.W.Dev.Disk g.W.Luck.Oracle g.W.Out.Outlet g.A.App g.W.World.scripted (g.A.App.handler c.args.app) c.args.script.now c.requires.rules 0 (g.W.World.kept c.start.new.world) c.from_residual.result c.in_err-run.field-0.0 c.from_residual.ensures.1 c.in_err-run.ensures.starts c.in_err-run.ensures.accounts

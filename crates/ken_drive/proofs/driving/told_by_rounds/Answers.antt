@@ -1,6 +1,8 @@
 -- A run makes its rounds, is drained, and tells what it says.
 use denote.Param.Send.{sendable}
+use Rattle.std.proofs.Common.{◌*◌}
 use Rattle.ken_threads.proofs.gate.OpenGate.TheSendSync.{the_sync as open_gate}
+use Rattle.ken_drive.proofs.Answering.{added}
 use Rattle.ken_drive.proofs.Stopping.{rounds-failed}
 use Rattle.ken_drive.proofs.driving.told_by_rounds.Goals as goal
 
@@ -16,6 +18,9 @@ pub returns-clause-tells : goal.returns-clause-tells
 returns-clause-tells g c = λ terms game made running all accounted are plain.
     let rounded = c.in_ok-threaded.ensures in
     c.told.ensures.tells terms game made (rounded.leaves game made running all) all (rounded.accounts terms game made running all accounted) (rounded.refused terms game made running all are) plain
+
+pub returns-clause-states : goal.returns-clause-states
+returns-clause-states g c = added (λ w. g.D.Disk.told w.disk) (16 * c.args.rounds) c.args.run.now c.threaded.new.run c.told.new.run c.told.result c.in_ok-threaded.ensures.states c.told.ensures.states
 
 pub returns-in_err-threaded-clause-tells : goal.returns-in_err-threaded-clause-tells
 returns-in_err-threaded-clause-tells g c = λ terms game made running all accounted are plain.
