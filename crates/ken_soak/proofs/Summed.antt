@@ -87,9 +87,9 @@ module _ (g : Game) (l : Lines) (totals : List NodeTotal) (run : IsRunOf g l) (c
 -- ---- so their summary is the seed's
 
 -- the run of a script that was made, as that of the definition
-pub driven_by : {D O U : Type 0} (views : Views D O U) (kept : ℕ → Option (Disks D × O × U)) (l : Lines) (script made : Script) → script ≡ made → HasDriven views (handler_of script.facts.kind) script kept l
-    → HasDriven views (handler_of made.facts.kind) made kept l
-driven_by views kept l script made same driven = subst (λ (s : Script). HasDriven views (handler_of s.facts.kind) s kept l) same driven
+pub driven_by : {D O U : Type 0} (views : Views D O U) (rounds : ℕ) (kept : ℕ → Option (Disks D × O × U)) (l : Lines) (script made : Script) → script ≡ made → HasDriven views (handler_of script.facts.kind) script rounds kept l
+    → HasDriven views (handler_of made.facts.kind) made rounds kept l
+driven_by views rounds kept l script made same driven = subst (λ (s : Script). HasDriven views (handler_of s.facts.kind) s rounds kept l) same driven
 
 -- a run that can't be cut has settled
 settled_by : (g : Game) (w : Network) (es : List Emission) (ending : Ending) → Ends g w es ending → (IsCut g w → ⊥) → (ending ≡ Settled) × IsSettled w
@@ -121,7 +121,7 @@ module _ (seed nodes inputs : ℕ) (some : 0 < nodes) (few_nodes : nodes ≤ MAX
 
 -- a run of the script that was made has settled
 pub soaked_by : {D O U : Type 0} (views : Views D O U) (kept : ℕ → Option (Disks D × O × U)) (seed nodes inputs rounds : ℕ) (l : Lines) (script : Script) → 0 < nodes → nodes ≤ MAX_NODES → inputs ≤ MAX_INPUTS
-    → script ≡ script_of seed nodes inputs rounds → HasDriven views (handler_of script.facts.kind) script kept l → HasSoaked views kept seed nodes inputs rounds
+    → script ≡ script_of seed nodes inputs rounds → HasDriven views (handler_of script.facts.kind) script rounds kept l → HasSoaked views kept seed nodes inputs rounds
 soaked_by views kept seed nodes inputs rounds l script some few_nodes few_inputs made drives =
-    let driven = driven_by views kept l script (script_of seed nodes inputs rounds) made drives in
+    let driven = driven_by views rounds kept l script (script_of seed nodes inputs rounds) made drives in
     record { lines = l; driven = driven; settled = has_settled seed nodes inputs some few_nodes few_inputs l driven.run }
