@@ -10,7 +10,7 @@ use Rattle.ken_top.specs.Programs.{Program, SaysTo, BreaksTo}
 use Rattle.ken_top.proofs.Reported.{language}
 use Rattle.ken_top.specs.Headline.{IsEnd, IsComplete, IsLet, IsLetDown, IsRefusal, IsOut}
 
-ended : (program : Program) (left : Option (List ℕ)) (s : Status) → IsEnd s → IsComplete program left s
+pub ended : (program : Program) (left : Option (List ℕ)) (s : Status) → IsEnd s → IsComplete program left s
 ended program None s end = tt
 ended program (Some b) s end = λ script says spared. end
 
@@ -51,13 +51,13 @@ spares program (Some b) v is = λ script says spared.
     let same = (language program).says_once b is.script script (subst (λ x. SaysTo program x is.script) is.told is.says) says in
     spared v (subst (λ x. LetsGoDown x v) same is.lets)
 
-module _ {D O U : Type 0} (program : Program) (views : Views D O U) (kept : ℕ → Option (Disks D × O × U)) where
-  said : (left : Option (List ℕ)) (rule index : ℕ) → IsRefusal program views kept left (status.Script rule index) → IsComplete program left (status.Script rule index)
+module _ {D O U : Type 0} (program : Program) (made : ℕ → ℕ) (views : Views D O U) (kept : ℕ → Option (Disks D × O × U)) where
+  said : (left : Option (List ℕ)) (rule index : ℕ) → IsRefusal program made views kept left (status.Script rule index) → IsComplete program left (status.Script rule index)
   said None rule index refusal = tt
   said (Some b) rule index refusal = λ script says spared. (language program).says_or_breaks b script rule index says (subst (λ x. BreaksTo program x rule index) refusal.1 refusal.2)
 
   -- where there is none
-  pub complete_refused : (left : Option (List ℕ)) (s : Status) (rose : Type 0) → IsRefusal program views kept left s → IsLet program left s → (s ≡ status.Read → rose) → (rose → ⊥) → IsComplete program left s
+  pub complete_refused : (left : Option (List ℕ)) (s : Status) (rose : Type 0) → IsRefusal program made views kept left s → IsLet program left s → (s ≡ status.Read → rose) → (rose → ⊥) → IsComplete program left s
   complete_refused left (status.Script rule index) rose refusal lets failed none = said left rule index refusal
   complete_refused left (status.Down v) rose refusal lets failed none = spares program left v lets
   complete_refused left status.Memory rose refusal lets failed none = ended program left status.Memory tt

@@ -32,7 +32,7 @@ use Rattle.ken_store.specs.declared.disks.Disks.{Disks}
 use Rattle.ken_run.specs.declared.faults.RunFault.{RunFault}
 use Rattle.ken_run.specs.declared.faults.RunFault.TheVariants as running
 use Rattle.ken_run.specs.Accounts.{Terms}
-use Rattle.ken_drive.specs.Driven.{DrivesBy, HasDriven, KeepsRun, Views}
+use Rattle.ken_drive.specs.Driven.{DrivesBy, HasDriven, KeepsRun, MadeRounds, Views}
 use Rattle.ken_drive.specs.Ended.{IsRunOf}
 use Rattle.ken_drive.specs.Starting.{terms_of}
 use Rattle.ken_drive.specs.Sparing.{IsLetBy}
@@ -43,7 +43,6 @@ use Rattle.ken_top.specs.Statuses.{of_running, of_script}
 use Rattle.ken_top.specs.Headline.{AreTold, IsReport, IsFront, IsLet, IsQuiet, IsRunOfSource, IsRefusal, IsScriptOf, IsUnsaid, IsOut, Wrote, Ran}
 use Rattle.ken_model.specs.Handler.{Handler}
 use Rattle.ken_model.specs.Restarts.{AreRestartsByNode}
-use Rattle.ken_model.specs.Kinds.{handler_of}
 use Rattle.ken_top.specs.Programs.{Program, IsTormented, SaysTo, BreaksTo, IsFaultTo, by_seed, drawn_by, handler_in, game_in}
 use Rattle.ken_top.specs.Programs.{kinds, service, torment}
 
@@ -73,7 +72,7 @@ fault_of_service h b (script.Rule rule index) breaks = breaks
 fault_of_service h b script.Memory breaks = tt
 
 -- what a text spells, by the run that it spells
-record IsReportOf {D O U : Type 0} (program : Program) (views : Views D O U) (kept : ℕ → Option (Disks D × O × U)) (b : List ℕ) (script : Script) (ending : Ending) (w : List ℕ) (run : Spelling) : Type 0 where
+record IsReportOf {D O U : Type 0} (program : Program) (made : ℕ → ℕ) (views : Views D O U) (kept : ℕ → Option (Disks D × O × U)) (b : List ℕ) (script : Script) (ending : Ending) (w : List ℕ) (run : Spelling) : Type 0 where
   text : w ≡ report (game_in program script) run.schedule run.emissions run.restarts ending
   legal : IsLegal (game_in program script) run.schedule
   emissions : AreLegalEmissions (game_in program script) (play (game_in program script) run.schedule) run.emissions
@@ -81,6 +80,7 @@ record IsReportOf {D O U : Type 0} (program : Program) (views : Views D O U) (ke
   restarts : AreRestartsByNode script.facts.nodes 0 run.restarts
   ends : Ends (game_in program script) (play (game_in program script) run.schedule) run.emissions ending
   keeps : KeepsRun views (game_in program script) (terms_of views.scripted script) run.schedule run.emissions run.restarts kept
+  rounds : MadeRounds views.told (made script.rounds) run.restarts kept
 
 -- the bytes that a source tells, or those that were read where it doesn't
 pub record IsTold (program : Program) (left : Option (List ℕ)) (read : List ℕ) : Type 0 where
@@ -108,7 +108,7 @@ restarts_so_far views g terms kept schedule emissions restarts by_node keeps = r
   rise = λ v known. (keeps.each v known).causes.rise;
 }
 
-module _ {D O U : Type 0} (program : Program) (views : Views D O U) (kept : ℕ → Option (Disks D × O × U)) where
+module _ {D O U : Type 0} (program : Program) (made : ℕ → ℕ) (views : Views D O U) (kept : ℕ → Option (Disks D × O × U)) where
   -- each line of a run is right
   right_of-run : (script : Script) (l : Lines) → IsRunOf (game_in program script) l → KeepsRun views (game_in program script) (terms_of views.scripted script) (steps_of l.turns) l.emissions l.restarts kept → IsJudged (game_in program script) script.restarts (text l) Right
   right_of-run script l run keeps =
@@ -117,21 +117,21 @@ module _ {D O U : Type 0} (program : Program) (views : Views D O U) (kept : ℕ 
       subst (λ (b : List ℕ). IsJudged g script.restarts b Right) (sym (ap text run.lines))
       (reports_are_right g script.restarts (steps_of l.turns) l.emissions l.restarts l.ending run.legal run.emissions run.by_node often run.ends (subst IsPrintable run.lines run.printable))
 
-  pub report_of-run : (b : List ℕ) (script : Script) (l : Lines) → SaysTo program b script → IsRunOf (game_in program script) l → KeepsRun views (game_in program script) (terms_of views.scripted script) (steps_of l.turns) l.emissions l.restarts kept → IsReport program views kept b l.ending (text l)
-  report_of-run b script l says run keeps =
+  pub report_of-run : (b : List ℕ) (script : Script) (l : Lines) → SaysTo program b script → IsRunOf (game_in program script) l → KeepsRun views (game_in program script) (terms_of views.scripted script) (steps_of l.turns) l.emissions l.restarts kept → MadeRounds views.told (made script.rounds) l.restarts kept → IsReport program made views kept b l.ending (text l)
+  report_of-run b script l says run keeps rounds =
       let told : Spelling = record { schedule = steps_of l.turns; emissions = l.emissions; restarts = l.restarts } in
       let spelled : spell (text l) ≡ told = report_spells_its_run l run.printable in
-      let of_told : IsReportOf program views kept b script l.ending (text l) told = record { text = ap text run.lines; legal = run.legal; emissions = run.emissions; by_node = run.by_node; restarts = run.restarts; ends = run.ends; keeps = keeps } in
-      let of_text : IsReportOf program views kept b script l.ending (text l) (spell (text l)) = subst (IsReportOf program views kept b script l.ending (text l)) (sym spelled) of_told in
-      record { script = script; says = says; text = of_text.text; legal = of_text.legal; emissions = of_text.emissions; by_node = of_text.by_node; restarts = of_text.restarts; ends = of_text.ends; keeps = of_text.keeps; right = right_of-run script l run keeps }
+      let of_told : IsReportOf program made views kept b script l.ending (text l) told = record { text = ap text run.lines; legal = run.legal; emissions = run.emissions; by_node = run.by_node; restarts = run.restarts; ends = run.ends; keeps = keeps; rounds = rounds } in
+      let of_text : IsReportOf program made views kept b script l.ending (text l) (spell (text l)) = subst (IsReportOf program made views kept b script l.ending (text l)) (sym spelled) of_told in
+      record { script = script; says = says; text = of_text.text; legal = of_text.legal; emissions = of_text.emissions; by_node = of_text.by_node; restarts = of_text.restarts; ends = of_text.ends; keeps = of_text.keeps; rounds = of_text.rounds; right = right_of-run script l run keeps }
 
   -- the report of the run that a source says
-  report_of-source : (left : Option (List ℕ)) (l : Lines) (run : IsRunOfSource program views kept left l) → IsReport program views kept run.read l.ending (text l)
-  report_of-source left l run = report_of-run run.read run.script l run.says run.driven.run run.driven.keeps
+  report_of-source : (left : Option (List ℕ)) (l : Lines) (run : IsRunOfSource program made views kept left l) → IsReport program made views kept run.read l.ending (text l)
+  report_of-source left l run = report_of-run run.read run.script l run.says run.driven.run run.driven.keeps run.driven.rounds
 
   -- a front of it
-  pub front_of-source : (left : Option (List ℕ)) (l : Lines) (run : IsRunOfSource program views kept left l) (old new : Option (List ℕ)) (out : AppendsFront old new (text l)) → IsFront program views kept run.read out.front
-  front_of-source left l run old new out = record { rest = out.rest; ending = l.ending; whole = subst (IsReport program views kept run.read l.ending) (sym out.parts) (report_of-source left l run) }
+  pub front_of-source : (left : Option (List ℕ)) (l : Lines) (run : IsRunOfSource program made views kept left l) (old new : Option (List ℕ)) (out : AppendsFront old new (text l)) → IsFront program made views kept run.read out.front
+  front_of-source left l run old new out = record { rest = out.rest; ending = l.ending; whole = subst (IsReport program made views kept run.read l.ending) (sym out.parts) (report_of-source left l run) }
 
   -- some bytes that a source may have given
   any_told : (left : Option (List ℕ)) → (b : List ℕ) × AreTold left b
@@ -139,11 +139,11 @@ module _ {D O U : Type 0} (program : Program) (views : Views D O U) (kept : ℕ 
   any_told (Some xs) = (xs, refl)
 
   -- nothing was written
-  pub ran_quietly : (left took : Option (List ℕ)) (s : Status) → ((b : List ℕ) → Wrote program views kept b [] s) → Ran program views kept left took took s
+  pub ran_quietly : (left took : Option (List ℕ)) (s : Status) → ((b : List ℕ) → Wrote program made views kept b [] s) → Ran program made views kept left took took s
   ran_quietly left took s wrote = let read = any_told left in record { read = read.0; written = []; told = read.1; out = Appends-nil took; wrote = wrote read.0 }
 
   -- a refusal, as an answer of the program
-  pub ran_refused : (left took : Option (List ℕ)) (s : Status) → IsRefusal program views kept left s → Ran program views kept left took took s
+  pub ran_refused : (left took : Option (List ℕ)) (s : Status) → IsRefusal program made views kept left s → Ran program made views kept left took took s
   ran_refused left took (status.Script rule index) refusal = record { read = refusal.0; written = []; told = refusal.1; out = Appends-nil took; wrote = (refl, refusal.3, refusal.2) }
   ran_refused left took (status.Down v) refusal = record { read = refusal.0; written = []; told = refusal.1; out = Appends-nil took; wrote = (refl, refusal.2) }
   ran_refused left took status.Read none = ran_quietly left took status.Read (λ b. (refl, none))
@@ -158,11 +158,11 @@ module _ {D O U : Type 0} (program : Program) (views : Views D O U) (kept : ℕ 
   ran_refused left took status.Long refusal = absurd refusal
 
   -- a report that is out, as an answer of the program
-  pub ran_written : (left old new : Option (List ℕ)) (l : Lines) (s : Status) → IsRunOfSource program views kept left l → IsOut old new l s → Ran program views kept left old new s
+  pub ran_written : (left old new : Option (List ℕ)) (l : Lines) (s : Status) → IsRunOfSource program made views kept left l → IsOut old new l s → Ran program made views kept left old new s
   ran_written left old new l status.Settled run out =
-      record { read = run.read; written = text l; told = run.told; out = out.1; wrote = subst (λ e. IsReport program views kept run.read e (text l)) out.0 (report_of-source left l run) }
+      record { read = run.read; written = text l; told = run.told; out = out.1; wrote = subst (λ e. IsReport program made views kept run.read e (text l)) out.0 (report_of-source left l run) }
   ran_written left old new l status.Cut run out =
-      record { read = run.read; written = text l; told = run.told; out = out.1; wrote = subst (λ e. IsReport program views kept run.read e (text l)) out.0 (report_of-source left l run) }
+      record { read = run.read; written = text l; told = run.told; out = out.1; wrote = subst (λ e. IsReport program made views kept run.read e (text l)) out.0 (report_of-source left l run) }
   ran_written left old new l status.Write run out = record { read = run.read; written = out.front; told = run.told; out = out.out; wrote = front_of-source left l run old new out }
   ran_written left old new l status.Memory run out = record { read = run.read; written = out.front; told = run.told; out = out.out; wrote = inr (front_of-source left l run old new out) }
   ran_written left old new l status.Usage run out = absurd out
@@ -175,7 +175,7 @@ module _ {D O U : Type 0} (program : Program) (views : Views D O U) (kept : ℕ 
   ran_written left old new l status.Long run out = absurd out
 
   -- a refused script, as a refusal of what the source gives
-  pub refusal_by : (left : Option (List ℕ)) (s : Status) → IsUnsaid program left s → HasKeptNothing kept → IsRefusal program views kept left s
+  pub refusal_by : (left : Option (List ℕ)) (s : Status) → IsUnsaid program left s → HasKeptNothing kept → IsRefusal program made views kept left s
   refusal_by left (status.Script rule index) unsaid none = (unsaid.0, unsaid.1, unsaid.2, none)
   refusal_by left status.Read unsaid none = none
   refusal_by left status.Memory unsaid none = none
@@ -190,17 +190,17 @@ module _ {D O U : Type 0} (program : Program) (views : Views D O U) (kept : ℕ 
   refusal_by left status.Long unsaid none = absurd unsaid
 
   -- a run that didn't go on, as a refusal of what the source gives
-  down_of-run : (left : Option (List ℕ)) (s : Script) (fault : RunFault) → IsScriptOf program left s → DrivesBy views (handler_in program s) s kept (Err fault) → IsRefusal program views kept left (of_running fault)
+  down_of-run : (left : Option (List ℕ)) (s : Script) (fault : RunFault) → IsScriptOf program left s → DrivesBy views (handler_in program s) s (made s.rounds) kept (Err fault) → IsRefusal program made views kept left (of_running fault)
   down_of-run left s (running.Damaged v disk place) said driven = absurd driven
   down_of-run left s (running.Down v) said down = (said.read, said.told, record { script = s; says = said.says; down = down })
   down_of-run left s running.Memory said none = none
 
-  pub refusal_of-run : (left : Option (List ℕ)) (s : Script) (fault : RunFault) (h : Handler) → handler_in program s ≡ h → IsScriptOf program left s → DrivesBy views h s kept (Err fault) → IsRefusal program views kept left (of_running fault)
-  refusal_of-run left s fault h same said driven = down_of-run left s fault said (subst (λ (own : Handler). DrivesBy views own s kept (Err fault)) (sym same) driven)
+  pub refusal_of-run : (left : Option (List ℕ)) (s : Script) (fault : RunFault) (h : Handler) → handler_in program s ≡ h → IsScriptOf program left s → DrivesBy views h s (made s.rounds) kept (Err fault) → IsRefusal program made views kept left (of_running fault)
+  refusal_of-run left s fault h same said driven = down_of-run left s fault said (subst (λ (own : Handler). DrivesBy views own s (made s.rounds) kept (Err fault)) (sym same) driven)
 
   -- a script that was run, as what the source gives
-  pub run_by : (left : Option (List ℕ)) (s : Script) (l : Lines) (h : Handler) → handler_in program s ≡ h → IsScriptOf program left s → HasDriven views h s kept l → IsRunOfSource program views kept left l
-  run_by left s l h same said driven = record { read = said.read; told = said.told; script = s; says = said.says; driven = subst (λ (own : Handler). HasDriven views own s kept l) (sym same) driven }
+  pub run_by : (left : Option (List ℕ)) (s : Script) (l : Lines) (h : Handler) → handler_in program s ≡ h → IsScriptOf program left s → HasDriven views h s (made s.rounds) kept l → IsRunOfSource program made views kept left l
+  run_by left s l h same said driven = record { read = said.read; told = said.told; script = s; says = said.says; driven = subst (λ (own : Handler). HasDriven views own s (made s.rounds) kept l) (sym same) driven }
 
 -- the node that is down in a run is one that what the source gives lets go down
 pub let_of-run : (program : Program) (left : Option (List ℕ)) (s : Script) (fault : RunFault) → IsScriptOf program left s → IsLetBy s fault → IsLet program left (of_running fault)
@@ -243,14 +243,10 @@ script_by (Some n) program left read plain script front says drawn =
     let told = told_by program left read front in
     record { read = told.whole; told = told.told; says = record { plain = plain; says = told.says plain says; drawn = drawn } }
 
--- the handler of the kinds under a seed, and of a service
-pub handler_of_kinds : (seed : Option ℕ) (s : Script) → handler_in (by_seed seed kinds) s ≡ handler_of s.facts.kind
-handler_of_kinds None s = refl
-handler_of_kinds (Some n) s = refl
-
-pub handler_of_service : (seed : Option ℕ) (h : Handler) (s : Script) → handler_in (by_seed seed (service h)) s ≡ h
-handler_of_service None h s = refl
-handler_of_service (Some n) h s = refl
+-- a seed leaves the handler as it is
+pub handler_by : (seed : Option ℕ) (program : Program) (s : Script) → handler_in (by_seed seed program) s ≡ handler_in program s
+handler_by None program s = refl
+handler_by (Some n) program s = refl
 
 -- a status with which nothing is written tells of no report
 pub out_is_told : (old new : Option (List ℕ)) (l : Lines) (s : Status) → IsOut old new l s → IsQuiet s → ⊥

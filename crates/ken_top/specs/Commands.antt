@@ -35,6 +35,14 @@ RunsScript (Some (Torment seed)) = ⊤
 RunsScript (Some (Soak seed nodes inputs rounds)) = ⊥
 RunsScript None = ⊥
 
+-- one that makes rounds, where they are asked for
+abbrev pub MakesRounds : Option Command → Type 0
+MakesRounds (Some Run) = ⊤
+MakesRounds (Some (Check size)) = ⊥
+MakesRounds (Some (Torment seed)) = ⊤
+MakesRounds (Some (Soak seed nodes inputs rounds)) = ⊤
+MakesRounds None = ⊥
+
 -- what words ask of a service of one's own, which makes no script of itself
 abbrev pub for_service : Option Command → Option Command
 for_service (Some (Soak seed nodes inputs rounds)) = None

@@ -15,7 +15,7 @@ use Rattle.ken_check.specs.Judged.{IsJudged}
 use Rattle.ken_io.specs.Transfers.{AppendsFront}
 use Rattle.ken_script.specs.declared.scripts.Script.{Script}
 use Rattle.ken_store.specs.declared.disks.Disks.{Disks}
-use Rattle.ken_drive.specs.Driven.{HasDriven, HasGoneDown, KeepsRun, Views}
+use Rattle.ken_drive.specs.Driven.{HasDriven, HasGoneDown, KeepsRun, MadeRounds, Views}
 use Rattle.ken_drive.specs.Sparing.{IsSpared, LetsGoDown}
 use Rattle.ken_drive.specs.Starting.{terms_of}
 use Rattle.ken_drive.specs.Worlds.{HasKeptNothing}
@@ -29,10 +29,10 @@ abbrev pub AreTold : Option (List ℕ) → List ℕ → Type 0
 AreTold None b = ⊤
 AreTold (Some xs) b = b ≡ xs
 
-module _ {D O U : Type 0} (program : Program) (views : Views D O U) (kept : ℕ → Option (Disks D × O × U)) where
+module _ {D O U : Type 0} (program : Program) (made : ℕ → ℕ) (views : Views D O U) (kept : ℕ → Option (Disks D × O × U)) where
   -- w is the report of a failure-free run of what b says. The run is the one that w spells: its schedule is legal, its turns, heaps and
   -- ending are those of playing the schedule, its emissions are legal and stand node by node, and so do its restarts, which are of nodes of
-  -- the run; the devices that are kept show it; and each line is right, as a check judges them
+  -- the run; the devices that are kept show it, and the rounds that were made of those that the script asks for; and each line is right, as a check judges them
   pub record IsReport (b : List ℕ) (ending : Ending) (w : List ℕ) : Type 0 where
     pub script : Script
     pub says : SaysTo program b script
@@ -43,6 +43,7 @@ module _ {D O U : Type 0} (program : Program) (views : Views D O U) (kept : ℕ 
     pub restarts : AreRestartsByNode script.facts.nodes 0 (spell w).restarts
     pub ends : Ends (game_in program script) (play (game_in program script) (spell w).schedule) (spell w).emissions ending
     pub keeps : KeepsRun views (game_in program script) (terms_of views.scripted script) (spell w).schedule (spell w).emissions (spell w).restarts kept
+    pub rounds : MadeRounds views.told (made script.rounds) (spell w).restarts kept
     pub right : IsJudged (game_in program script) script.restarts w Right
 
   -- w is a front of such a report
@@ -87,7 +88,7 @@ module _ {D O U : Type 0} (program : Program) (views : Views D O U) (kept : ℕ 
     pub told : AreTold left read
     pub script : Script
     pub says : SaysTo program read script
-    pub driven : HasDriven views (handler_in program script) script kept l
+    pub driven : HasDriven views (handler_in program script) script (made script.rounds) kept l
 
   -- why there are none
   abbrev pub IsRefusal : Option (List ℕ) → Status → Type 0

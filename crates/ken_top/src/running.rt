@@ -5,7 +5,7 @@ ghost use Rattle.ken_io.specs.Transfers.{TakesAtMost};
 ghost use Rattle.ken_script.specs.Within.{KeepsRules};
 ghost use Rattle.ken_drive.specs.Clauses.{views_of};
 ghost use Rattle.ken_drive.specs.Worlds.{HasKeptNothing};
-ghost use Rattle.ken_top.specs.Does.{PlaysSource, ReportsSource};
+ghost use Rattle.ken_top.specs.Does.{PlaysSource, ReportsSource, all_rounds, no_rounds};
 ghost use Rattle.ken_top.specs.Headline.{IsOut, IsScriptOf, IsUnsaid};
 ghost use Rattle.ken_top.specs.Programs.{by_seed, drawn_by};
 
@@ -22,7 +22,7 @@ use std::sync::Wait;
 use std::thread::Threads;
 
 /// Reads a script, with the faults of a seed where there is one, runs it, and writes its report.
-pub(crate) fn ran<R: Threads + Wait + Sync, C: Cast, S: Source, K: Sink, W: World>(
+pub(crate) fn ran<R: Threads + Wait + Sync, C: Cast + Drop, S: Source, K: Sink, W: World>(
     rt: &R,
     alloc: Global,
     cast: C,
@@ -32,7 +32,7 @@ pub(crate) fn ran<R: Threads + Wait + Sync, C: Cast, S: Source, K: Sink, W: Worl
     world: &mut W,
 ) -> Status
     requires { HasKeptNothing (W.kept world.old) }
-    ensures { ReportsSource S.Source K.Sink (by_seed seed (C.program cast))
+    ensures { ReportsSource S.Source K.Sink (by_seed seed (C.program cast)) all_rounds
         (views_of W.Dev.Disk W.Luck.Oracle W.Out.Outlet W.scripted) (W.kept world.new)
         source.old source.new sink.old sink.new result }
 {
@@ -41,7 +41,7 @@ pub(crate) fn ran<R: Threads + Wait + Sync, C: Cast, S: Source, K: Sink, W: Worl
 }
 
 /// Does what `ran` does, with no rounds.
-pub(crate) fn ran_alone<C: Cast, S: Source, K: Sink, W: World>(
+pub(crate) fn ran_alone<C: Cast + Drop, S: Source, K: Sink, W: World>(
     alloc: Global,
     cast: C,
     seed: Option<u64>,
@@ -50,7 +50,7 @@ pub(crate) fn ran_alone<C: Cast, S: Source, K: Sink, W: World>(
     world: &mut W,
 ) -> Status
     requires { HasKeptNothing (W.kept world.old) }
-    ensures { ReportsSource S.Source K.Sink (by_seed seed (C.program cast))
+    ensures { ReportsSource S.Source K.Sink (by_seed seed (C.program cast)) no_rounds
         (views_of W.Dev.Disk W.Luck.Oracle W.Out.Outlet W.scripted) (W.kept world.new)
         source.old source.new sink.old sink.new result }
 {
@@ -59,7 +59,7 @@ pub(crate) fn ran_alone<C: Cast, S: Source, K: Sink, W: World>(
 }
 
 /// Reads a script and runs it.
-fn run<R: Threads + Wait + Sync, C: Cast, S: Source, W: World>(
+fn run<R: Threads + Wait + Sync, C: Cast + Drop, S: Source, W: World>(
     rt: &R,
     alloc: Global,
     cast: C,
@@ -68,7 +68,7 @@ fn run<R: Threads + Wait + Sync, C: Cast, S: Source, W: World>(
     world: &mut W,
 ) -> Result<Lines, Status>
     requires { HasKeptNothing (W.kept world.old) }
-    ensures { PlaysSource S.Source (by_seed seed (C.program cast))
+    ensures { PlaysSource S.Source (by_seed seed (C.program cast)) all_rounds
         (views_of W.Dev.Disk W.Luck.Oracle W.Out.Outlet W.scripted) (W.kept world.new)
         source.old source.new result }
 {
@@ -78,7 +78,7 @@ fn run<R: Threads + Wait + Sync, C: Cast, S: Source, W: World>(
 }
 
 /// Reads a script and runs it with no rounds.
-fn run_alone<C: Cast, S: Source, W: World>(
+fn run_alone<C: Cast + Drop, S: Source, W: World>(
     alloc: Global,
     cast: C,
     seed: Option<u64>,
@@ -86,7 +86,7 @@ fn run_alone<C: Cast, S: Source, W: World>(
     world: &mut W,
 ) -> Result<Lines, Status>
     requires { HasKeptNothing (W.kept world.old) }
-    ensures { PlaysSource S.Source (by_seed seed (C.program cast))
+    ensures { PlaysSource S.Source (by_seed seed (C.program cast)) no_rounds
         (views_of W.Dev.Disk W.Luck.Oracle W.Out.Outlet W.scripted) (W.kept world.new)
         source.old source.new result }
 {

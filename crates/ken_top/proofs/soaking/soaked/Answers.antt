@@ -1,5 +1,7 @@
-use Rattle.ken_top.proofs.Soaked.{soaks_refused}
+use Rattle.ken_drive.specs.Clauses.{views_of}
+use Rattle.ken_top.proofs.Doing.{sums-up}
 use Rattle.ken_top.proofs.soaking.soaked.Goals as goal
 
-pub returns-in-Err-clause-soaks : goal.returns-in-Err-clause-soaks
-returns-in-Err-clause-soaks g c = rw c.from.ensures (soaks_refused _ _ c.args.seed c.args.nodes c.args.inputs c.args.rounds (g.K.Sink.took c.args.sink.now) c.in-Err.fault c.in-Err.ensures.soaks)
+pub returns : goal.returns
+returns g c = sums-up g.K.Sink (views_of g.W.Dev.Disk g.W.Luck.Oracle g.W.Out.Outlet g.W.World.scripted) (g.W.World.kept c.soak.new.world) c.args.seed c.args.nodes c.args.inputs c.args.rounds c.args.sink.now c.summed_up.new.sink c.soak.result c.summed_up.result c.soak.ensures
+    c.summed_up.ensures.out c.summed_up.ensures.refused c.summed_up.ensures.write c.summed_up.ensures.no_failed_write c.summed_up.ensures.faults
