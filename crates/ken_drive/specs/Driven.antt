@@ -105,10 +105,13 @@ pub record KeepsNode {D O U : Type 0} (views : Views D O U) (g : Game) (terms : 
   pub words : IsTold terms.scripted (views.telling.words luck) (IsSubsequence (words_of g.handler (steps_at v schedule)))
   pub causes : HaveCauses (faults_of views.faults disks) often ((play g schedule).place v).turns (restarts_of v restarts) (out_numbers (emitted_by v emissions))
 
--- so many rounds were made, as the images show: that of each node with no restart line has been in 16 states for each, where it tells
-abbrev pub MadeRounds : {D O U : Type 0} → (D → Option Story) → ℕ → List RestartLine → (ℕ → Option (Disks D × O × U)) → Type 0
+-- so many rounds were made, as the images show: that of each node with no restart line has been in 16 states for each,
+-- where it tells
+abbrev pub MadeRounds : {D O U : Type 0} → (D → Option Story) → ℕ → List RestartLine
+    → (ℕ → Option (Disks D × O × U)) → Type 0
 MadeRounds {D} {O} {U} told made restarts kept =
-    (v : ℕ) (disks : Disks D) (luck : O) (out : U) → restarts_of v restarts ≡ [] → kept v ≡ Some (disks, luck, out) → Tells (told disks.image) (λ h. 16 * made ≤ length h.past)
+    (v : ℕ) (disks : Disks D) (luck : O) (out : U) → restarts_of v restarts ≡ [] → kept v ≡ Some (disks, luck, out)
+    → Tells (told disks.image) (λ h. 16 * made ≤ length h.past)
 
 -- of each node of the run, and of no other
 pub record KeepsRun {D O U : Type 0} (views : Views D O U) (g : Game) (terms : Terms) (schedule : List Step) (emissions : List Emission) (restarts : List RestartLine) (kept : ℕ → Option (Disks D × O × U)) : Type 0 where
@@ -176,9 +179,11 @@ module _ {D O U A : Type 0} (told : Watched D → Option Story) (size : Watched 
   EndsBy (Err run_faults.Memory) r = Unit {0}
   EndsBy (Err (run_faults.Damaged v disk place)) r = ⊥
 
--- what a whole run of a script with a handler leaves that makes so many rounds, by the answer: its lines are the report of a run, and the devices that are kept show it; or a node has
--- gone down, as those that are kept show. After want of memory nothing is kept
-module _ {D O U : Type 0} (views : Views D O U) (h : Handler) (script : Script) (made : ℕ) (kept : ℕ → Option (Disks D × O × U)) where
+-- what a whole run of a script with a handler leaves that makes so many rounds, by the answer: its lines are the report
+-- of a run, and the devices that are kept show it and the rounds; or a node has gone down, as those that are kept show.
+-- After want of memory nothing is kept
+module _ {D O U : Type 0} (views : Views D O U) (h : Handler) (script : Script) (made : ℕ)
+    (kept : ℕ → Option (Disks D × O × U)) where
   pub record HasDriven (l : Lines) : Type 0 where
     pub run : IsRunOf (game_by h script) l
     pub keeps : KeepsRun views (game_by h script) (terms_of views.scripted script) (steps_of l.turns) l.emissions l.restarts kept
@@ -191,7 +196,8 @@ module _ {D O U : Type 0} (views : Views D O U) (h : Handler) (script : Script) 
   DrivesBy (Err (run_faults.Damaged v disk place)) = ⊥
 
 -- so after a drive, whose error the script lets come, in a scripted world
-pub record Drives {D O U : Type 0} (views : Views D O U) (h : Handler) (script : Script) (made : ℕ) (kept : ℕ → Option (Disks D × O × U)) (result : Result Lines RunFault) : Type 0 where
+pub record Drives {D O U : Type 0} (views : Views D O U) (h : Handler) (script : Script) (made : ℕ)
+    (kept : ℕ → Option (Disks D × O × U)) (result : Result Lines RunFault) : Type 0 where
   pub drives : DrivesBy views h script made kept result
   pub lets : views.scripted ≡ true → IfErr result (IsLetBy script)
 

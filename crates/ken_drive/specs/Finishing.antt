@@ -19,5 +19,6 @@ module _ {D : Type 0} where
 
   -- so of each station of a run, and nothing else was kept since
   pub record WereKept {O U A : Type 0} (r : Run D O U A) (old new : ℕ → Option (Disks D × O × U)) : Type 0 where
-    pub given : (v : ℕ) (d : Station D O U) → v < length r.stations.items → WasKept (slice_index_or r.stations.items v d) (new v)
+    pub given : (v : ℕ) (d : Station D O U) → v < length r.stations.items
+        → WasKept (slice_index_or r.stations.items v d) (new v)
     pub others : (v : ℕ) → length r.stations.items ≤ v → new v ≡ old v

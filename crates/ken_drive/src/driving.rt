@@ -42,7 +42,8 @@ fn told<D: Disk, O: Oracle, U: Outlet, A: App>(
     Ok(lines(alloc, run)?)
 }
 
-/// Makes so many rounds of a run, drains it, and answers what it says then. The errors are those of `threaded`, `drain` and `lines`.
+/// Makes so many rounds of a run, drains it, and answers what it says then. The errors are those of `threaded`, `drain` and
+/// `lines`.
 fn told_by_rounds<R, D, O, U, A>(
     rt: &R,
     alloc: Global,
@@ -64,11 +65,12 @@ where
     told(alloc, run)
 }
 
-/// Runs a script with an application over the devices of a world, and answers the lines of its report. The script's kind isn't
-/// looked at. Where it asks for rounds, the workers of all nodes run as threads in these, and then one thread goes on. A round
-/// may wait where a wire is in another thread's hands; with no rounds this is `drive_alone`. The disks, the oracle and the outlet of
-/// each node are given to `World::keep` then. `Down`: that node's disks failed once more than it may be restarted, or its outlet refused
-/// one output 65 times in a row; the devices of each node that was made are given back too. After `Memory` nothing is kept.
+/// Runs a script with an application over the devices of a world, and answers the lines of its report. The script's kind
+/// isn't looked at. Where it asks for rounds, the workers of all nodes run as threads in these, and then one thread goes on.
+/// A round may wait where a wire is in another thread's hands; with no rounds this is `drive_alone`. The disks, the oracle
+/// and the outlet of each node are given to `World::keep` then. `Down`: that node's disks failed once more than it may be
+/// restarted, or its outlet refused one output 65 times in a row; the devices of each node that was made are given back
+/// too. After `Memory` nothing is kept.
 pub fn drive<R: Threads + Wait + Sync, W: World, A: App + Sync + Drop>(
     rt: &R,
     alloc: Global,
@@ -79,8 +81,8 @@ pub fn drive<R: Threads + Wait + Sync, W: World, A: App + Sync + Drop>(
     requires serves { Serves (A.handler app) script.now }
     requires rules { KeepsRules script.now }
     requires none { HasKeptNothing (W.kept world.old) }
-    ensures { Drives (views_of W.Dev.Disk W.Luck.Oracle W.Out.Outlet W.scripted) (A.handler app) script.now script.now.rounds
-        (W.kept world.new) result }
+    ensures { Drives (views_of W.Dev.Disk W.Luck.Oracle W.Out.Outlet W.scripted) (A.handler app) script.now
+        script.now.rounds (W.kept world.new) result }
 {
     if script.rounds == 0 {
         return drive_alone(alloc, app, script, world);
@@ -91,7 +93,8 @@ pub fn drive<R: Threads + Wait + Sync, W: World, A: App + Sync + Drop>(
     give_back(run, answer, world)
 }
 
-/// Runs a script as `drive` does, but makes no rounds, whatever the script asks for. It starts no thread and waits for nobody.
+/// Runs a script as `drive` does, but makes no rounds, whatever the script asks for. It starts no thread and waits for
+/// nobody.
 pub fn drive_alone<W: World, A: App + Drop>(
     alloc: Global,
     app: A,

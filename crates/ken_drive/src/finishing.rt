@@ -44,7 +44,8 @@ pub fn finish<W: World, A: Drop>(run: Run<W::Dev, W::Luck, W::Out, A>, world: &m
     }
 }
 
-/// Ends a run that has answered so, as `finish` does; but where memory was short nothing is given back. The answer stays.
+/// Ends a run that has answered so, as `finish` does; but where memory was short nothing is given back. The answer
+/// stays.
 pub(crate) fn give_back<W: World, A: Drop>(
     run: Run<W::Dev, W::Luck, W::Out, A>,
     answer: Result<Lines, RunFault>,

@@ -33,7 +33,8 @@ pub record IsSoakRun (seed nodes inputs : ℕ) (l : Lines) : Type 0 where
   pub run : IsRunOf (soak_game seed nodes inputs) l
 
 module _ {D O U : Type 0} (views : Views D O U) (kept : ℕ → Option (Disks D × O × U)) (seed nodes inputs rounds : ℕ) where
-  -- the script of these numbers was run to its end, with its rounds, and it has settled; its lines are a report, and the devices that are kept show it
+  -- the script of these numbers was run to its end, with its rounds, and it has settled; its lines are a report, and the
+  -- devices that are kept show it
   pub record HasSoaked : Type 0 where
     pub lines : Lines
     pub driven : HasDriven views (handler_of Share) (script_of seed nodes inputs rounds) rounds kept lines

@@ -26,18 +26,25 @@ abbrev pub no_rounds : ℕ → ℕ
 no_rounds rounds = 0
 
 -- what a call leaves of its source, its sink and its world, of which contracts see this
-module _ {S K W D O U : Type 0} (s : source.Ghosts S) (k : sink.Ghosts K) (views : Views D O U) (kept : W → ℕ → Option (Disks D × O × U)) where
+module _ {S K W D O U : Type 0} (s : source.Ghosts S) (k : sink.Ghosts K) (views : Views D O U)
+    (kept : W → ℕ → Option (Disks D × O × U)) where
   -- by the command, what is read, run and written, and how the call ends
-  pub record Does (program : Program) (made : ℕ → ℕ) (command : Option Command) (from from2 : S) (to to2 : K) (world world2 : W) (result : Status) : Type 0 where
+  pub record Does (program : Program) (made : ℕ → ℕ) (command : Option Command)
+      (from from2 : S) (to to2 : K) (world world2 : W) (result : Status) : Type 0 where
     pub usage : result ≡ status.Usage → command ≡ None
     pub plain : command ≡ None → (result ≡ status.Usage) ⊎ (result ≡ status.Memory)
     pub runs : command ≡ Some Run → Ran program made views (kept world2) (s.left from) (k.took to) (k.took to2) result
-    pub checks : (size : ℕ) → command ≡ Some (Check size) → Checks program size (s.left from) (k.took to) (k.took to2) result
-    pub torments : (seed : ℕ) → command ≡ Some (Torment seed) → Ran (torment seed program) made views (kept world2) (s.left from) (k.took to) (k.took to2) result
-    pub soaks : (seed nodes inputs rounds : ℕ) → command ≡ Some (Soak seed nodes inputs rounds) → Soaks views (kept world2) seed nodes inputs (made rounds) (k.took to) (k.took to2) result
+    pub checks : (size : ℕ) → command ≡ Some (Check size)
+        → Checks program size (s.left from) (k.took to) (k.took to2) result
+    pub torments : (seed : ℕ) → command ≡ Some (Torment seed)
+        → Ran (torment seed program) made views (kept world2) (s.left from) (k.took to) (k.took to2) result
+    pub soaks : (seed nodes inputs rounds : ℕ) → command ≡ Some (Soak seed nodes inputs rounds)
+        → Soaks views (kept world2) seed nodes inputs (made rounds) (k.took to) (k.took to2) result
     pub down : views.scripted ≡ true → IsLet program (s.left from) result
-    pub complete : RunsScript command → views.scripted ≡ true → (Rose (s.faults from) (s.faults from2) → ⊥) → (Rose (k.faults to) (k.faults to2) → ⊥) → IsComplete program (s.left from) result
-    pub through : (seed nodes inputs rounds : ℕ) → command ≡ Some (Soak seed nodes inputs rounds) → views.scripted ≡ true → (Rose (k.faults to) (k.faults to2) → ⊥) → IsThrough result
+    pub complete : RunsScript command → views.scripted ≡ true → (Rose (s.faults from) (s.faults from2) → ⊥)
+        → (Rose (k.faults to) (k.faults to2) → ⊥) → IsComplete program (s.left from) result
+    pub through : (seed nodes inputs rounds : ℕ) → command ≡ Some (Soak seed nodes inputs rounds)
+        → views.scripted ≡ true → (Rose (k.faults to) (k.faults to2) → ⊥) → IsThrough result
     pub causes : HasCauses (s.faults from) (s.faults from2) (k.faults to) (k.faults to2) result
     pub taken : TakesAtMost (most_read command + 1) (s.left from) (s.left from2)
     pub unread : ReadsNothing command → from2 ≡ from
@@ -48,7 +55,9 @@ module _ {S K W D O U : Type 0} (s : source.Ghosts S) (k : sink.Ghosts K) (views
 -- ---- on the way to it
 
 -- a script was read and run, by the answer
-pub record PlaysSource {S D O U : Type 0} (s : source.Ghosts S) (program : Program) (made : ℕ → ℕ) (views : Views D O U) (kept : ℕ → Option (Disks D × O × U)) (from from2 : S) (result : Result Lines Status) : Type 0 where
+pub record PlaysSource {S D O U : Type 0} (s : source.Ghosts S) (program : Program) (made : ℕ → ℕ)
+    (views : Views D O U) (kept : ℕ → Option (Disks D × O × U)) (from from2 : S)
+    (result : Result Lines Status) : Type 0 where
   pub ran : IfOk result (IsRunOfSource program made views kept (s.left from))
   pub refused : IfErr result (IsRefusal program made views kept (s.left from))
   pub lets : views.scripted ≡ true → IfErr result (IsLet program (s.left from))
@@ -58,17 +67,21 @@ pub record PlaysSource {S D O U : Type 0} (s : source.Ghosts S) (program : Progr
   pub rises : s.faults from ≤ s.faults from2
 
 -- and the report of its run was written
-pub record ReportsSource {S K D O U : Type 0} (s : source.Ghosts S) (k : sink.Ghosts K) (program : Program) (made : ℕ → ℕ) (views : Views D O U) (kept : ℕ → Option (Disks D × O × U)) (from from2 : S) (to to2 : K) (result : Status) : Type 0 where
+pub record ReportsSource {S K D O U : Type 0} (s : source.Ghosts S) (k : sink.Ghosts K) (program : Program)
+    (made : ℕ → ℕ) (views : Views D O U) (kept : ℕ → Option (Disks D × O × U)) (from from2 : S) (to to2 : K)
+    (result : Status) : Type 0 where
   pub plain : result ≢ status.Usage
   pub runs : Ran program made views kept (s.left from) (k.took to) (k.took to2) result
   pub down : views.scripted ≡ true → IsLet program (s.left from) result
-  pub complete : views.scripted ≡ true → (Rose (s.faults from) (s.faults from2) → ⊥) → (Rose (k.faults to) (k.faults to2) → ⊥) → IsComplete program (s.left from) result
+  pub complete : views.scripted ≡ true → (Rose (s.faults from) (s.faults from2) → ⊥)
+      → (Rose (k.faults to) (k.faults to2) → ⊥) → IsComplete program (s.left from) result
   pub causes : HasCauses (s.faults from) (s.faults from2) (k.faults to) (k.faults to2) result
   pub taken : TakesAtMost (LIMIT + 1) (s.left from) (s.left from2)
   pub unwritten : IsQuiet result → to2 ≡ to
 
 -- the script of these numbers was run, and summed up
-pub record SumsUp {K D O U : Type 0} (k : sink.Ghosts K) (views : Views D O U) (kept : ℕ → Option (Disks D × O × U)) (seed nodes inputs rounds : ℕ) (to to2 : K) (result : Status) : Type 0 where
+pub record SumsUp {K D O U : Type 0} (k : sink.Ghosts K) (views : Views D O U)
+    (kept : ℕ → Option (Disks D × O × U)) (seed nodes inputs rounds : ℕ) (to to2 : K) (result : Status) : Type 0 where
   pub soaks : Soaks views kept seed nodes inputs rounds (k.took to) (k.took to2) result
   pub lets : views.scripted ≡ true → result ≢ status.Write → IsThrough result
   pub write : result ≡ status.Write → Rose (k.faults to) (k.faults to2)

@@ -29,10 +29,12 @@ abbrev pub AreTold : Option (List ℕ) → List ℕ → Type 0
 AreTold None b = ⊤
 AreTold (Some xs) b = b ≡ xs
 
-module _ {D O U : Type 0} (program : Program) (made : ℕ → ℕ) (views : Views D O U) (kept : ℕ → Option (Disks D × O × U)) where
-  -- w is the report of a failure-free run of what b says. The run is the one that w spells: its schedule is legal, its turns, heaps and
-  -- ending are those of playing the schedule, its emissions are legal and stand node by node, and so do its restarts, which are of nodes of
-  -- the run; the devices that are kept show it, and the rounds that were made of those that the script asks for; and each line is right, as a check judges them
+module _ {D O U : Type 0} (program : Program) (made : ℕ → ℕ) (views : Views D O U)
+    (kept : ℕ → Option (Disks D × O × U)) where
+  -- w is the report of a failure-free run of what b says. The run is the one that w spells: its schedule is legal, its
+  -- turns, heaps and ending are those of playing the schedule, its emissions are legal and stand node by node, and so do its
+  -- restarts, which are of nodes of the run; the devices that are kept show it, and the rounds that were made of those that
+  -- the script asks for; and each line is right, as a check judges them
   pub record IsReport (b : List ℕ) (ending : Ending) (w : List ℕ) : Type 0 where
     pub script : Script
     pub says : SaysTo program b script

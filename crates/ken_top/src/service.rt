@@ -49,8 +49,8 @@ pub fn serve<R: Threads + Wait + Sync, A: Service + Sync + Drop, S: Source, K: S
     }
 }
 
-/// Does what `serve` does, but makes no rounds, whatever a script asks for. It starts no thread and waits for nobody, so it is proved
-/// to return.
+/// Does what `serve` does, but makes no rounds, whatever a script asks for. It starts no thread and waits for nobody, so it
+/// is proved to return.
 pub fn serve_alone<A: Service + Sync + Drop, S: Source, K: Sink, W: World>(
     alloc: Global,
     app: A,

@@ -22,10 +22,10 @@ use std::thread::Threads;
 /// each line of the report is right for the script. With `soak`, a seed, and numbers of nodes, inputs and rounds it makes a script of these,
 /// runs it, and writes the summary of what its nodes came to.
 ///
-/// A run makes the rounds that its script asks for: the workers of its nodes are threads then, as far as `rt` starts them, and one may wait
-/// where a wire is in another's hands. So nothing here says that a call returns; `ken_alone` makes no rounds, and returns. `Memory`
-/// comes where memory is wanted, and else as each status says. The world keeps the devices of a run that has ended, or of which a node is
-/// down, before anything is written.
+/// A run makes the rounds that its script asks for: the workers of its nodes are threads then, as far as `rt` starts them,
+/// and one may wait where a wire is in another's hands. So nothing here says that a call returns; `ken_alone` makes no
+/// rounds, and returns. `Memory` comes where memory is wanted, and else as each status says. The world keeps the devices of
+/// a run that has ended, or of which a node is down, before anything is written.
 pub fn ken<R: Threads + Wait + Sync, S: Source, K: Sink, W: World>(
     rt: &R,
     alloc: Global,
@@ -46,8 +46,8 @@ pub fn ken<R: Threads + Wait + Sync, S: Source, K: Sink, W: World>(
     }
 }
 
-/// Does what `ken` does, but makes no rounds, whatever a script or a soak asks for. It starts no thread and waits for nobody, so it is
-/// proved to return.
+/// Does what `ken` does, but makes no rounds, whatever a script or a soak asks for. It starts no thread and waits for
+/// nobody, so it is proved to return.
 pub fn ken_alone<S: Source, K: Sink, W: World>(
     alloc: Global,
     words: &[String],
