@@ -48,6 +48,10 @@ none-risen source sink s no_read no_write = record {
   no_failed_write = λ other. refl;
 }
 
+-- the error of a run is one
+err-same : (a b : Status) (run : Result Lines Status) → run ≡ Err a → run ≡ Err b → a ≡ b
+err-same a b run one two = cc
+
 -- ---- a script that is run
 
 -- a refusal isn't of the sink, and not of the words
@@ -84,14 +88,11 @@ module _ {S D O U : Type 0} (s : source.Ghosts S) (program : Program) (made : �
     ran = tt;
     refused = refusal_of-run program made views kept (s.left from) script fault h same said drives.drives;
     lets = λ scripted. let_of-run program (s.left from) script fault said (drives.lets scripted);
-    read = λ is. absurd (fault-not-read fault (err-same (of_running fault) status.Read is));
+    read = λ is. absurd (fault-not-read fault (err-same (of_running fault) status.Read (Err (of_running fault)) refl is));
     no_failed_read = λ other. still;
     taken = taken;
     rises = omega (arith, still);
   }
-    where
-      err-same : (a b : Status) → Err {T = Lines} a ≡ Err b → a ≡ b
-      err-same a b is = cc
 
   -- or there was no script
   pub unsaid : (answer : Status) → IsUnsaid program (s.left from) answer → HasKeptNothing kept → (answer ≡ status.Read → Rose (s.faults from) (s.faults from2)) → (answer ≢ status.Read → s.faults from2 ≡ s.faults from)
@@ -100,14 +101,11 @@ module _ {S D O U : Type 0} (s : source.Ghosts S) (program : Program) (made : �
     ran = tt;
     refused = refusal_by program made views kept (s.left from) answer why none;
     lets = λ scripted. let_unsaid program (s.left from) answer why;
-    read = λ is. read (err-same answer status.Read is);
+    read = λ is. read (err-same answer status.Read (Err answer) refl is);
     no_failed_read = λ other. still (λ is. other (ap Err is));
     taken = taken;
     rises = rises;
   }
-    where
-      err-same : (a b : Status) → Err {T = Lines} a ≡ Err b → a ≡ b
-      err-same a b is = cc
 
   -- and its report is written
   module _ {K : Type 0} (k : sink.Ghosts K) (to to2 : K) where
@@ -150,15 +148,12 @@ module _ {S D O U : Type 0} (s : source.Ghosts S) (program : Program) (made : �
             write = λ is. absurd (not-write program made views kept left answer why is);
             source_rises = plays.rises;
             sink_rises = omega arith;
-            no_failed_read = λ other. plays.no_failed_read (λ is. other (err-same answer status.Read is));
+            no_failed_read = λ other. plays.no_failed_read (λ is. other (err-same answer status.Read (Err answer) refl is));
             no_failed_write = λ other. refl;
           };
           taken = plays.taken;
           unwritten = λ quiet. refl;
         }))
-      where
-        err-same : (a b : Status) → Err {T = Lines} a ≡ Err b → a ≡ b
-        err-same a b is = cc
 
 -- ---- a soak
 
