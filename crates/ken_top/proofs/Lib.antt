@@ -5,4 +5,4 @@ mod Texts
 mod Judging
 mod Coming
 mod Soaked
-mod Doing
+mod Commanded

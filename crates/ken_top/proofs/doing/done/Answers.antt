@@ -1,6 +1,6 @@
 use Rattle.ken_drive.specs.Clauses.{views_of}
 use Rattle.ken_top.specs.Does.{all_rounds, no_rounds}
-use Rattle.ken_top.proofs.Doing.{also-does, run-does, soak-does, torment-does}
+use Rattle.ken_top.proofs.Commanded.{also-does, run-does, soak-does, torment-does}
 use Rattle.ken_top.proofs.doing.done.Goals as goal
 
 pub returns-in-Some-Run : goal.returns-in-Some-Run

@@ -1,6 +1,6 @@
 use Rattle.ken_drive.specs.Clauses.{views_of}
 use Rattle.ken_top.specs.Does.{no_rounds}
-use Rattle.ken_top.proofs.Doing.{check-does, run-does, soak-does, torment-does, usage-does}
+use Rattle.ken_top.proofs.Commanded.{check-does, run-does, soak-does, torment-does, usage-does}
 use Rattle.ken_top.proofs.doing.done_alone.Goals as goal
 
 pub returns-in-Some-Run : goal.returns-in-Some-Run

@@ -1,7 +1,7 @@
 use Rattle.ken_drive.specs.Clauses.{views_of}
 use Rattle.ken_top.specs.Does.{all_rounds}
 use Rattle.ken_top.specs.Programs.{by_seed}
-use Rattle.ken_top.proofs.Doing.{reports}
+use Rattle.ken_top.proofs.Commanded.{reports}
 use Rattle.ken_top.proofs.running.ran.Goals as goal
 
 pub returns : goal.returns

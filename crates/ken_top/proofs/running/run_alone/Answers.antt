@@ -4,7 +4,7 @@ use Rattle.std.proofs.lemmas.Result.{err_from_is_err_and}
 use Rattle.ken_drive.specs.Clauses.{views_of}
 use Rattle.ken_top.specs.Does.{no_rounds}
 use Rattle.ken_top.specs.Programs.{by_seed}
-use Rattle.ken_top.proofs.Doing.{not-played, played, unsaid}
+use Rattle.ken_top.proofs.Commanded.{not-played, played, unsaid}
 use Rattle.ken_top.proofs.Reported.{handler_by}
 use Rattle.ken_top.proofs.running.run_alone.Goals as goal
 

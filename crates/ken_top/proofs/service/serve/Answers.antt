@@ -6,7 +6,7 @@ use Rattle.ken_words.specs.declared.commands.Command.{Command}
 use Rattle.ken_top.specs.Commands.{service_command_of}
 use Rattle.ken_top.specs.Does.{Does, all_rounds}
 use Rattle.ken_top.specs.Programs.{service}
-use Rattle.ken_top.proofs.Doing.{short-does}
+use Rattle.ken_top.proofs.Commanded.{short-does}
 use Rattle.ken_top.proofs.service.serve.Goals as goal
 
 pub returns-in-Ok : goal.returns-in-Ok

@@ -1,5 +1,5 @@
 use Rattle.ken_drive.specs.Clauses.{views_of}
-use Rattle.ken_top.proofs.Doing.{sums-up}
+use Rattle.ken_top.proofs.Commanded.{sums-up}
 use Rattle.ken_top.proofs.soaking.soaked_alone.Goals as goal
 
 pub returns : goal.returns

@@ -7,7 +7,7 @@ use Rattle.ken_words.specs.Fits.{Fits}
 use Rattle.std.specs.Prelude.{IfSome}
 use Rattle.ken_top.specs.Does.{Does, no_rounds}
 use Rattle.ken_top.specs.Programs.{kinds}
-use Rattle.ken_top.proofs.Doing.{short-does}
+use Rattle.ken_top.proofs.Commanded.{short-does}
 use Rattle.ken_top.proofs.top.ken_alone.Goals as goal
 
 pub done_alone-requires-clause-fits : goal.done_alone-requires-clause-fits
