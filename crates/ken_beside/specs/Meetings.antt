@@ -1,5 +1,5 @@
 -- Steps of a node's three workers, and the meeting after them: the node is in its place again, with its accounts.
-use Rattle.std.specs.Prelude.{◌≡◌, ℕ, List, ◌++◌, Err}
+use Rattle.std.specs.Prelude.{◌≡◌, ℕ, List, ◌++◌, Err, false}
 use Rattle.ken_disk.specs.declared.disk.Disk as disk
 use Rattle.ken_app.specs.declared.oracle.Oracle as oracle
 use Rattle.ken_model.specs.Game.{Game}
