@@ -14,12 +14,12 @@ use Rattle.ken_run.specs.Drained.{DrainsTo, HasDrained, HasNotEnded, PassesOn, P
 use Rattle.ken_run.specs.declared.station.Station.{Station}
 use Rattle.ken_disk.specs.Story.{Follows, IsAtRest, Tells}
 use Rattle.ken_node.specs.Stages.{image_told, turns_in}
-use Rattle.ken_run.specs.Patched.{AllVisited, HasGoneOn, HasItsImage, HaveImages, WasVisited}
+use Rattle.ken_run.specs.Patched.{AllVisited, HasGoneOn, HasItsImage, HaveImages, SyncsOn, WasVisited}
 
--- what was at rest after a change is
-rests-now : (old new : Option Story) (R : Story → Story → Type 0) → Follows (λ (a b : Story). IsAtRest b.now × R a b) old new → Tells new (λ h. IsAtRest h.now)
-rests-now (Some a) new R follows = λ h is. let both : Some follows.0 ≡ Some h = sym follows.1 ∙ is in let same : follows.0 ≡ h = cc in subst (λ (x : Story). IsAtRest x.now) same follows.2.0
-rests-now None new R follows = λ h is. let no : None ≡ Some h = sym follows ∙ is in absurd (cc)
+-- nothing is pending after a sync
+rests-now : (old new : Option Story) → Follows SyncsOn old new → Tells new (λ h. IsAtRest h.now)
+rests-now (Some a) new follows = λ h is. let both : Some follows.0 ≡ Some h = sym follows.1 ∙ is in let same : follows.0 ≡ h = cc in subst (λ (x : Story). IsAtRest x.now) same follows.2.0
+rests-now None new follows = λ h is. let no : None ≡ Some h = sym follows ∙ is in absurd (cc)
 
 last-too : (P : ℕ → Type 0) (ns : List ℕ) (n : ℕ) → AllByRecursion P (ns ++ n ∷ []) → P n
 last-too P [] n all = all.0
@@ -33,7 +33,7 @@ has-image told old new (inl again) on =
     absurd (omega (arith, more))
 has-image told old new (inr done) on =
     let since = done.1 in
-    record { patched = since.patched; rests = rests-now (image_told told old.node.stage) (image_told told new.node.stage) (λ a b. (a.now.syncs < b.now.syncs) × (length a.past < length b.past)) since.synced }
+    record { patched = since.patched; rests = rests-now (image_told told old.node.stage) (image_told told new.node.stage) since.synced }
 
 module _ {D O U A : Type 0} (told : Watched D → Option Story) (size : Watched D → ℕ) (took : U → Option (List Out)) (handles : A → Handler) where
   pub passes-then : (old mid new : Run D O U A) → PassesOn told size took handles old mid → PassesOn told size took handles mid new → PassesOn told size took handles old new

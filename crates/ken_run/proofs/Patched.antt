@@ -108,7 +108,7 @@ story-then (Some h) o2 o3 one two =
     let syncs2 = next.2.0 in
     let past = one.2.1 in
     let past2 = next.2.1 in
-    (next.0, next.1, omega (arith, syncs, syncs2), omega (arith, past, past2))
+    (next.0, next.1, (omega (arith, syncs, syncs2), omega (arith, past, past2)))
 
 -- a sync after some other calls
 synced-then : (o o2 o3 : Option Story) → KeepsStory o o2 → HasMadeSync o2 o3 → Follows SyncsOn o o3
@@ -216,7 +216,7 @@ module _ {D O U : Type 0} where
       where
         by : (o : Option Story) → KeepsStory o o
         by None = refl
-        by (Some h) = (h, refl, omega arith, omega arith)
+        by (Some h) = (h, refl, (omega arith, omega arith))
 
     pub same-may-sync : (a b : Station D O U) → image_told told b.node.stage ≡ image_told told a.node.stage → MaySync told a b
     same-may-sync a b same = subst (λ (o : Option Story). KeepsStory (image_told told a.node.stage) o) (sym same) (may-sync a)

@@ -48,7 +48,7 @@ module _ {D O U : Type 0} (told : Watched D → Option Story) where
       let count : length b.lines.items ≡ length a.lines.items = ap length done.0.lines in
       record {
         lines = omega (arith, count);
-        states = λ same. weakened SyncsOn (Adds 0) (image_told told a.node.stage) (image_told told b.node.stage) done.1.synced (λ x y was on. let past = on.1.1 in omega (arith, past));
+        states = λ same. weakened SyncsOn (Adds 0) (image_told told a.node.stage) (image_told told b.node.stage) done.1.synced (λ x y was on. let past = on.2 in omega (arith, past));
       }
 
   -- ---- of all
