@@ -103,7 +103,7 @@ module _ {D : Type 0} (d : disk.Ghosts D) where
       by (no_room err taken) = absurd cc
 
   sync-adds : (a b : PatchWorker D) → Settles d (Ok tt) a b → Takes b × Adds 1 (image a) (image b)
-  sync-adds a b one = (one.settles.takes, all-add tt (Sync ∷ []) (image a) (image b) one.settles.calls)
+  sync-adds a b one = (one.settles.takes, all-add {T = Unit {0}} tt (Sync ∷ []) (image a) (image b) one.settles.calls)
 
   -- so each step adds one
   step-adds : (a b : PatchWorker D) → PatcherSteps d a b → Takes a → Takes b × Adds 1 (image a) (image b)
