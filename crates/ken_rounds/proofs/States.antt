@@ -6,9 +6,7 @@ use Rattle.ken_disk.specs.Story.{Story, Follows}
 use Rattle.ken_disk.specs.Steps.{after_writing, after_syncing}
 use Rattle.ken_image.specs.declared.image.Image.{Image}
 use Rattle.ken_image.specs.Calls.{Call, Called, Sync, Write, after_calls}
-use Rattle.ken_store.specs.declared.disks.Disks.{Disks}
 use Rattle.ken_store.specs.declared.patching.Ahead.{Ahead}
-use Rattle.ken_store.specs.Apart.{disks_apart}
 use Rattle.ken_store.specs.Patching.{IsInOrder, TakesPatches, page_calls, patch_calls}
 use Rattle.ken_ship.specs.declared.faults.NodeFault.{NodeFault}
 use Rattle.ken_ship.specs.declared.faults.NodeFault.TheVariants.{Disk, Damaged, Outlet, Memory}
@@ -18,7 +16,6 @@ use Rattle.ken_work.specs.declared.worker.TurnWorker.{TurnWorker}
 use Rattle.ken_work.specs.Patches.{PatchesOnce, no_room, went}
 use Rattle.ken_node.specs.declared.watched.Watched.{Watched}
 use Rattle.ken_node.specs.Stages.{image_told}
-use Rattle.ken_node.proofs.Up.{met-disks}
 use Rattle.ken_run.specs.declared.run.Run.{Run}
 use Rattle.ken_run.specs.declared.station.Station.{Station}
 use Rattle.ken_run.specs.Patched.{AddsStates, AllAdd}
@@ -132,7 +129,7 @@ module _ {D : Type 0} (d : disk.Ghosts D) where
   pub crew-adds : (t t2 t3 : TurnWorker D) (p p2 p3 : PatchWorker D) (s s2 s3 : SendWorker) (fault : Option NodeFault) → fault ≢ Some Memory → is_disk fault ≡ false → Ran (PatcherSteps d) (PatcherFails d) p p2 fault
       → Takes p → HaveEmptied d t2 t3 p2 p3 s2 s3 → Adds 16 (image p) (image p3)
   crew-adds t t2 t3 p p2 p3 s s2 s3 fault had isnt ran takes meets =
-      subst (Adds 16 (image p)) (ap (λ (x : Disks D). d.told x.image) (sym (met-disks d.told d.size t2 t3 p2 p3 s2 s3 meets.met))) (patcher-adds fault p p2 had isnt ran takes)
+      subst (Adds 16 (image p)) (ap (λ (i : Image D). d.told i.disk) (sym meets.met.patches.handed.image)) (patcher-adds fault p p2 had isnt ran takes)
 
 -- ---- rounds one after another
 
