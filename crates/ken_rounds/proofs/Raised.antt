@@ -9,7 +9,7 @@ use Rattle.ken_net.specs.declared.lossy.Lossy.{Lossy}
 use Rattle.ken_core.specs.declared.events.Event.{Event}
 use Rattle.ken_core.specs.Calls.{Doubt}
 use Rattle.ken_core.specs.Nodes.{Node}
-use Rattle.ken_core.specs.Packets.{nothing, one_after_other, Outgoing, Packet}
+use Rattle.ken_core.specs.Packets.{nothing, Outgoing, Packet}
 use Rattle.ken_core.specs.Packets as core
 use Rattle.ken_core.specs.Runs.{NodeRun}
 use Rattle.ken_record.specs.declared.effects.Effects.{Effects}

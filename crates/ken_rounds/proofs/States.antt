@@ -1,5 +1,5 @@
 -- How many past states rounds add to the story of a node's image.
-use Rattle.std.proofs.Common.{◌≡◌, ◌≢◌, ℕ, ◌+◌, ◌*◌, ◌≤◌, List, [], ◌∷◌, length, Bool, true, false, Option, Some, None, Ok, refl, sym, ap, subst, arith}
+use Rattle.std.proofs.Common.{◌≡◌, ◌≢◌, ℕ, ◌+◌, ◌*◌, ◌≤◌, List, [], ◌∷◌, length, true, false, Option, Some, None, Ok, refl, sym, ap, subst, arith}
 use Rattle.std.specs.declared.sync.Arc.{Arc}
 use Rattle.ken_disk.specs.declared.disk.Disk as disk
 use Rattle.ken_disk.specs.Story.{Story, Follows}

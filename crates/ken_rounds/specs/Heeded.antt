@@ -1,5 +1,5 @@
 -- What rounds make of the outlets that refuse: each refusal counts, and the one that is once too often is heeded.
-use Rattle.std.specs.Prelude.{◌≡◌, ◌⊎◌, ℕ, ◌+◌, ◌-◌, ◌^◌, ◌<◌, ◌≤◌, min, length, slice_index_or, Option, Result, Ok, Err}
+use Rattle.std.specs.Prelude.{◌≡◌, ◌⊎◌, ℕ, ◌+◌, ◌-◌, ◌^◌, ◌<◌, ◌≤◌, min, length, slice_index_or, Result, Ok, Err}
 use Rattle.ken_node.specs.Stages.{emissions_in, refusals_in}
 use Rattle.ken_ship.specs.declared.outlet.Outlet as outlet
 use Rattle.ken_ship.specs.Fates.{Fate, Follows}
