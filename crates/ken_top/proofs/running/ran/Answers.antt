@@ -5,5 +5,5 @@ use Rattle.ken_top.proofs.Commanded.{reports}
 use Rattle.ken_top.proofs.running.ran.Goals as goal
 
 pub returns : goal.returns
-returns g c = reports g.S.Source (by_seed c.args.seed (g.C.Cast.program c.args.cast)) all_rounds (views_of g.W.Dev.Disk g.W.Luck.Oracle g.W.Out.Outlet g.W.World.scripted) (g.W.World.kept c.run.new.world) c.args.source.now c.run.new.source g.K.Sink c.args.sink.now c.reported.new.sink c.run.result c.reported.result c.run.ensures
+returns g c = reports g.S.Source (by_seed c.args.seed (g.C.Cast.program c.args.cast)) all_rounds (views_of g.W.Dev.Disk g.W.Luck.Oracle g.W.Out.Outlet g.W.World.scripted) (g.W.World.kept c.run-run.new.world) c.args.source.now c.run-run.new.source g.K.Sink c.args.sink.now c.reported.new.sink c.run-run.result c.reported.result c.run-run.ensures
     c.reported.ensures.out c.reported.ensures.refused c.reported.ensures.write c.reported.ensures.no_failed_write c.reported.ensures.faults

@@ -5,5 +5,5 @@ use Rattle.ken_top.proofs.Commanded.{reports}
 use Rattle.ken_top.proofs.running.ran_alone.Goals as goal
 
 pub returns : goal.returns
-returns g c = reports g.S.Source (by_seed c.args.seed (g.C.Cast.program c.args.cast)) no_rounds (views_of g.W.Dev.Disk g.W.Luck.Oracle g.W.Out.Outlet g.W.World.scripted) (g.W.World.kept c.run_alone.new.world) c.args.source.now c.run_alone.new.source g.K.Sink c.args.sink.now c.reported.new.sink c.run_alone.result c.reported.result c.run_alone.ensures
+returns g c = reports g.S.Source (by_seed c.args.seed (g.C.Cast.program c.args.cast)) no_rounds (views_of g.W.Dev.Disk g.W.Luck.Oracle g.W.Out.Outlet g.W.World.scripted) (g.W.World.kept c.run_alone-run.new.world) c.args.source.now c.run_alone-run.new.source g.K.Sink c.args.sink.now c.reported.new.sink c.run_alone-run.result c.reported.result c.run_alone-run.ensures
     c.reported.ensures.out c.reported.ensures.refused c.reported.ensures.write c.reported.ensures.no_failed_write c.reported.ensures.faults
