@@ -9,3 +9,4 @@ mod words;
 pub use faults::ReportFault;
 pub use printing::print;
 pub use spelling::{put_emission, put_end, put_heap, put_restart, put_turn};
+pub use words::{Word, put_line};

@@ -10,8 +10,10 @@ use std::alloc::{AllocError, Global};
 
 /// A word of a line.
 #[derive(Clone, Copy, Debug)]
-pub(crate) enum Word<'a> {
+pub enum Word<'a> {
+    /// These bytes.
     Text(&'a [u8]),
+    /// A number, in decimal.
     Number(u64),
     /// A node, or `out`.
     Sender(u8),
@@ -81,9 +83,10 @@ pub(crate) fn heap_words(
     Ok(words)
 }
 
-/// Appends a line of these words, with a space between two and a line feed at the end.
+/// Appends a line of these words, with a space between two and a line feed at the end. The error is want of memory; what was put
+/// before it stays there.
 #[tactic(auto, unfolding(ken_model::specs::Report::line))]
-pub(crate) fn put_line(out: &mut Vec<u8>, words: &[Word<'_>]) -> Result<(), AllocError>
+pub fn put_line(out: &mut Vec<u8>, words: &[Word<'_>]) -> Result<(), AllocError>
     ensures { OnOk result (out.new.items ≡ out.old.items ++ line (map spelled words.now)) }
 {
     put_words(out, words)?;

@@ -1,0 +1,5 @@
+mod Apart
+pub mod Counts
+mod Dumps
+mod Out
+mod Refused
