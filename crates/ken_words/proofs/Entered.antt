@@ -1,19 +1,19 @@
 -- What `clap` makes of the word after the program's name: it enters the subcommand of that name, and else none.
-use Rattle.std.proofs.Common.{◌≡◌, ◌∙◌, ◌⊎◌, ◌==◌, ◌&&◌, ℕ, Bool, cond, zero, suc, true, false, inl, inr, refl, sym, ap, ap₂, arith, List, [], ◌∷◌, ◌++◌, length, Option, Some, None, is_some, option_map, codes, ne_eqb}
+use Rattle.std.proofs.Common.{◌≡◌, ◌∙◌, ◌&&◌, ℕ, Bool, cond, zero, suc, true, false, refl, sym, ap, ap₂, subst, List, [], ◌∷◌, ◌++◌, length, Option, Some, None, is_some, option_map, codes}
 use Rattle.std.specs.Prelude.{slice_get}
-use Rattle.std.specs.List.{AllByRecursion, find, fold, list_all}
+use Rattle.std.specs.List.{find, fold}
 use Rattle.std.specs.Option.{option_map_or}
-use Rattle.std.specs.Str.{all_ascii_digits, bytes_eq, chars}
+use Rattle.std.specs.Str.{bytes_eq, chars}
+use Rattle.std.proofs.lemmas.Slice.Eq.{bytes_eq-Decides}
 use Rattle.clap.specs.Lexer.{long_of, short_of}
 use Rattle.clap.specs.Words.{App, Kinds, Shape, Text, built, fault_of, subcommand_of}
-use Rattle.clap.specs.Walk.{Held, Names, Outcome, Walk, after_flag, after_step, answers_to, bundle_met, bundle_step, finished, idle, long_or_other, nothing_held, plain, refused, settled, short_or_plain, subcommand_met, subcommand_or_other, trailing, walked}
+use Rattle.clap.specs.Walk.{Held, Names, Outcome, Walk, after_flag, after_step, answers_to, bundle_met, bundle_step, finished, idle, long_or_other, nothing_held, plain, settled, short_or_plain, subcommand_met, subcommand_or_other, walked}
 use Rattle.clap.specs.Simple.{entered, label_of, names_of, rows_at}
-use Rattle.clap.specs.Faults.{check_fault, defaults_fault, entered_fault, other_fault, settle_fault, step_fault, walk_fault}
+use Rattle.clap.specs.Faults.{bundle_fault, bundle_step_fault, check_fault, defaults_fault, entered_fault, flag_word_fault, flags_fault, other_fault, settle_fault, step_fault, turn_fault, walk_fault}
 use Rattle.clap.specs.Kinds.{or_else}
 use Rattle.clap.specs.declared.error.kind.ErrorKind.TheVariants.{DisplayHelp, InvalidSubcommand}
-use Rattle.clap.proofs.WalkLemmas.{both, walk_stopped}
+use Rattle.clap.proofs.WalkLemmas.{walk_stopped}
 use Rattle.ken_words.specs.Parser.{ken}
-use Rattle.ken_words.proofs.Digits.{IsDigits, first_digit}
 use Rattle.ken_words.proofs.Leaves.{faults}
 
 -- the program as a parse has it
@@ -79,74 +79,59 @@ entered_rows program name words s is sub =
 
 -- ---- any other word
 
--- a bundle of flags, of which there is none
-bundle_none : (k : ℕ) (flags : Text) → (bundle_met [] k flags 0 plain nothing_held ≡ (nothing_held, plain)) ⊎ (bundle_met [] k flags 0 plain nothing_held ≡ (nothing_held, refused))
-unfolding bundle_met
-bundle_none zero flags = inl refl
-bundle_none (suc k) flags = go (slice_get (chars flags) 0)
-  where
-    go : (o : Option ℕ) → (bundle_step [] o flags 0 plain nothing_held (bundle_met [] k) ≡ (nothing_held, plain)) ⊎ (bundle_step [] o flags 0 plain nothing_held (bundle_met [] k) ≡ (nothing_held, refused))
-    go None = inl refl
-    go (Some x) = inr refl
-
--- what a walk comes to after a word that is no subcommand's name
-abbrev LooseAfter : Walk → Type 0
-LooseAfter w = (is_trailing : Bool) × (w ≡ loose is_trailing)
-
-abbrev stays : Text → Held × Outcome → Walk
-stays word p = let m = after_flag [] idle word p.0 p.1 in after_step [] word (loose false) m.0 m.1
-
-loose_short : (word : Text) (o : Option Text) → (let m = short_or_plain [] idle word o nothing_held in after_step [] word (loose false) m.0 m.1) ≡ loose false
-loose_short word None = refl
-loose_short word (Some flags) = elim (bundle_none (length flags) flags) [
-  | inl e ↦ ap (stays word) e
-  | inr e ↦ ap (stays word) e
-]
-
-loose_long : (word : Text) (o : Option (Text × Option Text)) → (let m = long_or_other [] idle word o nothing_held in after_step [] word (loose false) m.0 m.1) ≡ loose false
-loose_long word (Some p) = refl
-loose_long word None = loose_short word (short_of word)
-
-loose_on : (word : Text) (is_trailing : Bool) → met word ≡ None → LooseAfter (walked [] names (loose is_trailing) word)
+-- a walk after `--` meets no subcommand
+trailing_on : (words : List Text) → fold (walked [] names) (loose true) words ≡ loose true
 unfolding walked
-loose_on word true none = (true, refl)
-loose_on word false none =
-    let here = ap (λ o. let m = subcommand_or_other [] o idle 1 word nothing_held in after_step [] word (loose false) m.0 m.1) none in
-    let there = go (bytes_eq word (45 ∷ 45 ∷ [])) in
-    (there.0, here ∙ there.1)
+trailing_on [] = refl
+trailing_on (word ∷ rest) = trailing_on rest
+
+-- the faults at a word that is no subcommand's name
+abbrev bundle_way : Text → Held × Outcome → Kinds → Kinds
+bundle_way word p fault = let m = after_flag [] idle word p.0 p.1 in or_else fault (step_fault top.top 1 m.0 m.1)
+
+abbrev short_way : Text → Option Text → Kinds
+short_way word o = let m = short_or_plain [] idle word o nothing_held in
+    or_else (option_map_or (λ flags. bundle_fault [] false flags nothing_held) o []) (step_fault top.top 1 m.0 m.1)
+
+abbrev long_way : Text → Option (Text × Option Text) → Kinds
+long_way word o = let m = long_or_other [] idle word o nothing_held in
+    or_else (flag_word_fault [] false o word nothing_held) (step_fault top.top 1 m.0 m.1)
+
+-- a bundle of flags, of which there is none
+bundle_fails : (word : Text) (k : ℕ) (flags : Text)
+    → bundle_way word (bundle_met [] k flags 0 plain nothing_held) (flags_fault [] false k flags 0 nothing_held) ≡ [] → ⊥
+unfolding bundle_met flags_fault
+bundle_fails word zero flags e = absurd cc
+bundle_fails word (suc k) flags e = go (slice_get (chars flags) 0) e
   where
-    go : (b : Bool) → LooseAfter (let m = cond b (nothing_held, trailing 1) (long_or_other [] idle word (long_of word) nothing_held) in after_step [] word (loose false) m.0 m.1)
-    go true = (true, refl)
-    go false = (false, loose_long word (long_of word))
+    go : (o : Option ℕ) → bundle_way word (bundle_step [] o flags 0 plain nothing_held (bundle_met [] k))
+        (bundle_step_fault [] false o flags 0 nothing_held (flags_fault [] false k)) ≡ [] → ⊥
+    go None e = absurd cc
+    go (Some x) e = absurd cc
 
--- a walk over such words meets no subcommand
-never : (words : List Text) (is_trailing : Bool) → AllByRecursion (λ word. met word ≡ None) words → (fold (walked [] names) (loose is_trailing) words).stopped ≡ None
-never [] is_trailing none = refl
-never (word ∷ rest) is_trailing none =
-    let here = loose_on word is_trailing none.0 in
-    ap (λ w. (fold (walked [] names) w rest).stopped) here.1 ∙ never rest here.0 none.1
+short_fails : (word : Text) (o : Option Text) → short_way word o ≡ [] → ⊥
+short_fails word None e = absurd cc
+short_fails word (Some flags) e = bundle_fails word (length flags) flags e
 
-abbrev pub AreDigits : List Text → Type 0
-AreDigits words = list_all all_ascii_digits words ≡ true
+long_fails : (word : Text) (o : Option (Text × Option Text)) → long_way word o ≡ [] → ⊥
+long_fails word (Some p) e = absurd cc
+long_fails word None e = short_fails word (short_of word) e
 
--- digits are the name of none
-no_name : (word : Text) → IsDigits word → met word ≡ None
-no_name [] digits = refl
-no_name (x ∷ xs) digits =
-    let high = (first_digit x xs digits).1 in
-    let run : (114 == x) ≡ false = ne_eqb 114 x (λ e. omega (arith, high, e)) in
-    let check : (99 == x) ≡ false = ne_eqb 99 x (λ e. omega (arith, high, e)) in
-    let soak : (115 == x) ≡ false = ne_eqb 115 x (λ e. omega (arith, high, e)) in
-    let torment : (116 == x) ≡ false = ne_eqb 116 x (λ e. omega (arith, high, e)) in
-    rw (run, check, torment, soak) refl
+or_else-none : (k rest : Kinds) → or_else k rest ≡ [] → k ≡ []
+or_else-none [] rest e = refl
+or_else-none (x ∷ xs) rest e = absurd cc
 
-no_names : (words : List Text) → AreDigits words → AllByRecursion (λ word. met word ≡ None) words
-no_names [] digits = tt
-no_names (word ∷ rest) digits =
-    let parts = both (all_ascii_digits word) (list_all all_ascii_digits rest) digits in
-    (no_name word parts.0, no_names rest parts.1)
-
--- so a word that is no subcommand's name enters none, and neither do the digits after it
-pub enters_none : (program word : Text) (words : List Text) → met word ≡ None → AreDigits words
+-- so where there is no fault, the word is `--`, and no subcommand is entered
+pub enters_none : (program word : Text) (words : List Text) → met word ≡ None → fault_of ken (program ∷ word ∷ words) ≡ []
     → subcommand_of ken (program ∷ word ∷ words) ≡ None
-enters_none program word words none digits = ap (entered top) (never (word ∷ words) false (none, no_names words digits))
+unfolding walk_fault walked
+enters_none program word words none fault = go (bytes_eq word (45 ∷ 45 ∷ [])) refl
+  where
+    go : (b : Bool) → bytes_eq word (45 ∷ 45 ∷ []) ≡ b → subcommand_of ken (program ∷ word ∷ words) ≡ None
+    go true is =
+        subst (λ w. subcommand_of ken (program ∷ w ∷ words) ≡ None) (sym ((bytes_eq-Decides word (45 ∷ 45 ∷ [])).0 is))
+        (ap (λ (w : Walk). entered top w.stopped) (trailing_on words))
+    go false is =
+        let here : turn_fault top.top names (loose false) word ≡ long_way word (long_of word) = rw (none, is) refl in
+        let turn = or_else-none (turn_fault top.top names (loose false) word) _ (or_else-none _ _ fault) in
+        absurd (long_fails word (long_of word) (sym here ∙ turn))

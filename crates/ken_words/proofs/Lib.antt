@@ -1,7 +1,6 @@
-pub mod Digits
+pub mod Dashes
 pub mod Walks
 pub mod Leaves
-pub mod Soaks
 pub mod Entered
 pub mod Asked
 pub mod Ranges

@@ -6,8 +6,9 @@ ghost use Rattle.ken_words.specs.Numbers.{number_in};
 ghost use Rattle.ken_words.specs.Parser.{asked, read_at, soak_in};
 ghost use Rattle.ken_words.specs.declared.commands.Command.TheVariants.{Check, Torment};
 
-use crate::numbers::{have_digits, number_in};
+use crate::numbers::number_in;
 use crate::parser::parser;
+use crate::prefixes::{are_undashed, asked_dump, asked_save};
 use clap::ArgMatches;
 use clap::error::ErrorKind;
 use ken_model::{MAX_INPUTS, MAX_NODES};
@@ -34,15 +35,24 @@ pub enum Command {
         inputs: u16,
         rounds: u64,
     },
+    /// Run a script, and save its disks to files of a prefix.
+    Save,
+    /// Tell what the disks of a node hold that were saved to files of a prefix, for a run of so many nodes and pages.
+    Dump {
+        node: u8,
+        nodes: u8,
+        pages: u32,
+    },
 }
 
 /// The command that plain words ask for: the program's name, and then `run`, or `check` and a length, or `torment` and a
-/// seed, or `soak` and a seed, nodes, inputs and rounds. `None` for any others. The only error is want of memory.
+/// seed, or `soak` and a seed, nodes, inputs and rounds, or `save` and a prefix, or `dump` and a prefix, a node, nodes and
+/// pages. `None` for any others. `prefix_in` gives the prefix. The only error is want of memory.
 pub fn command_in(alloc: Global, words: &[String]) -> Result<Option<Command>, AllocError>
     ensures { IfOk result (λ command. command ≡ command_of (map string_bytes words.now)) }
 {
-    // What `clap` takes beyond plain words, such as `--`, is no number.
-    if !have_digits(words) {
+    // What `clap` takes beyond plain words, as `--`, begins with a dash.
+    if !are_undashed(words) {
         return Ok(None);
     }
     match parser(alloc)?.try_get_matches_from(words) {
@@ -67,6 +77,10 @@ fn asked(matches: &ArgMatches) -> Option<Command>
         asked_torment(given)
     } else if name == "soak" {
         asked_soak(given)
+    } else if name == "save" {
+        asked_save(given)
+    } else if name == "dump" {
+        asked_dump(given)
     } else {
         None
     }
@@ -107,7 +121,7 @@ fn asked_soak(given: &ArgMatches) -> Option<Command>
 }
 
 // A value of a subcommand as a number from `least` to `most`.
-fn value_at(least: u64, most: u64, given: &ArgMatches, id: &str) -> Option<u64>
+pub(crate) fn value_at(least: u64, most: u64, given: &ArgMatches, id: &str) -> Option<u64>
     ensures number { result ≡ read_at (number_in least most) id.now (rows_of (found_of given.now)) }
     ensures most { IfSome result (λ n. n ≤ most) }
 {

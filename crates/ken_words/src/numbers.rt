@@ -9,28 +9,6 @@ ghost use Rattle.ken_words.specs.Numbers.{is_number, number_in};
 // The most digits of a number.
 const MOST_DIGITS: usize = 20;
 
-// Whether the words from the third on have no other byte than digits.
-pub(crate) fn have_digits(words: &[String]) -> bool
-    ensures { result ≡ list_all all_ascii_digits (drop 2 (map string_bytes words.now)) }
-{
-    match words {
-        [_, _, numbers @ ..] => are_all_digits(numbers),
-        _ => true,
-    }
-}
-
-// Whether words have no other byte than digits.
-fn are_all_digits(words: &[String]) -> bool
-    ensures { result ≡ list_all all_ascii_digits (map string_bytes words.now) }
-{
-    for word in words {
-        if !are_digits(word.as_bytes()) {
-            return false;
-        }
-    }
-    true
-}
-
 // Whether all bytes are decimal digits.
 fn are_digits(bytes: &[u8]) -> bool
     ensures { result ≡ all_ascii_digits bytes.now }
