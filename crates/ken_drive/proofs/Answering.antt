@@ -69,7 +69,7 @@ module _ {D O U A : Type 0} (d : disk.Ghosts D) (o : oracle.Ghosts O) (u : outle
       abbrev Ends : Result Lines RunFault → Type 0
       Ends result = EndsBy (λ w. d.told w.disk) (λ w. d.size w.disk) (λ w. d.faults w.disk) (λ w. d.fate w.disk) o.telling u.took a.handler u.faults u.fate terms game result r
 
-      ends : Ends answer
+      pub ends : Ends answer
       ends = tells terms game script.facts.nodes running refl accounts refused rules.plain
 
       few-by : (result : Result Lines RunFault) → Ends result → (result ≡ Err Memory → ⊥) → length r.stations.items ≤ 8

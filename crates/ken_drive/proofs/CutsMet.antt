@@ -1,5 +1,5 @@
 -- The cuts that the disks of a node have met.
-use Rattle.std.proofs.Common.{arith, ◌≡◌, ℕ, ◌+◌, ◌≤◌, Option}
+use Rattle.std.proofs.Common.{arith, ℕ, ◌+◌, Option}
 use Rattle.ken_disk.specs.Fates.{Fate}
 use Rattle.ken_store.specs.declared.disks.Disks.{Disks}
 use Rattle.ken_node.specs.declared.stage.Stage.{Stage}

@@ -1,5 +1,5 @@
 -- What waits in a group in accord is little: its turns have a history.
-use Rattle.std.proofs.Common.{◌≡◌, ℕ, ◌+◌, ◌<◌, ◌≤◌, ◌^◌, ◌++◌, length, true, ◌==◌, ap, sym, ◌∙◌, ⊎_elim, arith, refl, length-append, eq-eqb, ne_eqb}
+use Rattle.std.proofs.Common.{◌≡◌, ℕ, ◌<◌, ◌≤◌, ◌^◌, length, true, ◌==◌, ap, ◌∙◌, ⊎_elim, arith, refl, length-append, eq-eqb, ne_eqb}
 use Rattle.std.proofs.lemmas.Bool.{cases_eq}
 use Rattle.ken_model.specs.Game.{Game}
 use Rattle.ken_model.specs.History.{consumed, messages}

@@ -20,3 +20,7 @@ pub mod StartingAll
 pub mod Acts
 pub mod Stopping
 pub mod Answering
+pub mod Rereading
+pub mod SavingSome
+pub mod SavingStations
+pub mod SavingRun

@@ -3,6 +3,7 @@ use Rattle.std.specs.Prelude.{◌≡◌, ℕ, Bool, Option, Result, IfOk}
 use Rattle.ken_disk.specs.declared.disk.Disk as disk
 use Rattle.ken_app.specs.declared.app.App as app
 use Rattle.ken_app.specs.declared.oracle.Oracle as oracle
+use Rattle.ken_files.specs.Filing.{FileViews}
 use Rattle.ken_model.specs.declared.reports.Lines.{Lines}
 use Rattle.ken_model.specs.Game.{Game}
 use Rattle.ken_model.specs.Handler.{Handler}
@@ -22,6 +23,10 @@ use Rattle.ken_run.specs.Clauses.{Accounted, Up}
 -- what contracts see of the devices of a world
 abbrev pub views_of : {D O U : Type 0} → disk.Ghosts D → oracle.Ghosts O → outlet.Ghosts U → Bool → Views D O U
 views_of d o u scripted = record { told = d.told; faults = d.faults; fate = d.fate; telling = o.telling; took = u.took; refused = u.faults; calls = u.fate; scripted = scripted }
+
+-- and of its files
+abbrev pub files_of : {F : Type 0} → disk.Ghosts F → Bool → FileViews F
+files_of d tells = record { tells = tells; told = d.told; size = d.size; faults = d.faults }
 
 -- ---- how a run starts
 

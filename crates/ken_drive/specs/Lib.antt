@@ -7,4 +7,6 @@ pub mod Finishing
 pub mod Driven
 pub mod Starting
 pub mod Sparing
+pub mod Saving
+pub mod SavingParts
 pub mod Clauses

@@ -5,6 +5,7 @@ use Rattle.ken_memdisk.specs.declared.cut.Cut.{Cut}
 use Rattle.ken_memdisk.specs.Calls.{origin_of}
 use Rattle.ken_ship.specs.Fates as ship
 use Rattle.ken_run.specs.Devices.{IsTold, MayFailAt}
+use Rattle.ken_drive.specs.declared.memory.Kept.{Kept}
 
 -- that disk of a node, which was handed these cuts: it is up, was never restarted, and has no more falls than cuts
 pub record IsNewDisk (node which : ℕ) (cuts : List Cut) (f : Fate) : Type 0 where
@@ -25,3 +26,8 @@ pub record IsFatedOutlet (scripted : Bool) (node : ℕ) (fails : List ℕ) (fate
 -- a world has kept nothing
 abbrev pub HasKeptNothing : {K : Type 0} → (ℕ → Option K) → Type 0
 HasKeptNothing kept = (v : ℕ) → kept v ≡ None
+
+-- what contracts see of a world in memory: what it keeps of each node that there may be, and its files
+pub record Holdings (F : Type 0) : Type 0 where
+  pub kept : List (Option Kept)
+  pub files : F

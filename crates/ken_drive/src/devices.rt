@@ -59,6 +59,7 @@ fn disk<W: World>(
     ensures fate { IfOk result (λ d. IsFatedDisk W.scripted node which (cuts_for node which script.now.cuts)
         (W.Dev.fate d.disk)) }
     ensures kept { (v : ℕ) → W.kept world.new v ≡ W.kept world.old v }
+    ensures files { W.filing world.new ≡ W.filing world.old }
 {
     let cuts = cuts_of(alloc, script.cuts.as_slice(), node, which)?;
     Ok(Watched::new(world.disk(node, which, cuts.as_slice())?))
@@ -78,6 +79,7 @@ fn disks<W: World>(
     ensures image { IfOk result (λ d. W.Dev.told d.image.disk ≡ Some blank) }
     ensures second { IfOk result (λ d. W.Dev.told d.second.disk ≡ Some blank) }
     ensures kept { (v : ℕ) → W.kept world.new v ≡ W.kept world.old v }
+    ensures files { W.filing world.new ≡ W.filing world.old }
 {
     Ok(Disks {
         log: disk(alloc, script, node, 0, world)?,
@@ -102,6 +104,7 @@ fn uncreated<W: World>(
         → IsFresh ⟦<Watched<W::Dev> as Disk>⟧.faults ⟦<Watched<W::Dev> as Disk>⟧.fate
         (terms_of W.scripted script.now) node b.disks) }
     ensures kept { (v : ℕ) → W.kept world.new v ≡ W.kept world.old v }
+    ensures files { W.filing world.new ≡ W.filing world.old }
 {
     let disks = disks(alloc, script, node, world)?;
     match Node::new(alloc, disks, node, &script.facts) {
@@ -122,6 +125,7 @@ fn outlet<W: World>(
     ensures faults { IfOk result (λ o. W.Out.faults o ≡ 0) }
     ensures fate { IfOk result (λ o. IsFatedOutlet W.scripted node (fails_for node script.now.outlets) (W.Out.fate o)) }
     ensures kept { (v : ℕ) → W.kept world.new v ≡ W.kept world.old v }
+    ensures files { W.filing world.new ≡ W.filing world.old }
 {
     let fails = fails_of(alloc, script.outlets.as_slice(), node)?;
     world.outlet(node, fails.as_slice())
@@ -144,6 +148,7 @@ pub(crate) fn station<W: World>(
     ensures own { IfOk result
         (λ s. HasOwn W.scripted W.Luck.telling W.Out.took W.Out.faults W.Out.fate script.now node s) }
     ensures kept { (v : ℕ) → W.kept world.new v ≡ W.kept world.old v }
+    ensures files { W.filing world.new ≡ W.filing world.old }
 {
     let nodes = script.facts.nodes;
     let mail = Links::new(alloc, node, nodes, script.mail.as_slice())?;

@@ -29,7 +29,7 @@ use std::sync::Wait;
 use std::thread::Threads;
 
 /// Drains a run, and answers what it says then. The errors are those of `drain` and `lines`.
-fn told<D: Disk, O: Oracle, U: Outlet, A: App>(
+pub(crate) fn told<D: Disk, O: Oracle, U: Outlet, A: App>(
     alloc: Global,
     run: &mut Run<D, O, U, A>,
 ) -> Result<Lines, RunFault>
@@ -44,7 +44,7 @@ fn told<D: Disk, O: Oracle, U: Outlet, A: App>(
 
 /// Makes so many rounds of a run, drains it, and answers what it says then. The errors are those of `threaded`, `drain` and
 /// `lines`.
-fn told_by_rounds<R, D, O, U, A>(
+pub(crate) fn told_by_rounds<R, D, O, U, A>(
     rt: &R,
     alloc: Global,
     run: &mut Run<D, O, U, A>,
@@ -81,8 +81,9 @@ pub fn drive<R: Threads + Wait + Sync, W: World, A: App + Sync + Drop>(
     requires serves { Serves (A.handler app) script.now }
     requires rules { KeepsRules script.now }
     requires none { HasKeptNothing (W.kept world.old) }
-    ensures { Drives (views_of W.Dev.Disk W.Luck.Oracle W.Out.Outlet W.scripted) (A.handler app) script.now
+    ensures drives { Drives (views_of W.Dev.Disk W.Luck.Oracle W.Out.Outlet W.scripted) (A.handler app) script.now
         script.now.rounds (W.kept world.new) result }
+    ensures files { W.filing world.new ≡ W.filing world.old }
 {
     if script.rounds == 0 {
         return drive_alone(alloc, app, script, world);
@@ -104,8 +105,9 @@ pub fn drive_alone<W: World, A: App + Drop>(
     requires serves { Serves (A.handler app) script.now }
     requires rules { KeepsRules script.now }
     requires none { HasKeptNothing (W.kept world.old) }
-    ensures { Drives (views_of W.Dev.Disk W.Luck.Oracle W.Out.Outlet W.scripted) (A.handler app) script.now 0
+    ensures drives { Drives (views_of W.Dev.Disk W.Luck.Oracle W.Out.Outlet W.scripted) (A.handler app) script.now 0
         (W.kept world.new) result }
+    ensures files { W.filing world.new ≡ W.filing world.old }
 {
     ended_runs_keep::<W::Dev, W::Luck, W::Out, A>();
     let mut run = start(alloc, app, script, world)?;
@@ -122,8 +124,9 @@ pub fn drive_kind<R: Threads + Wait + Sync, W: World>(
 ) -> Result<Lines, RunFault>
     requires rules { KeepsRules script.now }
     requires none { HasKeptNothing (W.kept world.old) }
-    ensures { Drives (views_of W.Dev.Disk W.Luck.Oracle W.Out.Outlet W.scripted)
+    ensures drives { Drives (views_of W.Dev.Disk W.Luck.Oracle W.Out.Outlet W.scripted)
         (handler_of script.now.facts.kind) script.now script.now.rounds (W.kept world.new) result }
+    ensures files { W.filing world.new ≡ W.filing world.old }
 {
     kinds_serve();
     drive(rt, alloc, KindApp(script.facts.kind), script, world)
@@ -137,8 +140,9 @@ pub fn drive_kind_alone<W: World>(
 ) -> Result<Lines, RunFault>
     requires rules { KeepsRules script.now }
     requires none { HasKeptNothing (W.kept world.old) }
-    ensures { Drives (views_of W.Dev.Disk W.Luck.Oracle W.Out.Outlet W.scripted)
+    ensures drives { Drives (views_of W.Dev.Disk W.Luck.Oracle W.Out.Outlet W.scripted)
         (handler_of script.now.facts.kind) script.now 0 (W.kept world.new) result }
+    ensures files { W.filing world.new ≡ W.filing world.old }
 {
     kinds_serve();
     drive_alone(alloc, KindApp(script.facts.kind), script, world)

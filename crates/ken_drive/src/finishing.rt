@@ -1,5 +1,5 @@
 // How a run ends.
-ghost use Rattle.std.specs.Prelude.{◌≡◌, ◌≢◌, ◌<◌, ◌≤◌, ℕ, length, slice_index_or, Err};
+ghost use Rattle.std.specs.Prelude.{◌≡◌, ◌≢◌, ◌<◌, ◌≤◌, ℕ, length, slice_index_or, Some, Err};
 ghost use Rattle.std.specs.Bool.{Decides};
 ghost use Rattle.ken_model.specs.declared.facts.TheConstants.{MAX_NODES};
 ghost use Rattle.ken_run.specs.declared.station.Station.{Station as Stood};
@@ -11,11 +11,9 @@ use ken_model::Lines;
 use ken_run::{Run, RunFault, Station};
 use ken_store::Disks;
 
-/// Gives the devices of a node to the world.
-fn keep_station<W: World>(station: Station<W::Dev, W::Luck, W::Out>, node: u8, world: &mut W)
-    requires { node < MAX_NODES }
-    ensures given { WasKept station (W.kept world.new node) }
-    ensures others { (v : ℕ) → v ≢ node → W.kept world.new v ≡ W.kept world.old v }
+/// The devices of a node, its disks without their watch.
+pub(crate) fn devices_of<D: Disk, O, U>(station: Station<D, O, U>) -> (Disks<D>, O, U)
+    ensures { WasKept station (Some result) }
 {
     let Station {
         node: released,
@@ -29,6 +27,21 @@ fn keep_station<W: World>(station: Station<W::Dev, W::Luck, W::Out>, node: u8, w
         image: disks.image.into_disk(),
         second: disks.second.into_disk(),
     };
+    (disks, luck, out)
+}
+
+/// Gives the devices of a node to the world.
+pub(crate) fn keep_station<W: World>(
+    station: Station<W::Dev, W::Luck, W::Out>,
+    node: u8,
+    world: &mut W,
+)
+    requires { node < MAX_NODES }
+    ensures given { WasKept station (W.kept world.new node) }
+    ensures others { (v : ℕ) → v ≢ node → W.kept world.new v ≡ W.kept world.old v }
+    ensures files { W.filing world.new ≡ W.filing world.old }
+{
+    let (disks, luck, out) = devices_of(station);
     world.keep(node, disks, luck, out);
 }
 
@@ -38,6 +51,7 @@ pub fn finish<W: World, A: Drop>(run: Run<W::Dev, W::Luck, W::Out, A>, world: &m
     ensures given { (v : ℕ) (d : Stood W.Dev W.Luck W.Out) → v < length run.stations.items
         → WasKept (slice_index_or run.stations.items v d) (W.kept world.new v) }
     ensures others { (v : ℕ) → length run.stations.items ≤ v → W.kept world.new v ≡ W.kept world.old v }
+    ensures files { W.filing world.new ≡ W.filing world.old }
 {
     for (node, station) in (0..).zip(run.into_stations()) {
         keep_station(station, node, world);
@@ -55,6 +69,7 @@ pub(crate) fn give_back<W: World, A: Drop>(
     ensures same { result ≡ answer }
     ensures given { (answer ≡ Err RunFault.Memory → ⊥) → WereKept run (W.kept world.old) (W.kept world.new) }
     ensures none { answer ≡ Err RunFault.Memory → (v : ℕ) → W.kept world.new v ≡ W.kept world.old v }
+    ensures files { W.filing world.new ≡ W.filing world.old }
 {
     if is_short(&answer) {
         return answer;

@@ -9,6 +9,7 @@ mod memory;
 mod oracle;
 mod outlet;
 mod report;
+mod saving;
 mod starting;
 mod world;
 
@@ -20,5 +21,6 @@ pub use memory::{Kept, MemWorld};
 pub use oracle::MemOracle;
 pub use outlet::MemOutlet;
 pub use report::{end, lines};
+pub use saving::{SavingFault, drive_saving, drive_saving_alone};
 pub use starting::start;
 pub use world::{DISKS, World};

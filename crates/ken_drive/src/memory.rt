@@ -5,6 +5,7 @@ ghost use Rattle.ken_drive.specs.Worlds.{HasKeptNothing};
 use crate::oracle::MemOracle;
 use crate::outlet::MemOutlet;
 use crate::world::World;
+use ken_files::{Files, MemFiles, OpenFault};
 use ken_memdisk::{Cut, MemDisk};
 use ken_model::MAX_NODES;
 use ken_store::Disks;
@@ -22,46 +23,88 @@ pub struct Kept {
     pub out: MemOutlet,
 }
 
-/// A world in memory. It has a slot for each node, so `keep` takes no memory. Its disks and outlets fail just where they are told
-/// to.
+/// A world in memory, over files. It has a slot for each node, so `keep` takes no memory. Its disks and outlets fail just where
+/// they are told to.
 #[derive(Debug, Drop)]
-pub struct MemWorld {
+pub struct MemWorld<F = MemFiles> {
     alloc: Global,
     kept: [Option<Kept>; NODES],
+    files: F,
 }
 
-impl Model for MemWorld {
-    ghost use Rattle.std.specs.Prelude.{List, Option};
-    ghost use Rattle.ken_drive.specs.declared.memory.Kept.{Kept};
+impl<F> Model for MemWorld<F> {
+    ghost use Rattle.ken_drive.specs.Worlds.{Holdings};
 
-    ghost Value = { List (Option Kept) };
+    ghost Value = { Holdings F };
 
-    ghost view = { λ w. w.kept };
+    ghost view = { λ w. record { kept = w.kept; files = w.files } };
 }
 
 impl MemWorld {
-    /// A world that has kept nothing.
+    /// A world that has kept nothing, over files in memory: there are none, and nothing fails.
     pub fn new(alloc: Global) -> Self
-        ensures { HasKeptNothing (λ v. slice_index_or result v None) }
+        ensures { HasKeptNothing (λ v. slice_index_or result.kept v None) }
+    {
+        MemWorld::over(alloc, MemFiles::new(alloc))
+    }
+}
+
+impl<F> MemWorld<F> {
+    /// A world that has kept nothing, over these files.
+    pub fn over(alloc: Global, files: F) -> Self
+        ensures kept { HasKeptNothing (λ v. slice_index_or result.kept v None) }
+        ensures files { result.files ≡ files }
     {
         MemWorld {
             alloc,
             kept: [None, None, None, None, None, None, None, None],
+            files,
         }
     }
 
     /// What was given to `keep` last of a node, or `None`.
     pub fn kept(&self, node: u8) -> Option<&Kept>
-        ensures { option_copied result ≡ slice_index_or self.now node None }
+        ensures { option_copied result ≡ slice_index_or self.now.kept node None }
     {
         self.kept.get(usize::from(node))?.as_ref()
     }
+
+    /// Its files.
+    pub fn files(&self) -> &F
+        ensures { result.now ≡ self.now.files }
+    {
+        &self.files
+    }
 }
 
-impl World for MemWorld {
+impl<F: Files> Files for MemWorld<F> {
+    ghost use Rattle.std.specs.Prelude.{List, Option};
+    ghost use Rattle.ken_drive.specs.declared.memory.Kept.{Kept};
+
+    type File = F::File;
+
+    ghost filing = { λ w. F.filing w.files };
+
+    ghost tells = { F.tells };
+
+    ghost Rest = { List (Option Kept) × F.Rest };
+
+    ghost rest = { λ w. (w.kept, F.rest w.files) };
+
+    fn found(&mut self, path: &str, fresh: bool) -> Result<F::File, OpenFault> {
+        self.files.found(path, fresh)
+    }
+
+    fn put_back(&mut self, path: &str, file: F::File) {
+        self.files.put_back(path, file);
+    }
+}
+
+impl<F: Files> World for MemWorld<F> {
     ghost use Rattle.std.specs.Prelude.{◌≡◌, ◌≢◌, ◌<◌, ◌≤◌, ◌↔◌, ℕ, length, IfOk, slice_index_or, true, None, Some};
     ghost use Rattle.std.specs.List.{Contains};
     ghost use Rattle.std.specs.Option.{option_map};
+    ghost use Rattle.std.proofs.Common.{ap};
     ghost use Rattle.ken_disk.specs.Story.{blank};
     ghost use Rattle.ken_memdisk.specs.Calls.{no_calls, fate_of};
     ghost use Rattle.ken_model.specs.declared.facts.TheConstants.{MAX_NODES};
@@ -74,7 +117,7 @@ impl World for MemWorld {
 
     type Out = MemOutlet;
 
-    ghost kept = { λ w v. option_map (λ k. (k.disks, k.luck, k.out)) (slice_index_or w v None) };
+    ghost kept = { λ w v. option_map (λ k. (k.disks, k.luck, k.out)) (slice_index_or w.kept v None) };
 
     ghost scripted = { true };
 
@@ -106,9 +149,12 @@ impl World for MemWorld {
 
     fn keep(&mut self, node: u8, disks: Disks<MemDisk>, luck: MemOracle, out: MemOutlet)
         requires { node < MAX_NODES }
-        ensures given { slice_index_or self.new node None ≡ Some (record { disks = disks; luck = luck; out = out }) }
-        ensures others { (v : ℕ) → v ≢ node → slice_index_or self.new v None ≡ slice_index_or self.old v None }
+        ensures given { slice_index_or self.new.kept node None ≡ Some (record { disks = disks; luck = luck; out = out }) }
+        ensures others { (v : ℕ) → v ≢ node → slice_index_or self.new.kept v None ≡ slice_index_or self.old.kept v None }
+        ensures files { self.new.files ≡ self.old.files }
     {
         self.kept[usize::from(node)] = Some(Kept { disks, luck, out });
     }
+
+    ghost apart = { λ a b same v. ap (λ rest. option_map (λ k. (k.disks, k.luck, k.out)) (slice_index_or rest.0 v None)) same };
 }

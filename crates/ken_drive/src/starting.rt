@@ -49,6 +49,7 @@ fn fill<W: World, A: App + Drop>(
         W.scripted (A.handler run.old.app) script.now result run.new }
     ensures refused { IfOk result (λ x. RefusesStarted W.Out.Outlet W.scripted script.now run.new) }
     ensures kept { (v : ℕ) → W.kept world.new v ≡ W.kept world.old v }
+    ensures files { W.filing world.new ≡ W.filing world.old }
 {
     for node in 0..script.facts.nodes {
         run.join(station(alloc, script, node, world)?)?;
@@ -74,6 +75,7 @@ pub fn start<W: World, A: App + Drop>(
     ensures accounts { AccountsStarted W.Dev.Disk W.Luck.Oracle W.Out.Outlet A.App
         W.scripted (A.handler app) script.now result (W.kept world.new) }
     ensures refused { IfOk result (RefusesStarted W.Out.Outlet W.scripted script.now) }
+    ensures files { W.filing world.new ≡ W.filing world.old }
 {
     let mut run = empty(alloc, app, script)?;
     match fill(&mut run, alloc, script, world) {

@@ -10,3 +10,4 @@ invariant-loop-node g l =
     × ((v : ℕ) → g.W.World.kept l.world v ≡ g.W.World.kept l.fn.world v)
     × AreAccounted (λ w. g.W.Dev.Disk.told w.disk) (λ w. g.W.Dev.Disk.faults w.disk) (λ w. g.W.Dev.Disk.fate w.disk) g.W.Luck.Oracle.telling (terms_of g.W.World.scripted l.fn.script) (game_by (g.A.App.handler l.fn.run.app) l.fn.script) l.node l.run
     × AreRefused g.W.Out.Outlet.faults g.W.Out.Outlet.fate (terms_of g.W.World.scripted l.fn.script) l.node l.run
+    × (g.W.Files.filing l.world ≡ g.W.Files.filing l.fn.world)

@@ -24,6 +24,7 @@ returns-in-Ok g c = record {
   starts = subst (λ h. StartsBy (λ w. g.W.Dev.Disk.told w.disk) (λ w. g.W.Dev.Disk.size w.disk) g.W.Out.Outlet.took g.A.App.handler g.W.World.scripted g.W.Luck.Oracle.telling g.W.Out.Outlet.faults g.W.Out.Outlet.fate h c.args.script.now (Ok c.fill.new.run) (g.W.World.kept c.fill.new.world)) c.in_ok-run.ensures.started.stands.handler (c.in-Ok.ensures.fills, λ v. c.in-Ok.ensures.kept v ∙ c.requires.none v);
   accounts = subst (λ h. StartsAccountsBy (λ w. g.W.Dev.Disk.told w.disk) (λ w. g.W.Dev.Disk.faults w.disk) (λ w. g.W.Dev.Disk.fate w.disk) g.W.Luck.Oracle.telling (terms_of g.W.World.scripted c.args.script.now) (game_by h c.args.script.now) (Ok c.fill.new.run) (g.W.World.kept c.fill.new.world)) c.in_ok-run.ensures.started.stands.handler c.in-Ok.ensures.accounts;
   refused = c.in-Ok.ensures.refused;
+  files = c.in-Ok.ensures.files;
 }
 
 pub returns-in-Err-Down-clause-starts : goal.returns-in-Err-Down-clause-starts

@@ -12,9 +12,10 @@ fated (Ok o) v list none fails = record { may = (ap (λ (t : Taken). t.node) non
 fated (Err e) v list none fails = tt
 
 pub outlet-tells : goal.outlet-tells
-outlet-tells _ _ _ c = record {
+outlet-tells g _ _ _ _ c = record {
   took = IfOk-weaker c.result (λ o. o ≡ untaken c.args.node o.fails) _ (λ o none. ap (λ (t : Taken). t.outs) none) c.ensures.untaken;
   faults = IfOk-weaker c.result (λ o. o ≡ untaken c.args.node o.fails) _ (λ o none. ap (λ (t : Taken). t.faults) none) c.ensures.untaken;
   fate = fated c.result c.args.node c.args.fails.now c.ensures.untaken c.ensures.fails;
-  kept = λ v. ap (λ w. option_map (λ k. (k.disks, k.luck, k.out)) (slice_index_or w v None)) c.ensures.kept;
+  kept = λ v. ap (λ w. option_map (λ k. (k.disks, k.luck, k.out)) (slice_index_or w.kept v None)) c.ensures.kept;
+  files = ap (λ w. g.F.Files.filing w.files) c.ensures.kept;
 }
