@@ -11,7 +11,7 @@ use Rattle.std.proofs.lemmas.Map.Made.{is_member-Decides, length-le_from_is_memb
 use Rattle.ken_script.specs.declared.scripts.DiskCut.{DiskCut}
 use Rattle.ken_script.specs.declared.scripts.OutFail.{OutFail}
 use Rattle.ken_script.specs.declared.scripts.Script.{Script}
-use Rattle.ken_drive.specs.Sparing.{FailsInARow, LetsGoDown}
+use Rattle.ken_drive.specs.Sparing.{FailsInARow}
 use Rattle.ken_drive.specs.Starting.{cut_count, cut_of, cuts_for, fails_for}
 use Rattle.ken_gen.specs.Torments.{tormented}
 use Rattle.ken_gen.specs.TormentLaws.{AddsFew, HasFewOrThose, TormentAddsFew}

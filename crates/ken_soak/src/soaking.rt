@@ -26,8 +26,9 @@ pub fn soak<R: Threads + Wait + Sync, W: World>(
     world: &mut W,
 ) -> Result<Octets, RunFault>
     requires { MaySoak nodes inputs rounds (W.kept world.old) }
-    ensures { Soaked (views_of W.Dev.Disk W.Luck.Oracle W.Out.Outlet W.scripted) (W.kept world.new)
+    ensures soaks { Soaked (views_of W.Dev.Disk W.Luck.Oracle W.Out.Outlet W.scripted) (W.kept world.new)
         seed nodes inputs rounds result }
+    ensures files { W.filing world.new ≡ W.filing world.old }
 {
     let script = script_of(alloc, seed, nodes, inputs, rounds)?;
     let lines = drive_kind(rt, alloc, &script, world)?;
@@ -43,8 +44,9 @@ pub fn soak_alone<W: World>(
     world: &mut W,
 ) -> Result<Octets, RunFault>
     requires { MaySoak nodes inputs 0 (W.kept world.old) }
-    ensures { Soaked (views_of W.Dev.Disk W.Luck.Oracle W.Out.Outlet W.scripted) (W.kept world.new)
+    ensures soaks { Soaked (views_of W.Dev.Disk W.Luck.Oracle W.Out.Outlet W.scripted) (W.kept world.new)
         seed nodes inputs 0 result }
+    ensures files { W.filing world.new ≡ W.filing world.old }
 {
     let script = script_of(alloc, seed, nodes, inputs, 0)?;
     let lines = drive_kind_alone(alloc, &script, world)?;

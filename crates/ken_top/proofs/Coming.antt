@@ -19,7 +19,7 @@ use Rattle.ken_script.specs.declared.scripts.Script.{Script}
 use Rattle.std.proofs.lemmas.Bool.{cases_lt}
 use Rattle.ken_top.specs.declared.checking.TheConstants.{MOST_INPUT}
 use Rattle.ken_top.specs.Checked.{IsJudgedTo}
-use Rattle.ken_top.specs.Programs.{Program, IsSure, handler_in, game_in}
+use Rattle.ken_top.specs.Programs.{Program, IsSure, handler_in}
 use Rattle.ken_top.specs.Programs.{kinds, service, torment}
 use Rattle.ken_top.specs.Statuses.{of_script}
 use Rattle.ken_top.specs.Pieces.{HasCome, HasGivenThese, HasJudged, IsLong, IsReportJudged, IsScriptRefused}

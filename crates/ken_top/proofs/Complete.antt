@@ -20,29 +20,12 @@ complete_written program left old new l status.Settled rose out failed none = en
 complete_written program left old new l status.Cut rose out failed none = ended program left status.Cut tt
 complete_written program left old new l status.Memory rose out failed none = ended program left status.Memory tt
 complete_written program left old new l status.Write rose out failed none = absurd (none (failed refl))
-complete_written program left old new l status.Usage rose out failed none = absurd out
-complete_written program left old new l status.Read rose out failed none = absurd out
-complete_written program left old new l (status.Script rule index) rose out failed none = absurd out
-complete_written program left old new l (status.Damaged v disk place) rose out failed none = absurd out
-complete_written program left old new l (status.Down v) rose out failed none = absurd out
-complete_written program left old new l status.Checked rose out failed none = absurd out
-complete_written program left old new l (status.Wrong line) rose out failed none = absurd out
-complete_written program left old new l status.Long rose out failed none = absurd out
+complete_written program left old new l s rose out failed none = absurd out
 
 -- no node is told as down there
 pub let_written : (program : Program) (left old new : Option (List ℕ)) (l : Lines) (s : Status) → IsOut old new l s → IsLet program left s
-let_written program left old new l status.Settled out = tt
-let_written program left old new l status.Cut out = tt
-let_written program left old new l status.Memory out = tt
-let_written program left old new l status.Write out = tt
-let_written program left old new l status.Usage out = tt
-let_written program left old new l status.Read out = tt
-let_written program left old new l (status.Script rule index) out = tt
-let_written program left old new l (status.Damaged v disk place) out = tt
 let_written program left old new l (status.Down v) out = absurd out
-let_written program left old new l status.Checked out = tt
-let_written program left old new l (status.Wrong line) out = tt
-let_written program left old new l status.Long out = tt
+let_written program left old new l s out = tt
 
 -- a script that spares its nodes lets none go down, and a text says one script
 spares : (program : Program) (left : Option (List ℕ)) (v : ℕ) → IsLetDown program left v → IsComplete program left (status.Down v)
@@ -62,11 +45,4 @@ module _ {D O U : Type 0} (program : Program) (made : ℕ → ℕ) (views : View
   complete_refused left (status.Down v) rose refusal lets failed none = spares program left v lets
   complete_refused left status.Memory rose refusal lets failed none = ended program left status.Memory tt
   complete_refused left status.Read rose refusal lets failed none = absurd (none (failed refl))
-  complete_refused left status.Settled rose refusal lets failed none = absurd refusal
-  complete_refused left status.Usage rose refusal lets failed none = absurd refusal
-  complete_refused left status.Cut rose refusal lets failed none = absurd refusal
-  complete_refused left status.Write rose refusal lets failed none = absurd refusal
-  complete_refused left (status.Damaged v disk place) rose refusal lets failed none = absurd refusal
-  complete_refused left status.Checked rose refusal lets failed none = absurd refusal
-  complete_refused left (status.Wrong line) rose refusal lets failed none = absurd refusal
-  complete_refused left status.Long rose refusal lets failed none = absurd refusal
+  complete_refused left s rose refusal lets failed none = absurd refusal

@@ -1,5 +1,5 @@
 -- What is read of a source that tells what it has, and what is answered of it.
-use Rattle.std.proofs.Common.{◌≡◌, ◌∙◌, ◌<◌, ◌≤◌, ◌+◌, ◌-◌, ◌++◌, min, ⊎_elim, ℕ, List, [], Option, Some, None, Result, Ok, Err, IfOk, IfErr, IfSome, length, take, drop, refl, sym, ap, subst, arith, append-nil, length-append}
+use Rattle.std.proofs.Common.{◌≡◌, ◌∙◌, ◌<◌, ◌≤◌, ◌+◌, ◌-◌, ◌++◌, min, ⊎_elim, inl, inr, ℕ, List, [], Option, Some, None, Result, Ok, Err, IfOk, IfErr, IfSome, length, take, drop, refl, sym, ap, subst, arith, append-nil, length-append}
 use Rattle.std.proofs.Math.Seq.{drop-append_seam, take-append_seam}
 use Rattle.std.proofs.lemmas.Bool.{cases_lt}
 use Rattle.std.proofs.lemmas.List.{drop_all, length-take, nil_from_length, take_all}
@@ -16,23 +16,19 @@ use Rattle.ken_check.specs.declared.verdict.Verdict.TheVariants.{Right}
 use Rattle.ken_top.specs.declared.checking.TheConstants.{MOST_INPUT}
 use Rattle.ken_top.specs.declared.status.Status.{Status}
 use Rattle.ken_top.specs.declared.status.Status.TheVariants as status
-use Rattle.ken_top.specs.Checked.{Checks, IsAffirmed, IsJudgedOf, IsJudgedTo, IsRefused}
-use Rattle.ken_top.specs.Headline.{AreTold}
+use Rattle.ken_top.specs.Checked.{Checks, IsJudgedOf, IsJudgedTo, IsRefused, yes}
+use Rattle.ken_top.specs.Headline.{AreTold, IsTextOut}
 use Rattle.ken_top.specs.Pieces.{HasGivenThese, IsLong, IsReportJudged, IsReportRefused, IsRoomBehind, IsScriptRefused}
 use Rattle.ken_top.specs.Programs.{Program, SaysTo, IsFaultTo}
 use Rattle.ken_top.specs.Statuses.{of_reading, of_script}
-
--- some bytes that a source may have given
-pub some_told : (left : Option (List ℕ)) → (b : List ℕ) × AreTold left b
-some_told None = ([], tt)
-some_told (Some xs) = (xs, refl)
+use Rattle.ken_top.proofs.Reported.{any_told}
 
 -- nothing is said of what couldn't be read, nor where memory was short
 pub memory_refused : (program : Program) (size : ℕ) (left : Option (List ℕ)) → IsRefused program size left status.Memory
-memory_refused program size left = let b = some_told left in (b.0, b.1, refl)
+memory_refused program size left = let b = any_told left in (b.0, b.1, refl)
 
 pub reading_refused : (program : Program) (size : ℕ) (left : Option (List ℕ)) (fault : ReadFault) → IsRefused program size left (of_reading fault)
-reading_refused program size left reading.Failed = let b = some_told left in (b.0, b.1, refl)
+reading_refused program size left reading.Failed = let b = any_told left in (b.0, b.1, refl)
 reading_refused program size left reading.Memory = memory_refused program size left
 
 -- a source gave a script of at most so many bytes
@@ -138,15 +134,7 @@ module _ (program : Program) (size : ℕ) (old mid new : Option (List ℕ)) (tex
   report_refused status.Read is = reading_refused program size old reading.Failed
   report_refused status.Memory is = memory_refused program size old
   report_refused status.Long is = (let b = long_told size old mid new text room parted is in (b.0, b.1, (refl, b.2)))
-  report_refused status.Settled is = absurd is
-  report_refused status.Cut is = absurd is
-  report_refused status.Usage is = absurd is
-  report_refused (status.Script rule index) is = absurd is
-  report_refused (status.Damaged v disk place) is = absurd is
-  report_refused (status.Down v) is = absurd is
-  report_refused status.Write is = absurd is
-  report_refused status.Checked is = absurd is
-  report_refused (status.Wrong line) is = absurd is
+  report_refused answer is = absurd is
 
   by_fault : (fault : ScriptFault) (rest : List ℕ) → IsFaultTo program text fault → HasGivenThese room mid new rest → length rest ≤ room - 1 → IsRefused program size old (of_script fault)
   by_fault (script.Rule rule index) rest breaks given few =
@@ -181,16 +169,8 @@ module _ (program : Program) (size : ℕ) (old mid new : Option (List ℕ)) (tex
   }
 
 -- a report that is right is told so
-pub checks_right : (program : Program) (size : ℕ) (left old new : Option (List ℕ)) (answer : Status) → IsJudgedOf program size left Right → IsAffirmed old new answer → Checks program size left old new answer
-checks_right program size left old new status.Checked judged out = record { read = judged.read; written = _; told = judged.told; out = out; answers = (refl, judged.judged) }
-checks_right program size left old new status.Write judged out = record { read = judged.read; written = out.front; told = judged.told; out = out.out; answers = ((out.rest, sym out.parts), judged.judged) }
-checks_right program size left old new status.Settled judged out = absurd out
-checks_right program size left old new status.Cut judged out = absurd out
-checks_right program size left old new status.Usage judged out = absurd out
-checks_right program size left old new (status.Script rule index) judged out = absurd out
-checks_right program size left old new (status.Damaged v disk place) judged out = absurd out
-checks_right program size left old new (status.Down v) judged out = absurd out
-checks_right program size left old new status.Read judged out = absurd out
-checks_right program size left old new status.Memory judged out = absurd out
-checks_right program size left old new (status.Wrong line) judged out = absurd out
-checks_right program size left old new status.Long judged out = absurd out
+pub checks_right : (program : Program) (size : ℕ) (left old new : Option (List ℕ)) (answer : Status) → IsJudgedOf program size left Right → IsTextOut yes status.Checked old new answer → Checks program size left old new answer
+checks_right program size left old new answer judged (inl out) =
+    subst (Checks program size left old new) (sym out.0) (record { read = judged.read; written = yes; told = judged.told; out = out.1; answers = (refl, judged.judged) })
+checks_right program size left old new answer judged (inr out) =
+    subst (Checks program size left old new) (sym out.0) (record { read = judged.read; written = out.1.front; told = judged.told; out = out.1.out; answers = ((out.1.rest, sym out.1.parts), judged.judged) })

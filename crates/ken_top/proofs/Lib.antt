@@ -4,5 +4,10 @@ mod Plain
 mod Texts
 mod Judging
 mod Coming
+mod Reading
+mod Played
+mod Saved
+mod Written
 mod Soaked
+mod Dumped
 mod Commanded

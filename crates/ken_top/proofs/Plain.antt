@@ -1,11 +1,11 @@
 -- Drawn faults bring no node down that the script alone wouldn't.
-use Rattle.std.proofs.Common.{◌≡◌, ℕ, List, Option, Some, None, refl, subst}
+use Rattle.std.proofs.Common.{ℕ, List, Option, Some, None, refl, subst}
 use Rattle.ken_drive.specs.Sparing.{LetsGoDown}
 use Rattle.ken_soak.specs.Tormenting.{TormentSpares}
 use Rattle.ken_top.specs.declared.status.Status.{Status}
 use Rattle.ken_top.specs.declared.status.Status.TheVariants as status
-use Rattle.ken_top.specs.Headline.{IsEnd, IsComplete, IsLet, IsLetDown}
-use Rattle.ken_top.specs.Programs.{Program, SaysTo, torment}
+use Rattle.ken_top.specs.Headline.{IsComplete, IsLet, IsLetDown}
+use Rattle.ken_top.specs.Programs.{Program, torment}
 
 module _ (spares : TormentSpares) (seed : ℕ) (program : Program) where
   down : (left : Option (List ℕ)) (v : ℕ) → IsLetDown (torment seed program) left v → IsLetDown program left v
@@ -20,17 +20,7 @@ module _ (spares : TormentSpares) (seed : ℕ) (program : Program) where
   -- so a node that is down under them is one that the script lets go down
   pub plain_let : (left : Option (List ℕ)) (s : Status) → IsLet (torment seed program) left s → IsLet program left s
   plain_let left (status.Down v) is = down left v is
-  plain_let left status.Settled is = tt
-  plain_let left status.Usage is = tt
-  plain_let left (status.Script rule index) is = tt
-  plain_let left status.Cut is = tt
-  plain_let left (status.Damaged v disk place) is = tt
-  plain_let left status.Read is = tt
-  plain_let left status.Write is = tt
-  plain_let left status.Memory is = tt
-  plain_let left status.Checked is = tt
-  plain_let left (status.Wrong line) is = tt
-  plain_let left status.Long is = tt
+  plain_let left s is = tt
 
   -- and a script that lets none go down is run to its end
   pub plain_complete : (left : Option (List ℕ)) (s : Status) → IsComplete (torment seed program) left s → IsComplete program left s

@@ -100,6 +100,11 @@ told_by program (Some xs) read front =
       breaks = λ rule index h. own.breaks_by_front xs rule index (subst (λ b. BreaksTo program b rule index) front h);
     }
 
+-- some bytes that a source may have given
+pub any_told : (left : Option (List ℕ)) → (b : List ℕ) × AreTold left b
+any_told None = ([], tt)
+any_told (Some xs) = (xs, refl)
+
 -- restart lines of a run whose devices show it are ones that it may have
 restarts_so_far : {D O U : Type 0} (views : Views D O U) (g : Game) (terms : Terms) (kept : ℕ → Option (Disks D × O × U)) (schedule : List Step) (emissions : List Emission) (restarts : List RestartLine) → AreRestartsByNode g.nodes 0 restarts → KeepsRun views g terms schedule emissions restarts kept → AreRestartsSoFar g terms.most schedule restarts
 restarts_so_far views g terms kept schedule emissions restarts by_node keeps = record {
@@ -133,10 +138,9 @@ module _ {D O U : Type 0} (program : Program) (made : ℕ → ℕ) (views : View
   pub front_of-source : (left : Option (List ℕ)) (l : Lines) (run : IsRunOfSource program made views kept left l) (old new : Option (List ℕ)) (out : AppendsFront old new (text l)) → IsFront program made views kept run.read out.front
   front_of-source left l run old new out = record { rest = out.rest; ending = l.ending; whole = subst (IsReport program made views kept run.read l.ending) (sym out.parts) (report_of-source left l run) }
 
-  -- some bytes that a source may have given
-  any_told : (left : Option (List ℕ)) → (b : List ℕ) × AreTold left b
-  any_told None = ([], tt)
-  any_told (Some xs) = (xs, refl)
+  -- and nothing of it
+  pub front_unwritten : (left : Option (List ℕ)) (l : Lines) (run : IsRunOfSource program made views kept left l) → IsFront program made views kept run.read []
+  front_unwritten left l run = record { rest = text l; ending = l.ending; whole = report_of-source left l run }
 
   -- nothing was written
   pub ran_quietly : (left took : Option (List ℕ)) (s : Status) → ((b : List ℕ) → Wrote program made views kept b [] s) → Ran program made views kept left took took s
@@ -148,14 +152,7 @@ module _ {D O U : Type 0} (program : Program) (made : ℕ → ℕ) (views : View
   ran_refused left took (status.Down v) refusal = record { read = refusal.0; written = []; told = refusal.1; out = Appends-nil took; wrote = (refl, refusal.2) }
   ran_refused left took status.Read none = ran_quietly left took status.Read (λ b. (refl, none))
   ran_refused left took status.Memory none = ran_quietly left took status.Memory (λ b. inl (refl, none))
-  ran_refused left took (status.Damaged v disk place) refusal = absurd refusal
-  ran_refused left took status.Settled refusal = absurd refusal
-  ran_refused left took status.Usage refusal = absurd refusal
-  ran_refused left took status.Cut refusal = absurd refusal
-  ran_refused left took status.Write refusal = absurd refusal
-  ran_refused left took status.Checked refusal = absurd refusal
-  ran_refused left took (status.Wrong line) refusal = absurd refusal
-  ran_refused left took status.Long refusal = absurd refusal
+  ran_refused left took s refusal = absurd refusal
 
   -- a report that is out, as an answer of the program
   pub ran_written : (left old new : Option (List ℕ)) (l : Lines) (s : Status) → IsRunOfSource program made views kept left l → IsOut old new l s → Ran program made views kept left old new s
@@ -165,29 +162,14 @@ module _ {D O U : Type 0} (program : Program) (made : ℕ → ℕ) (views : View
       record { read = run.read; written = text l; told = run.told; out = out.1; wrote = subst (λ e. IsReport program made views kept run.read e (text l)) out.0 (report_of-source left l run) }
   ran_written left old new l status.Write run out = record { read = run.read; written = out.front; told = run.told; out = out.out; wrote = front_of-source left l run old new out }
   ran_written left old new l status.Memory run out = record { read = run.read; written = out.front; told = run.told; out = out.out; wrote = inr (front_of-source left l run old new out) }
-  ran_written left old new l status.Usage run out = absurd out
-  ran_written left old new l status.Read run out = absurd out
-  ran_written left old new l (status.Script rule index) run out = absurd out
-  ran_written left old new l (status.Damaged v disk place) run out = absurd out
-  ran_written left old new l (status.Down v) run out = absurd out
-  ran_written left old new l status.Checked run out = absurd out
-  ran_written left old new l (status.Wrong line) run out = absurd out
-  ran_written left old new l status.Long run out = absurd out
+  ran_written left old new l s run out = absurd out
 
   -- a refused script, as a refusal of what the source gives
   pub refusal_by : (left : Option (List ℕ)) (s : Status) → IsUnsaid program left s → HasKeptNothing kept → IsRefusal program made views kept left s
   refusal_by left (status.Script rule index) unsaid none = (unsaid.0, unsaid.1, unsaid.2, none)
   refusal_by left status.Read unsaid none = none
   refusal_by left status.Memory unsaid none = none
-  refusal_by left status.Settled unsaid none = absurd unsaid
-  refusal_by left status.Cut unsaid none = absurd unsaid
-  refusal_by left status.Usage unsaid none = absurd unsaid
-  refusal_by left status.Write unsaid none = absurd unsaid
-  refusal_by left (status.Damaged v disk place) unsaid none = absurd unsaid
-  refusal_by left (status.Down v) unsaid none = absurd unsaid
-  refusal_by left status.Checked unsaid none = absurd unsaid
-  refusal_by left (status.Wrong line) unsaid none = absurd unsaid
-  refusal_by left status.Long unsaid none = absurd unsaid
+  refusal_by left s unsaid none = absurd unsaid
 
   -- a run that didn't go on, as a refusal of what the source gives
   down_of-run : (left : Option (List ℕ)) (s : Script) (fault : RunFault) → IsScriptOf program left s → DrivesBy views (handler_in program s) s (made s.rounds) kept (Err fault) → IsRefusal program made views kept left (of_running fault)
@@ -211,17 +193,7 @@ let_of-run program left s running.Memory said lets = tt
 -- where there is no script no node is told as down
 pub let_unsaid : (program : Program) (left : Option (List ℕ)) (s : Status) → IsUnsaid program left s → IsLet program left s
 let_unsaid program left (status.Down v) unsaid = absurd unsaid
-let_unsaid program left (status.Script rule index) unsaid = tt
-let_unsaid program left status.Read unsaid = tt
-let_unsaid program left status.Memory unsaid = tt
-let_unsaid program left status.Settled unsaid = tt
-let_unsaid program left status.Cut unsaid = tt
-let_unsaid program left status.Usage unsaid = tt
-let_unsaid program left status.Write unsaid = tt
-let_unsaid program left (status.Damaged v disk place) unsaid = tt
-let_unsaid program left status.Checked unsaid = tt
-let_unsaid program left (status.Wrong line) unsaid = tt
-let_unsaid program left status.Long unsaid = tt
+let_unsaid program left s unsaid = tt
 
 -- a seed breaks no rule
 breaks_by : (seed : Option ℕ) (program : Program) (b : List ℕ) (rule index : ℕ) → BreaksTo program b rule index → BreaksTo (by_seed seed program) b rule index
@@ -254,11 +226,4 @@ out_is_told old new l status.Settled out quiet = quiet
 out_is_told old new l status.Cut out quiet = quiet
 out_is_told old new l status.Write out quiet = quiet
 out_is_told old new l status.Memory out quiet = quiet
-out_is_told old new l status.Usage out quiet = out
-out_is_told old new l status.Read out quiet = out
-out_is_told old new l (status.Script rule index) out quiet = out
-out_is_told old new l (status.Damaged v disk place) out quiet = out
-out_is_told old new l (status.Down v) out quiet = out
-out_is_told old new l status.Checked out quiet = out
-out_is_told old new l (status.Wrong line) out quiet = out
-out_is_told old new l status.Long out quiet = out
+out_is_told old new l s out quiet = out

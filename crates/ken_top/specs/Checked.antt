@@ -1,7 +1,6 @@
 -- What `check` answers: whether a report is right for its script, or which is its first wrong line.
 use Rattle.std.specs.Prelude.{◌≡◌, ℕ, ◌<◌, ◌≤◌, List, [], ◌∷◌, ◌++◌, length, take, drop, Option, codes}
 use Rattle.std.specs.Io.KnownBytes.{Appends}
-use Rattle.ken_io.specs.Transfers.{AppendsFront}
 use Rattle.ken_model.specs.History.{IsPrefixOf}
 use Rattle.ken_script.specs.declared.scripts.Script.{Script}
 use Rattle.ken_check.specs.declared.verdict.Verdict.{Verdict}
@@ -45,6 +44,9 @@ module _ (program : Program) (b : List ℕ) (size : ℕ) where
   Answers w status.Usage = ⊥
   Answers w (status.Damaged v disk place) = ⊥
   Answers w (status.Down v) = ⊥
+  Answers w status.Dumped = ⊥
+  Answers w (status.Open v disk) = ⊥
+  Answers w (status.Device v disk) = ⊥
 
 -- what was there to read, and what was written
 pub record Checks (program : Program) (size : ℕ) (left took_old took_new : Option (List ℕ)) (answer : Status) : Type 0 where
@@ -65,9 +67,3 @@ pub record IsJudgedOf (program : Program) (size : ℕ) (left : Option (List ℕ)
 -- why it isn't judged
 abbrev pub IsRefused : Program → ℕ → Option (List ℕ) → Status → Type 0
 IsRefused program size left answer = (b : List ℕ) × AreTold left b × Answers program b size [] answer
-
--- `yes` is out, or a front of it
-abbrev pub IsAffirmed : Option (List ℕ) → Option (List ℕ) → Status → Type 0
-IsAffirmed old new status.Checked = Appends old new yes
-IsAffirmed old new status.Write = AppendsFront old new yes
-IsAffirmed old new _ = ⊥

@@ -3,7 +3,7 @@ use Rattle.std.specs.Prelude.{ℕ, List, Option, Some, None, ⊤}
 use Rattle.ken_script.specs.declared.scripts.TheConstants.{LIMIT}
 use Rattle.ken_words.specs.Commands.{command_of}
 use Rattle.ken_words.specs.declared.commands.Command.{Command}
-use Rattle.ken_words.specs.declared.commands.Command.TheVariants.{Run, Check, Torment, Soak}
+use Rattle.ken_words.specs.declared.commands.Command.TheVariants.{Run, Check, Torment, Soak, Save, Dump}
 use Rattle.ken_top.specs.declared.checking.TheConstants.{MOST_INPUT}
 
 -- how many bytes of its source a command reads at most, without the one that shows that there are too many
@@ -17,6 +17,8 @@ ReadsNothing (Some Run) = ⊥
 ReadsNothing (Some (Check size)) = ⊥
 ReadsNothing (Some (Torment seed)) = ⊥
 ReadsNothing (Some (Soak seed nodes inputs rounds)) = ⊤
+ReadsNothing (Some Save) = ⊥
+ReadsNothing (Some (Dump node nodes pages)) = ⊤
 ReadsNothing None = ⊤
 
 -- one that uses no world
@@ -25,23 +27,19 @@ UsesNoWorld (Some Run) = ⊥
 UsesNoWorld (Some (Check size)) = ⊤
 UsesNoWorld (Some (Torment seed)) = ⊥
 UsesNoWorld (Some (Soak seed nodes inputs rounds)) = ⊥
+UsesNoWorld (Some Save) = ⊥
+UsesNoWorld (Some (Dump node nodes pages)) = ⊥
 UsesNoWorld None = ⊤
 
--- one that runs a script that it reads
+-- one that runs a script that it reads, and saves nothing of the run
 abbrev pub RunsScript : Option Command → Type 0
 RunsScript (Some Run) = ⊤
 RunsScript (Some (Check size)) = ⊥
 RunsScript (Some (Torment seed)) = ⊤
 RunsScript (Some (Soak seed nodes inputs rounds)) = ⊥
+RunsScript (Some Save) = ⊥
+RunsScript (Some (Dump node nodes pages)) = ⊥
 RunsScript None = ⊥
-
--- one that makes rounds, where they are asked for
-abbrev pub MakesRounds : Option Command → Type 0
-MakesRounds (Some Run) = ⊤
-MakesRounds (Some (Check size)) = ⊥
-MakesRounds (Some (Torment seed)) = ⊤
-MakesRounds (Some (Soak seed nodes inputs rounds)) = ⊤
-MakesRounds None = ⊥
 
 -- what words ask of a service of one's own, which makes no script of itself
 abbrev pub for_service : Option Command → Option Command
@@ -50,3 +48,16 @@ for_service command = command
 
 abbrev pub service_command_of : List (List ℕ) → Option Command
 service_command_of words = for_service (command_of words)
+
+-- a command that uses no files
+abbrev pub UsesNoFiles : Option Command → Type 0
+UsesNoFiles (Some Save) = ⊥
+UsesNoFiles (Some (Dump node nodes pages)) = ⊥
+UsesNoFiles _ = ⊤
+
+-- one that runs nothing, and so keeps nothing
+abbrev pub RunsNothing : Option Command → Type 0
+RunsNothing (Some (Check size)) = ⊤
+RunsNothing (Some (Dump node nodes pages)) = ⊤
+RunsNothing None = ⊤
+RunsNothing _ = ⊥

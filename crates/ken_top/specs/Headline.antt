@@ -61,7 +61,7 @@ module _ {D O U : Type 0} (program : Program) (made : ℕ → ℕ) (views : View
     pub down : HasGoneDown views (game_in program script) (terms_of views.scripted script) v kept
 
   -- what each status says of the bytes that were read, of those that were written, and of the devices that were kept. The disks of a
-  -- world keep the model of a disk, so none is ever damaged
+  -- world keep the model of a disk, so none is ever damaged, and no file is used
   abbrev pub Wrote : List ℕ → List ℕ → Status → Type 0
   Wrote b w status.Settled = IsReport b Settled w
   Wrote b w status.Cut = IsReport b Cut w
@@ -75,6 +75,9 @@ module _ {D O U : Type 0} (program : Program) (made : ℕ → ℕ) (views : View
   Wrote b w status.Checked = ⊥
   Wrote b w (status.Wrong line) = ⊥
   Wrote b w status.Long = ⊥
+  Wrote b w status.Dumped = ⊥
+  Wrote b w (status.Open v disk) = ⊥
+  Wrote b w (status.Device v disk) = ⊥
 
   -- what a run of the program had to read, what it wrote, and what its world kept
   pub record Ran (left took_old took_new : Option (List ℕ)) (status : Status) : Type 0 where
@@ -106,6 +109,9 @@ module _ {D O U : Type 0} (program : Program) (made : ℕ → ℕ) (views : View
   IsRefusal left status.Checked = ⊥
   IsRefusal left (status.Wrong line) = ⊥
   IsRefusal left status.Long = ⊥
+  IsRefusal left status.Dumped = ⊥
+  IsRefusal left (status.Open v disk) = ⊥
+  IsRefusal left (status.Device v disk) = ⊥
 
 -- ---- on the way to it
 
@@ -149,6 +155,9 @@ IsQuiet status.Memory = ⊥
 IsQuiet status.Checked = ⊥
 IsQuiet (status.Wrong line) = ⊤
 IsQuiet status.Long = ⊤
+IsQuiet status.Dumped = ⊥
+IsQuiet (status.Open v disk) = ⊤
+IsQuiet (status.Device v disk) = ⊤
 
 -- a status with which a run has ended, or memory was short
 abbrev pub IsEnd : Status → Type 0
@@ -169,6 +178,11 @@ IsOut old new l status.Cut = (l.ending ≡ Cut) × Appends old new (text l)
 IsOut old new l status.Write = AppendsFront old new (text l)
 IsOut old new l status.Memory = AppendsFront old new (text l)
 IsOut old new l _ = ⊥
+
+-- a text is out, with this status, or a front of it
+abbrev pub IsTextOut : List ℕ → Status → Option (List ℕ) → Option (List ℕ) → Status → Type 0
+IsTextOut text done old new answer =
+    ((answer ≡ done) × Appends old new text) ⊎ ((answer ≡ status.Write) × AppendsFront old new text)
 
 -- why reading or writing failed, by the counts of faults of a source and a sink: each never falls, and rises in a call that answers so, and in no
 -- other

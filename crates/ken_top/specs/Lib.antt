@@ -5,4 +5,6 @@ pub mod Checked
 pub mod Pieces
 pub mod Statuses
 pub mod Soaks
+pub mod Saved
+pub mod Dumped
 pub mod Does

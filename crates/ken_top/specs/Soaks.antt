@@ -1,7 +1,6 @@
 -- What `ken soak` writes, and what its world keeps.
 use Rattle.std.specs.Prelude.{◌≡◌, ◌⊎◌, ℕ, List, [], Option}
 use Rattle.std.specs.Io.KnownBytes.{Appends}
-use Rattle.ken_io.specs.Transfers.{AppendsFront}
 use Rattle.ken_model.specs.History.{IsPrefixOf}
 use Rattle.ken_store.specs.declared.disks.Disks.{Disks}
 use Rattle.ken_drive.specs.Driven.{Views}
@@ -26,18 +25,15 @@ module _ {D O U : Type 0} (views : Views D O U) (kept : ℕ → Option (Disks D 
   Wrote w status.Checked = ⊥
   Wrote w (status.Wrong line) = ⊥
   Wrote w status.Long = ⊥
+  Wrote w status.Dumped = ⊥
+  Wrote w (status.Open v disk) = ⊥
+  Wrote w (status.Device v disk) = ⊥
 
   -- what was written, with its status
   pub record Soaks (took_old took_new : Option (List ℕ)) (answer : Status) : Type 0 where
     pub written : List ℕ
     pub out : Appends took_old took_new written
     pub wrote : Wrote written answer
-
--- the summary is out, or a front of it
-abbrev pub IsSummedUp : List ℕ → Option (List ℕ) → Option (List ℕ) → Status → Type 0
-IsSummedUp text old new status.Settled = Appends old new text
-IsSummedUp text old new status.Write = AppendsFront old new text
-IsSummedUp text old new _ = ⊥
 
 -- the run has ended, or memory was short
 abbrev pub IsThrough : Status → Type 0

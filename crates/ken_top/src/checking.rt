@@ -4,16 +4,17 @@ ghost use Rattle.std.specs.Bool.{Decides};
 ghost use Rattle.ken_io.specs.Causes.{Rose};
 ghost use Rattle.ken_io.specs.Transfers.{TakesAtMost};
 ghost use Rattle.ken_script.specs.Within.{KeepsRules};
-ghost use Rattle.ken_top.specs.Checked.{Checks, IsAffirmed, IsJudgedOf, IsRefused};
+ghost use Rattle.ken_top.specs.Checked.{Checks, IsJudgedOf, IsRefused};
 ghost use Rattle.ken_top.specs.Headline.{HasCauses, IsQuiet};
 ghost use Rattle.ken_top.specs.Pieces.{IsReportJudged, IsReportRefused, IsRoomBehind, IsScriptRefused};
 
 use crate::cast::Cast;
 use crate::incoming::{let_go, read_front, read_report};
 use crate::status::Status;
+use crate::writing::written;
 use ken_actors::kinds_are_decided;
 use ken_check::{Judging, Verdict};
-use ken_io::{Sink, Source, write_all};
+use ken_io::{Sink, Source};
 use ken_script::{Script, ScriptFault};
 use std::alloc::Global;
 
@@ -35,7 +36,7 @@ pub(crate) fn checked<C: Cast + Drop, S: Source, K: Sink>(
     ensures unwritten { IsQuiet result → sink.new ≡ sink.old }
 {
     match judged(cast, alloc, length, source) {
-        Ok(Verdict::Right) => affirmed(sink),
+        Ok(Verdict::Right) => written(sink, b"yes\n", Status::Checked),
         Ok(Verdict::Wrong { line }) => Status::Wrong { line },
         Err(status) => status,
     }
@@ -126,17 +127,4 @@ fn is_long(count: usize, room: usize) -> bool
     ensures { Decides result ((0 < room) × (room ≤ count)) }
 {
     0 < room && room <= count
-}
-
-/// Writes `yes`.
-fn affirmed<K: Sink>(sink: &mut K) -> Status
-    ensures out { IsAffirmed (K.took sink.old) (K.took sink.new) result }
-    ensures write { result ≡ Status.Write → Rose (K.faults sink.old) (K.faults sink.new) }
-    ensures no_failed_write { result ≢ Status.Write → K.faults sink.new ≡ K.faults sink.old }
-    ensures faults { K.faults sink.old ≤ K.faults sink.new }
-{
-    match write_all(sink, b"yes\n") {
-        Ok(()) => Status::Checked,
-        Err(_) => Status::Write,
-    }
 }

@@ -1,11 +1,11 @@
 // A script is read and run, and the report of its run written.
-ghost use Rattle.std.specs.Prelude.{◌≡◌, ◌≢◌, ◌+◌, ◌≤◌, IfOk, IfErr, OnOk, IsErrOf};
+ghost use Rattle.std.specs.Prelude.{◌≡◌, ◌≢◌, ◌+◌, ◌≤◌, IfOk, IfErr, IsErrOf};
 ghost use Rattle.ken_io.specs.Causes.{Rose};
 ghost use Rattle.ken_io.specs.Transfers.{TakesAtMost};
 ghost use Rattle.ken_script.specs.Within.{KeepsRules};
 ghost use Rattle.ken_drive.specs.Clauses.{views_of};
 ghost use Rattle.ken_drive.specs.Worlds.{HasKeptNothing};
-ghost use Rattle.ken_top.specs.Does.{PlaysSource, ReportsSource, all_rounds, no_rounds};
+ghost use Rattle.ken_top.specs.Does.{PlaysSource, ReportsSource, WritesReport, all_rounds, no_rounds};
 ghost use Rattle.ken_top.specs.Headline.{IsOut, IsScriptOf, IsUnsaid};
 ghost use Rattle.ken_top.specs.Programs.{by_seed, drawn_by};
 
@@ -32,9 +32,10 @@ pub(crate) fn ran<R: Threads + Wait + Sync, C: Cast + Drop, S: Source, K: Sink, 
     world: &mut W,
 ) -> Status
     requires { HasKeptNothing (W.kept world.old) }
-    ensures { ReportsSource S.Source K.Sink (by_seed seed (C.program cast)) all_rounds
+    ensures reports { ReportsSource S.Source K.Sink (by_seed seed (C.program cast)) all_rounds
         (views_of W.Dev.Disk W.Luck.Oracle W.Out.Outlet W.scripted) (W.kept world.new)
         source.old source.new sink.old sink.new result }
+    ensures files { W.filing world.new ≡ W.filing world.old }
 {
     let run = run(rt, alloc, cast, seed, source, world);
     reported(alloc, sink, run)
@@ -50,9 +51,10 @@ pub(crate) fn ran_alone<C: Cast + Drop, S: Source, K: Sink, W: World>(
     world: &mut W,
 ) -> Status
     requires { HasKeptNothing (W.kept world.old) }
-    ensures { ReportsSource S.Source K.Sink (by_seed seed (C.program cast)) no_rounds
+    ensures reports { ReportsSource S.Source K.Sink (by_seed seed (C.program cast)) no_rounds
         (views_of W.Dev.Disk W.Luck.Oracle W.Out.Outlet W.scripted) (W.kept world.new)
         source.old source.new sink.old sink.new result }
+    ensures files { W.filing world.new ≡ W.filing world.old }
 {
     let run = run_alone(alloc, cast, seed, source, world);
     reported(alloc, sink, run)
@@ -68,9 +70,10 @@ fn run<R: Threads + Wait + Sync, C: Cast + Drop, S: Source, W: World>(
     world: &mut W,
 ) -> Result<Lines, Status>
     requires { HasKeptNothing (W.kept world.old) }
-    ensures { PlaysSource S.Source (by_seed seed (C.program cast)) all_rounds
+    ensures plays { PlaysSource S.Source (by_seed seed (C.program cast)) all_rounds
         (views_of W.Dev.Disk W.Luck.Oracle W.Out.Outlet W.scripted) (W.kept world.new)
         source.old source.new result }
+    ensures files { W.filing world.new ≡ W.filing world.old }
 {
     let script = said(&cast, seed, alloc, source)?;
     let lines = drive(rt, alloc, cast.app(&script), &script, world)?;
@@ -86,9 +89,10 @@ fn run_alone<C: Cast + Drop, S: Source, W: World>(
     world: &mut W,
 ) -> Result<Lines, Status>
     requires { HasKeptNothing (W.kept world.old) }
-    ensures { PlaysSource S.Source (by_seed seed (C.program cast)) no_rounds
+    ensures plays { PlaysSource S.Source (by_seed seed (C.program cast)) no_rounds
         (views_of W.Dev.Disk W.Luck.Oracle W.Out.Outlet W.scripted) (W.kept world.new)
         source.old source.new result }
+    ensures files { W.filing world.new ≡ W.filing world.old }
 {
     let script = said(&cast, seed, alloc, source)?;
     let lines = drive_alone(alloc, cast.app(&script), &script, world)?;
@@ -96,7 +100,7 @@ fn run_alone<C: Cast + Drop, S: Source, W: World>(
 }
 
 /// Reads a script of a program, and puts the faults of a seed behind its own, where there is a seed.
-fn said<C: Cast, S: Source>(
+pub(crate) fn said<C: Cast, S: Source>(
     cast: &C,
     seed: Option<u64>,
     alloc: Global,
@@ -129,21 +133,17 @@ fn with_faults(seed: Option<u64>, script: Script) -> Result<Script, AllocError>
 }
 
 /// Writes the report of a run, or answers why there is none.
-fn reported<K: Sink>(alloc: Global, sink: &mut K, run: Result<Lines, Status>) -> Status
-    ensures out { IfOk run (λ lines. IsOut (K.took sink.old) (K.took sink.new) lines result) }
-    ensures refused { IfErr run (λ status. (result ≡ status) × (sink.new ≡ sink.old)) }
-    ensures write { OnOk run (result ≡ Status.Write → Rose (K.faults sink.old) (K.faults sink.new)) }
-    ensures no_failed_write { OnOk run (result ≢ Status.Write → K.faults sink.new ≡ K.faults sink.old) }
-    ensures faults { K.faults sink.old ≤ K.faults sink.new }
+pub(crate) fn reported<K: Sink>(alloc: Global, sink: &mut K, run: Result<Lines, Status>) -> Status
+    ensures { WritesReport K.Sink run sink.old sink.new result }
 {
     match run {
-        Ok(lines) => written(alloc, sink, &lines),
+        Ok(lines) => printed(alloc, sink, &lines),
         Err(status) => status,
     }
 }
 
 /// Writes a report, and answers how its run ended.
-fn written<K: Sink>(alloc: Global, sink: &mut K, lines: &Lines) -> Status
+fn printed<K: Sink>(alloc: Global, sink: &mut K, lines: &Lines) -> Status
     ensures out { IsOut (K.took sink.old) (K.took sink.new) lines.now result }
     ensures write { result ≡ Status.Write → Rose (K.faults sink.old) (K.faults sink.new) }
     ensures no_failed_write { result ≢ Status.Write → K.faults sink.new ≡ K.faults sink.old }

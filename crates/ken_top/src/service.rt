@@ -1,10 +1,11 @@
 // A service of one's own.
-ghost use Rattle.std.specs.Prelude.{◌≡◌, map, string_bytes, IfOk, IfSome};
+ghost use Rattle.std.specs.Prelude.{◌≡◌, ◌⊎◌, map, string_bytes, IfOk, IfSome};
 ghost use Rattle.ken_app.specs.Limited.{limited};
-ghost use Rattle.ken_drive.specs.Clauses.{views_of};
+ghost use Rattle.ken_drive.specs.Clauses.{files_of, views_of};
 ghost use Rattle.ken_drive.specs.Worlds.{HasKeptNothing};
+ghost use Rattle.ken_words.specs.Commands.{prefix_of};
 ghost use Rattle.ken_words.specs.Fits.{Fits};
-ghost use Rattle.ken_top.specs.Commands.{service_command_of};
+ghost use Rattle.ken_top.specs.Commands.{RunsNothing, service_command_of};
 ghost use Rattle.ken_top.specs.Does.{Does, all_rounds, no_rounds};
 ghost use Rattle.ken_top.specs.Programs.{service};
 
@@ -16,7 +17,7 @@ use ken_drive::World;
 use ken_io::{Sink, Source};
 use ken_script::{Script, ScriptFault, read_service};
 use ken_trial::ServicePlayer;
-use ken_words::{Command, command_in, commands_fit};
+use ken_words::{Command, command_in, commands_fit, prefix_in};
 use std::alloc::{AllocError, Global};
 use std::sync::Wait;
 use std::thread::Threads;
@@ -24,7 +25,9 @@ use std::thread::Threads;
 /// Does with a service of one's own what `ken` does with the kinds, and promises the same of it. `words` begins with the program's name.
 /// `run` reads a script of the keys of `ken run` but `kind`, runs it with the service over the world's devices, and writes the report. `torment`
 /// and a seed does so with faults that are drawn from the seed beside the script's own. `check` and a length reads a script of so many bytes
-/// and a report behind it, and writes `yes` where each line of the report is right for the script and the service. Other words get `Usage`.
+/// and a report behind it, and writes `yes` where each line of the report is right for the script and the service. `save` and a prefix does
+/// what `run` does, and copies the disks of each node to files; `dump`, a prefix and its three numbers writes what those of a node recover
+/// to. Other words get `Usage`.
 ///
 /// A turn of the service that is beyond the limits, or sends or outputs a line feed, changes nothing and outputs `beyond the limits`.
 /// Each status comes as it does from `ken`; a `kind` is refused as a key that isn't known. A line is told as wrong for certain where the
@@ -38,13 +41,23 @@ pub fn serve<R: Threads + Wait + Sync, A: Service + Sync + Drop, S: Source, K: S
     sink: &mut K,
     world: &mut W,
 ) -> Status
-    requires { HasKeptNothing (W.kept world.old) }
-    ensures { Does S.Source K.Sink (views_of W.Dev.Disk W.Luck.Oracle W.Out.Outlet W.scripted) W.kept
-        (service (limited (A.handler app))) all_rounds (service_command_of (map string_bytes words.now))
+    requires { RunsNothing (service_command_of (map string_bytes words.now)) ⊎ HasKeptNothing (W.kept world.old) }
+    ensures { Does S.Source K.Sink (views_of W.Dev.Disk W.Luck.Oracle W.Out.Outlet W.scripted)
+        (files_of W.File.Disk W.tells) W.kept W.filing (service (limited (A.handler app))) all_rounds
+        (service_command_of (map string_bytes words.now)) (prefix_of (map string_bytes words.now))
         source.old source.new sink.old sink.new world.old world.new result }
 {
     match service_command_in(alloc, words) {
-        Ok(command) => done(rt, alloc, Own(app), command, source, sink, world),
+        Ok(command) => done(
+            rt,
+            alloc,
+            Own(app),
+            command,
+            prefix_in(words),
+            source,
+            sink,
+            world,
+        ),
         Err(_) => Status::Memory,
     }
 }
@@ -59,13 +72,24 @@ pub fn serve_alone<A: Service + Sync + Drop, S: Source, K: Sink, W: World>(
     sink: &mut K,
     world: &mut W,
 ) -> Status
-    requires { HasKeptNothing (W.kept world.old) }
-    ensures { Does S.Source K.Sink (views_of W.Dev.Disk W.Luck.Oracle W.Out.Outlet W.scripted) W.kept
-        (service (limited (A.handler app))) no_rounds (service_command_of (map string_bytes words.now))
+    requires { RunsNothing (service_command_of (map string_bytes words.now)) ⊎ HasKeptNothing (W.kept world.old) }
+    ensures { Does S.Source K.Sink (views_of W.Dev.Disk W.Luck.Oracle W.Out.Outlet W.scripted)
+        (files_of W.File.Disk W.tells) W.kept W.filing (service (limited (A.handler app))) no_rounds
+        (service_command_of (map string_bytes words.now)) (prefix_of (map string_bytes words.now))
         source.old source.new sink.old sink.new world.old world.new result }
 {
     match service_command_in(alloc, words) {
-        Ok(command) => done_alone(alloc, Own(app), command, source, sink, world),
+        Ok(command) => {
+            done_alone(
+                alloc,
+                Own(app),
+                command,
+                prefix_in(words),
+                source,
+                sink,
+                world,
+            )
+        }
         Err(_) => Status::Memory,
     }
 }

@@ -4,12 +4,13 @@ ghost use Rattle.ken_io.specs.Causes.{Rose};
 ghost use Rattle.ken_drive.specs.Clauses.{views_of};
 ghost use Rattle.ken_soak.specs.Soaking.{MaySoak};
 ghost use Rattle.ken_top.specs.Does.{SumsUp};
-ghost use Rattle.ken_top.specs.Soaks.{IsSummedUp};
+ghost use Rattle.ken_top.specs.Headline.{IsTextOut};
 ghost use Rattle.ken_top.specs.Statuses.{of_running};
 
 use crate::status::Status;
+use crate::writing::written;
 use ken_drive::{RunFault, World};
-use ken_io::{Sink, write_all};
+use ken_io::Sink;
 use ken_model::Octets;
 use ken_soak::{soak, soak_alone};
 use std::alloc::Global;
@@ -28,8 +29,9 @@ pub(crate) fn soaked<R: Threads + Wait + Sync, K: Sink, W: World>(
     world: &mut W,
 ) -> Status
     requires { MaySoak nodes inputs rounds (W.kept world.old) }
-    ensures { SumsUp K.Sink (views_of W.Dev.Disk W.Luck.Oracle W.Out.Outlet W.scripted) (W.kept world.new)
+    ensures sums { SumsUp K.Sink (views_of W.Dev.Disk W.Luck.Oracle W.Out.Outlet W.scripted) (W.kept world.new)
         seed nodes inputs rounds sink.old sink.new result }
+    ensures files { W.filing world.new ≡ W.filing world.old }
 {
     let soak = soak(rt, alloc, seed, nodes, inputs, rounds, world);
     summed_up(sink, soak)
@@ -45,8 +47,9 @@ pub(crate) fn soaked_alone<K: Sink, W: World>(
     world: &mut W,
 ) -> Status
     requires { MaySoak nodes inputs 0 (W.kept world.old) }
-    ensures { SumsUp K.Sink (views_of W.Dev.Disk W.Luck.Oracle W.Out.Outlet W.scripted) (W.kept world.new)
+    ensures sums { SumsUp K.Sink (views_of W.Dev.Disk W.Luck.Oracle W.Out.Outlet W.scripted) (W.kept world.new)
         seed nodes inputs 0 sink.old sink.new result }
+    ensures files { W.filing world.new ≡ W.filing world.old }
 {
     let soak = soak_alone(alloc, seed, nodes, inputs, world);
     summed_up(sink, soak)
@@ -54,27 +57,14 @@ pub(crate) fn soaked_alone<K: Sink, W: World>(
 
 /// Writes the summary of a soak, or answers why there is none.
 fn summed_up<K: Sink>(sink: &mut K, soak: Result<Octets, RunFault>) -> Status
-    ensures out { IfOk soak (λ text. IsSummedUp text (K.took sink.old) (K.took sink.new) result) }
+    ensures out { IfOk soak (λ text. IsTextOut text Status.Settled (K.took sink.old) (K.took sink.new) result) }
     ensures refused { IfErr soak (λ fault. (result ≡ of_running fault) × (sink.new ≡ sink.old)) }
     ensures write { OnOk soak (result ≡ Status.Write → Rose (K.faults sink.old) (K.faults sink.new)) }
     ensures no_failed_write { OnOk soak (result ≢ Status.Write → K.faults sink.new ≡ K.faults sink.old) }
     ensures faults { K.faults sink.old ≤ K.faults sink.new }
 {
     match soak {
-        Ok(text) => written(sink, text.as_slice()),
+        Ok(text) => written(sink, text.as_slice(), Status::Settled),
         Err(fault) => Status::from(fault),
-    }
-}
-
-/// Writes a summary.
-fn written<K: Sink>(sink: &mut K, text: &[u8]) -> Status
-    ensures out { IsSummedUp text.now (K.took sink.old) (K.took sink.new) result }
-    ensures write { result ≡ Status.Write → Rose (K.faults sink.old) (K.faults sink.new) }
-    ensures no_failed_write { result ≢ Status.Write → K.faults sink.new ≡ K.faults sink.old }
-    ensures faults { K.faults sink.old ≤ K.faults sink.new }
-{
-    match write_all(sink, text) {
-        Ok(()) => Status::Settled,
-        Err(_) => Status::Write,
     }
 }

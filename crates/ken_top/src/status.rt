@@ -1,5 +1,5 @@
 // How the program ends.
-use ken_drive::RunFault;
+use ken_drive::{RunFault, SavingFault};
 use ken_io::ReadFault;
 use ken_model::Ending;
 use ken_report::ReportFault;
@@ -7,25 +7,27 @@ use ken_script::ScriptFault;
 use std::alloc::AllocError;
 use std::fmt;
 
-/// How the program ends. It prints as the text for standard error, which is empty for `Settled` and `Checked`.
+/// How the program ends. It prints as the text for standard error, which is empty for `Settled`, `Checked` and `Dumped`.
 #[derive(Clone, Copy, Debug, PartialEq, Eq)]
 pub enum Status {
     /// The run is settled, and its report or its summary is written.
     Settled,
-    /// The command line is none of `run` alone, `check` and a length, and `soak` and its four numbers. Nothing was read or written.
+    /// The command line is none of `run` alone, `check` and a length, `torment` and a seed, `soak` and its four numbers, `save` and a
+    /// prefix, and `dump` with a prefix and its three numbers. Nothing was read or written.
     Usage,
     /// The script breaks this rule and none before it, first at this index from 0. Nothing was written.
     Script { rule: u8, index: u64 },
     /// Nodes have made all their turns and something still waits for them, and the report is written.
     Cut,
-    /// Bytes of a disk are none that a node writes, from this place on. Over disks that keep the model it never comes.
+    /// Bytes of a file that is dumped are none that a node writes, from this place on. Nothing was written. Over disks that keep the
+    /// model no run ends so.
     Damaged { node: u8, disk: u8, place: u64 },
     /// Calls of that node's disks failed more often than it may be restarted, or its outlet refused an output 65 times in a row.
     /// Nothing was written.
     Down { node: u8 },
     /// The source failed. Nothing was written.
     Read,
-    /// The sink failed. A front of the report, of `yes` or of the summary is out.
+    /// The sink failed. A front of the report, of `yes`, of the summary or of a dump is out.
     Write,
     /// There wasn't memory enough. Nothing is out, or a front of the report.
     Memory,
@@ -35,6 +37,12 @@ pub enum Status {
     Wrong { line: u64 },
     /// There are more bytes to check than 268,435,456. Nothing was written.
     Long,
+    /// What the node's files recover to is written.
+    Dumped,
+    /// That file can't be opened. Nothing was written.
+    Open { node: u8, disk: u8 },
+    /// That file failed, or that disk as it was copied to its file. Nothing was written.
+    Device { node: u8, disk: u8 },
 }
 
 impl Status {
@@ -58,6 +66,9 @@ impl Status {
             Status::Checked => 0,
             Status::Wrong { .. } => 9,
             Status::Long => 10,
+            Status::Dumped => 0,
+            Status::Open { .. } => 11,
+            Status::Device { .. } => 12,
         }
     }
 }
@@ -70,7 +81,7 @@ impl fmt::Display for Status {
 
     fn fmt<W: fmt::Write>(&self, f: &mut fmt::Formatter<W>) -> fmt::Result {
         match self {
-            Status::Settled | Status::Checked => Ok(()),
+            Status::Settled | Status::Checked | Status::Dumped => Ok(()),
             Status::Usage => write!(f, "ken: usage"),
             Status::Script { rule, index } => write!(f, "ken: script: rule S{rule} at {index}"),
             Status::Cut => write!(f, "ken: cut"),
@@ -83,6 +94,8 @@ impl fmt::Display for Status {
             Status::Memory => write!(f, "ken: out of memory"),
             Status::Wrong { line } => write!(f, "ken: line {line} is wrong"),
             Status::Long => write!(f, "ken: input too long"),
+            Status::Open { node, disk } => write!(f, "ken: cannot open node {node} disk {disk}"),
+            Status::Device { node, disk } => write!(f, "ken: node {node} disk {disk} failed"),
         }
     }
 }
@@ -151,6 +164,21 @@ impl From<RunFault> for Status {
             RunFault::Damaged { node, disk, place } => Status::Damaged { node, disk, place },
             RunFault::Down { node } => Status::Down { node },
             RunFault::Memory => Status::Memory,
+        }
+    }
+}
+
+impl From<SavingFault> for Status {
+    ghost use Rattle.std.specs.Prelude.{◌≡◌};
+    ghost use Rattle.ken_top.specs.Statuses.{of_saving};
+
+    ghost from_gives = { λ fault status. status ≡ of_saving fault };
+
+    fn from(fault: SavingFault) -> Self {
+        match fault {
+            SavingFault::Run(fault) => Status::from(fault),
+            SavingFault::Open { node, disk } => Status::Open { node, disk },
+            SavingFault::Device { node, disk } => Status::Device { node, disk },
         }
     }
 }

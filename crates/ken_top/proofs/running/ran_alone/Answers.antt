@@ -1,9 +1,8 @@
 use Rattle.ken_drive.specs.Clauses.{views_of}
 use Rattle.ken_top.specs.Does.{no_rounds}
 use Rattle.ken_top.specs.Programs.{by_seed}
-use Rattle.ken_top.proofs.Commanded.{reports}
+use Rattle.ken_top.proofs.Played.{reports}
 use Rattle.ken_top.proofs.running.ran_alone.Goals as goal
 
-pub returns : goal.returns
-returns g c = reports g.S.Source (by_seed c.args.seed (g.C.Cast.program c.args.cast)) no_rounds (views_of g.W.Dev.Disk g.W.Luck.Oracle g.W.Out.Outlet g.W.World.scripted) (g.W.World.kept c.run_alone-run.new.world) c.args.source.now c.run_alone-run.new.source g.K.Sink c.args.sink.now c.reported.new.sink c.run_alone-run.result c.reported.result c.run_alone-run.ensures
-    c.reported.ensures.out c.reported.ensures.refused c.reported.ensures.write c.reported.ensures.no_failed_write c.reported.ensures.faults
+pub returns-clause-reports : goal.returns-clause-reports
+returns-clause-reports g c = reports g.S.Source g.K.Sink (by_seed c.args.seed (g.C.Cast.program c.args.cast)) no_rounds (views_of g.W.Dev.Disk g.W.Luck.Oracle g.W.Out.Outlet g.W.World.scripted) (g.W.World.kept c.run_alone-run.new.world) c.args.source.now c.run_alone-run.new.source c.args.sink.now c.reported.new.sink c.run_alone-run.result c.reported.result c.run_alone-run.ensures.plays c.reported.ensures

@@ -1,7 +1,7 @@
 use Rattle.std.proofs.Common.{map}
 use Rattle.std.specs.Prelude.{string_bytes}
-use Rattle.ken_drive.specs.Clauses.{views_of}
-use Rattle.ken_words.specs.Commands.{command_of}
+use Rattle.ken_drive.specs.Clauses.{files_of, views_of}
+use Rattle.ken_words.specs.Commands.{command_of, prefix_of}
 use Rattle.ken_top.specs.Does.{all_rounds}
 use Rattle.ken_top.specs.Programs.{kinds}
 use Rattle.ken_top.proofs.Commanded.{short-does}
@@ -9,4 +9,4 @@ use Rattle.ken_top.proofs.top.ken.Goals as goal
 
 -- memory was short for the words
 pub returns-in-Err : goal.returns-in-Err
-returns-in-Err g c = short-does g.S.Source g.K.Sink (views_of g.W.Dev.Disk g.W.Luck.Oracle g.W.Out.Outlet g.W.World.scripted) g.W.World.kept kinds all_rounds (command_of (map string_bytes c.args.words.now)) c.args.source.now c.args.sink.now c.args.world.now c.requires
+returns-in-Err g c = short-does g.S.Source g.K.Sink (views_of g.W.Dev.Disk g.W.Luck.Oracle g.W.Out.Outlet g.W.World.scripted) (files_of g.W.File.Disk g.W.Files.tells) g.W.World.kept g.W.Files.filing kinds all_rounds (command_of (map string_bytes c.args.words.now)) (prefix_of (map string_bytes c.args.words.now)) c.args.source.now c.args.sink.now c.args.world.now c.requires
