@@ -1,8 +1,9 @@
-//! Services of one's own under every fault, over the drive of `ken run`: `ken_own ledger` and `ken_own leases`, each with `run`, `torment SEED` or
-//! `check LENGTH`. It reads a script on standard input, of the keys of `ken run` but `kind`, and writes the report of its run.
+//! Services of one's own under every fault, over the drive of `ken run`: `ken_own ledger` and `ken_own leases`, each with the words of `ken` but
+//! `soak`. It reads a script on standard input, of the keys of `ken run` but `kind`, and writes the report of its run.
 #![tactic(auto)]
 
 use ken_drive::MemWorld;
+use ken_filedisk::HostFiles;
 use ken_io::{StdSink, StdSource};
 use ken_leases::Leases;
 use ken_ledger::Ledger;
@@ -20,7 +21,7 @@ enum Service {
 fn main(rt: HostRuntime) -> ExitCode {
     let mut source = StdSource::new(rt.stdin());
     let mut sink = StdSink::new(rt.stdout());
-    let mut world = MemWorld::new(rt.alloc());
+    let mut world = MemWorld::over(rt.alloc(), HostFiles::new(&rt));
     let (from, to, over) = (&mut source, &mut sink, &mut world);
     let status = match command_line(&rt) {
         Ok((Service::Ledger, words)) => serve(&rt, rt.alloc(), Ledger, &words, from, to, over),

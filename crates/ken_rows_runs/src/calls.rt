@@ -1,11 +1,18 @@
 // Calls of the program, and what they leave.
+ghost use Rattle.std.specs.Prelude.{◌⊎◌, None, map, slice_index_or, string_bytes};
+ghost use Rattle.ken_drive.specs.Worlds.{HasKeptNothing};
+ghost use Rattle.ken_words.specs.Commands.{command_of};
+ghost use Rattle.ken_top.specs.Commands.{RunsNothing, for_service};
+
 use ken_drive::MemWorld;
+use ken_files::MemFiles;
 use ken_io::{MemSink, MemSource};
 use ken_leases::Leases;
 use ken_ledger::Ledger;
 use ken_model::MAX_NODES;
 use ken_rows::{Answer, RowFault, Words};
 use ken_top::{Status, ken, serve};
+use ken_words::{Command, command_in};
 use std::alloc::{AllocError, Global};
 use std::str::from_utf8;
 use std::sync::Wait;
@@ -31,13 +38,16 @@ impl Program {
     }
 }
 
-/// A call that is to be made, with these words, over a world in memory.
+/// A call that is to be made, with these words, over a world in memory: over one with these files, or for a dump that of the last
+/// call, where there is one.
 #[derive(Drop)]
 pub(crate) struct Asked {
     pub(crate) program: Program,
     pub(crate) words: Vec<String>,
     pub(crate) source: MemSource,
     pub(crate) sink: MemSink,
+    pub(crate) files: MemFiles,
+    pub(crate) last: Option<MemWorld>,
 }
 
 /// How a call ended, what is left to read, what is written, and the devices.
@@ -56,8 +66,10 @@ pub(crate) fn make<R: Threads + Wait + Sync>(rt: &R, alloc: Global, asked: Asked
         words,
         mut source,
         mut sink,
+        files,
+        last,
     } = asked;
-    let mut world = MemWorld::new(alloc);
+    let mut world = world_of(alloc, &words, files, last);
     let (source_of, sink_of, over) = (&mut source, &mut sink, &mut world);
     let status = match program {
         Program::Ken => ken(rt, alloc, &words, source_of, sink_of, over),
@@ -72,7 +84,26 @@ pub(crate) fn make<R: Threads + Wait + Sync>(rt: &R, alloc: Global, asked: Asked
     }
 }
 
+/// The world of a call with these words: for a dump that of the last call, where there is one, and else a new one with these files.
+fn world_of(alloc: Global, words: &[String], files: MemFiles, last: Option<MemWorld>) -> MemWorld
+    ensures kinds { RunsNothing (command_of (map string_bytes words.now)) ⊎ HasKeptNothing (λ v. slice_index_or result.kept v None) }
+    ensures service { RunsNothing (for_service (command_of (map string_bytes words.now)))
+        ⊎ HasKeptNothing (λ v. slice_index_or result.kept v None) }
+{
+    if let Ok(Some(Command::Dump { .. })) = command_in(alloc, words)
+        && let Some(world) = last
+    {
+        return world;
+    }
+    MemWorld::over(alloc, files)
+}
+
 impl Ran {
+    /// The world, with what it has kept.
+    pub(crate) fn into_world(self) -> MemWorld {
+        self.world
+    }
+
     /// Answers each line that is written, and how the call ended: the exit status of the process and its text.
     pub(crate) fn tell(&self, alloc: Global, answer: &mut Answer) -> Result<(), AllocError> {
         answer.lines(self.sink.bytes())?;

@@ -1,8 +1,9 @@
-//! Rows of whole runs: scripts with what their source and their sink do, checks of reports, soaks, the ledger's service, and what the words of
-//! a command line and a script say.
+//! Rows of whole runs: scripts with what their source and their sink do, checks of reports, soaks, runs that are saved to files and dumps of
+//! these, the ledger's service, and what the words of a command line and a script say.
 #![tactic(auto)]
 
 mod calls;
+mod files;
 mod runs;
 mod scripts;
 mod streams;

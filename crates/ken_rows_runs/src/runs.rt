@@ -1,12 +1,14 @@
 // What rows speak to.
 use crate::calls::{Asked, Program, Ran, push_words};
+use crate::files::Shelf;
 use crate::scripts::{tell_command, tell_drawn, tell_list, tell_read, tell_tormented};
 use crate::streams::{Input, Stream};
+use ken_drive::MemWorld;
 use ken_rows::{Answer, Layer, RowFault, Words};
 use ken_script::Script;
 use std::alloc::Global;
 
-/// The next call's input and output, and what the last call left.
+/// The next call's input, output and files, and what the last call left.
 #[derive(Drop)]
 pub(crate) struct Runs {
     alloc: Global,
@@ -15,6 +17,7 @@ pub(crate) struct Runs {
     program: Program,
     input: Input,
     output: Stream,
+    files: Shelf,
     last: Option<Ran>,
     // The script that was read last.
     script: Option<Script>,
@@ -32,9 +35,18 @@ impl Runs {
             program: Program::Ken,
             input: Input::new(alloc),
             output: Stream::new(alloc),
+            files: Shelf::new(alloc),
             last: None,
             script: None,
         }
+    }
+
+    // The world of the last call, where rows have laid no files since.
+    fn last_world(&mut self) -> Option<MemWorld> {
+        if self.files.is_laid() {
+            return None;
+        }
+        Some(self.last.take()?.into_world())
     }
 
     // Calls the program over the input, with the words of a row behind its name.
@@ -44,11 +56,15 @@ impl Runs {
         push_words(self.alloc, &mut list, words)?;
         let source = self.input.source()?;
         let sink = self.output.sink(self.alloc)?;
+        let last = self.last_world();
+        let files = self.files.take()?;
         let mut ran = (self.make)(Asked {
             program: self.program,
             words: list,
             source,
             sink,
+            files,
+            last,
         });
         self.input.keep(ran.source.take());
         Ok(ran)
@@ -108,6 +124,7 @@ impl Layer for Runs {
                 self.program = Program::Ken;
                 self.input = Input::new(self.alloc);
                 self.output = Stream::new(self.alloc);
+                self.files = Shelf::new(self.alloc);
             }
             b"program" => {
                 self.program = Program::of(words.word()?).ok_or(RowFault::Usage)?;
@@ -115,6 +132,8 @@ impl Layer for Runs {
             b"text" | b"line" | b"bytes" | b"items" => self.input.put(command, words)?,
             b"source" => self.input.stream.set(self.alloc, words)?,
             b"sink" => self.output.set(self.alloc, words)?,
+            b"files" => self.files.set(words)?,
+            b"file" => self.files.lay(words)?,
             b"kept" => {
                 let ran = self.last.as_ref().ok_or(RowFault::Usage)?;
                 ran.tell_kept(answer)?;

@@ -1,9 +1,12 @@
 //! The program `ken`: rollback recovery over a simulated group of nodes. `ken run` reads a script on standard input and
-//! writes the report of its run. `ken check LENGTH` reads a script of so many bytes and a report behind it, and says whether
-//! each line of the report is right for the script. `ken soak` makes a script of a seed and three numbers, runs it, and sums it up.
+//! writes the report of its run. `ken torment SEED` does so with faults of a seed. `ken check LENGTH` reads a script of so many bytes and a
+//! report behind it, and says whether each line of the report is right for the script. `ken soak` makes a script of a seed and three numbers,
+//! runs it, and sums it up. `ken save PREFIX` does what `ken run` does, and copies the disks of each node to files. `ken dump PREFIX` with a
+//! node, and numbers of nodes and pages, says what those of that node recover to.
 #![tactic(auto)]
 
 use ken_drive::MemWorld;
+use ken_filedisk::HostFiles;
 use ken_io::{StdSink, StdSource};
 use ken_top::{Status, ken};
 use std::env;
@@ -15,7 +18,7 @@ fn main(rt: HostRuntime) -> ExitCode {
         Ok(words) => {
             let mut source = StdSource::new(rt.stdin());
             let mut sink = StdSink::new(rt.stdout());
-            let mut world = MemWorld::new(rt.alloc());
+            let mut world = MemWorld::over(rt.alloc(), HostFiles::new(&rt));
             ken(&rt, rt.alloc(), &words, &mut source, &mut sink, &mut world)
         }
         Err(status) => status,

@@ -27,10 +27,11 @@ impl Called {
     }
 }
 
-// Runs a script over a world that has kept nothing.
+// Runs a script over a world that has kept nothing, with these words behind the program's name.
 pub(crate) fn run_over<R: Threads + Wait + Sync, W: World>(
     rt: &R,
     alloc: Global,
+    asked: &[&str],
     script: &str,
     world: &mut W,
 ) -> Result<Called, AllocError>
@@ -38,7 +39,9 @@ pub(crate) fn run_over<R: Threads + Wait + Sync, W: World>(
 {
     let mut words = Vec::new(alloc);
     words.push(String::from_str(alloc, "ken")?)?;
-    words.push(String::from_str(alloc, "run")?)?;
+    for word in asked {
+        words.push(String::from_str(alloc, word)?)?;
+    }
     let script = Octets::new(script.as_bytes().to_vec(alloc)?);
     let mut source = MemSource::new(script, Items::new(Vec::new(alloc)), WHOLE);
     let mut sink = MemSink::new(alloc, WHOLE, Items::new(Vec::new(alloc)), WHOLE)?;

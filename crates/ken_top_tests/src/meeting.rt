@@ -5,6 +5,7 @@ ghost use Rattle.ken_drive.specs.Worlds.{HasKeptNothing};
 use crate::calls::run_over;
 use ken_app::Oracle;
 use ken_drive::{MemOutlet, World};
+use ken_files::{Files, OpenFault};
 use ken_memdisk::{Cut, MemDisk};
 use ken_model::MAX_NODES;
 use ken_store::Disks;
@@ -125,9 +126,32 @@ impl MeetingWorld {
     }
 }
 
+// There are no files, and no memory for one.
+impl Files for MeetingWorld {
+    ghost use Rattle.std.specs.Prelude.{List, Option, None, false};
+    ghost use Rattle.ken_top_tests.specs.declared.meeting.MeetingKept.{MeetingKept};
+
+    type File = MemDisk;
+
+    ghost Rest = { List (Option MeetingKept) };
+
+    ghost filing = { λ w. record { put = λ p. None; bytes = λ p. None; failures = 0; room = λ p. false } };
+
+    ghost tells = { false };
+
+    ghost rest = { λ w. w.kept };
+
+    fn found(&mut self, _path: &str, _fresh: bool) -> Result<MemDisk, OpenFault> {
+        Err(OpenFault::Memory)
+    }
+
+    fn put_back(&mut self, _path: &str, _file: MemDisk) {}
+}
+
 impl World for MeetingWorld {
     ghost use Rattle.std.specs.Prelude.{◌≡◌, ◌≢◌, ◌<◌, ℕ, slice_index_or, false, None, Some};
     ghost use Rattle.std.specs.Option.{option_map};
+    ghost use Rattle.std.proofs.Common.{ap};
     ghost use Rattle.ken_model.specs.declared.facts.TheConstants.{MAX_NODES};
 
     type Dev = MemDisk;
@@ -164,6 +188,8 @@ impl World for MeetingWorld {
     {
         self.kept[usize::from(node)] = Some(MeetingKept { disks, luck, out });
     }
+
+    ghost apart = { λ a b same v. ap (λ kept. option_map (λ k. (k.disks, k.luck, k.out)) (slice_index_or kept v None)) same };
 }
 
 #[test]
@@ -172,7 +198,7 @@ fn handlers_of_two_nodes_meet(rt: HostRuntime) -> Result<(), Fail> {
     for run in 1..=RUNS {
         let place = Arc::new(alloc, Place::new())?;
         let mut world = MeetingWorld::new(alloc, &place)?;
-        let called = run_over(&rt, alloc, MIX, &mut world)?;
+        let called = run_over(&rt, alloc, &["run"], MIX, &mut world)?;
         assert_eq!(rt;
             (called.status, place.seen()),
             (Status::Settled, 2),

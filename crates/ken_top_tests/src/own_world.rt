@@ -6,6 +6,7 @@ use crate::calls::run_over;
 use ken_app::Oracle;
 use ken_disk::{Disk, DiskFault, MAX_LEN};
 use ken_drive::World;
+use ken_files::{Files, OpenFault};
 use ken_memdisk::{Cut, MemDisk};
 use ken_model::MAX_NODES;
 use ken_ship::{OutFault, Outlet};
@@ -137,13 +138,14 @@ struct OwnKept {
     out: OwnOut,
 }
 
-// A world that pays no heed to what a script lets fail: all its logs fail at the cuts of the world, and its outlets refuse
-// their first calls.
+// A world that pays no heed to what a script lets fail: all its logs fail at the cuts of the world, its outlets refuse
+// their first calls, and none of its files can be opened.
 #[derive(Drop)]
 struct OwnWorld {
     alloc: Global,
     cuts: Vec<Cut>,
     refusals: u64,
+    openings: u64,
     kept: [Option<OwnKept>; NODES],
 }
 
@@ -155,6 +157,7 @@ impl OwnWorld {
             alloc,
             cuts,
             refusals,
+            openings: 0,
             kept: [None, None, None, None, None, None, None, None],
         }
     }
@@ -171,9 +174,32 @@ impl OwnWorld {
     }
 }
 
+impl Files for OwnWorld {
+    ghost use Rattle.std.specs.Prelude.{List, Option, None, false};
+    ghost use Rattle.ken_top_tests.specs.declared.own_world.OwnKept.{OwnKept};
+
+    type File = OwnDisk;
+
+    ghost Rest = { List (Option OwnKept) };
+
+    ghost filing = { λ w. record { put = λ p. None; bytes = λ p. None; failures = w.openings; room = λ p. false } };
+
+    ghost tells = { false };
+
+    ghost rest = { λ w. w.kept };
+
+    fn found(&mut self, _path: &str, _fresh: bool) -> Result<OwnDisk, OpenFault> {
+        self.openings = self.openings.saturating_add(1);
+        Err(OpenFault::Failed)
+    }
+
+    fn put_back(&mut self, _path: &str, _file: OwnDisk) {}
+}
+
 impl World for OwnWorld {
     ghost use Rattle.std.specs.Prelude.{◌≡◌, ◌≢◌, ◌<◌, ℕ, slice_index_or, false, None, Some};
     ghost use Rattle.std.specs.Option.{option_map};
+    ghost use Rattle.std.proofs.Common.{ap};
     ghost use Rattle.ken_model.specs.declared.facts.TheConstants.{MAX_NODES};
 
     type Dev = OwnDisk;
@@ -215,9 +241,12 @@ impl World for OwnWorld {
         requires { node < MAX_NODES }
         ensures given { slice_index_or self.new.kept node None ≡ Some (record { disks = disks; luck = luck; out = out }) }
         ensures others { (v : ℕ) → v ≢ node → slice_index_or self.new.kept v None ≡ slice_index_or self.old.kept v None }
+        ensures files { self.new.openings ≡ self.old.openings }
     {
         self.kept[usize::from(node)] = Some(OwnKept { disks, luck, out });
     }
+
+    ghost apart = { λ a b same v. ap (λ kept. option_map (λ k. (k.disks, k.luck, k.out)) (slice_index_or kept v None)) same };
 }
 
 // Cuts of so many calls of a disk from one on, after which only what was synced is left.
@@ -233,6 +262,8 @@ fn cuts(alloc: Global, first: u64, count: u64) -> Result<Vec<Cut>, AllocError> {
 }
 
 struct Row {
+    // The words behind the program's name.
+    words: &'static [&'static str],
     script: &'static str,
     // The first call at which each log fails, and how many fail.
     cuts: (u64, u64),
@@ -244,8 +275,9 @@ struct Row {
     kept: usize,
 }
 
-const ROWS: [Row; 7] = [
+const ROWS: [Row; 8] = [
     Row {
+        words: &["run"],
         script: THREE_NODES,
         cuts: (0, 0),
         refusals: 0,
@@ -255,6 +287,7 @@ const ROWS: [Row; 7] = [
     },
     // What the script lets fail doesn't.
     Row {
+        words: &["run"],
         script: "{\"nodes\":3,\"kind\":\"ring\",\"inputs\":[[0,\"2\"]],\"cuts\":[[0,0,9,0]],\"outlets\":[[0,1]]}",
         cuts: (0, 0),
         refusals: 0,
@@ -264,6 +297,7 @@ const ROWS: [Row; 7] = [
     },
     // The first seal of each node is lost.
     Row {
+        words: &["run"],
         script: THREE_NODES,
         cuts: (9, 1),
         refusals: 0,
@@ -275,6 +309,7 @@ const ROWS: [Row; 7] = [
     },
     // Clocks that stand at 7, and the words 1000 and 1001.
     Row {
+        words: &["run"],
         script: "{\"nodes\":2,\"kind\":\"mix\",\"seed\":7,\"inputs\":[[1,\"2\"]]}",
         cuts: (0, 0),
         refusals: 0,
@@ -286,6 +321,7 @@ const ROWS: [Row; 7] = [
     },
     // 64 refusals of an output are borne.
     Row {
+        words: &["run"],
         script: "{\"nodes\":1,\"kind\":\"ring\",\"inputs\":[[0,\"1\"]]}",
         cuts: (0, 0),
         refusals: 64,
@@ -295,6 +331,7 @@ const ROWS: [Row; 7] = [
     },
     // A node goes down though no script lets it: its outlet refuses once more,
     Row {
+        words: &["run"],
         script: THREE_NODES,
         cuts: (0, 0),
         refusals: 65,
@@ -304,12 +341,23 @@ const ROWS: [Row; 7] = [
     },
     // or its log fails once more than the node may be restarted, while it is created.
     Row {
+        words: &["run"],
         script: THREE_NODES,
         cuts: (1, 65),
         refusals: 0,
         status: Status::Down { node: 0 },
         report: "",
         kept: 1,
+    },
+    // The first file can't be opened, and the devices are kept.
+    Row {
+        words: &["save", "d"],
+        script: THREE_NODES,
+        cuts: (0, 0),
+        refusals: 0,
+        status: Status::Open { node: 0, disk: 0 },
+        report: "",
+        kept: 3,
     },
 ];
 
@@ -319,7 +367,7 @@ fn a_world_of_ones_own_is_run_over(rt: HostRuntime) -> Result<(), Fail> {
     for row in &ROWS {
         let (first, count) = row.cuts;
         let mut world = OwnWorld::new(alloc, cuts(alloc, first, count)?, row.refusals);
-        let called = run_over(&rt, alloc, row.script, &mut world)?;
+        let called = run_over(&rt, alloc, row.words, row.script, &mut world)?;
         assert_eq!(rt;
             (called.ending()?, world.kept_of(alloc)?.len()),
             ((row.status, row.report), row.kept),
