@@ -373,6 +373,29 @@ def recover(owner, disks):
     return store
 
 
+def dump_lines(owner, store):
+    """The lines of a dump, in bytes."""
+    heap = [f"{place}:{len(block)}" for place, block in store.heap.blocks]
+    senders = [*map(str, range(MAX_NODES)), "out"]
+    lines = [f"node {owner.node} turns {store.turns} stamp {store.stamp} outputs {store.made}"]
+    lines += [" ".join(["heap", str(owner.node), str(store.heap.root), *heap])]
+    lines += [f"from {sender} {number}" for sender, number in zip(senders, store.consumed) if number]
+    lines += [f"sent {node} {number}" for node, number in enumerate(store.sent) if number]
+    messages = sorted(store.messages, key=lambda it: it[:2])
+    lines += [f"waiting {to} {number} {len(text)}" for to, number, _, text in messages]
+    return [*(line.encode() for line in lines), *(b"due %d %s" % output for output in store.outputs)]
+
+
+def dump(owner, disks):
+    """What `ken dump` answers over files with these bytes: its status, what it writes, and its text."""
+    try:
+        store = recover(owner, disks)
+    except Damaged as damaged:
+        return 4, b"", f"ken: node {owner.node} disk {damaged.disk} damaged at {damaged.place}"
+    lines = dump_lines(owner, store) if store else [b"fresh"]
+    return 0, b"".join(line + b"\n" for line in lines), ""
+
+
 # Packets
 
 
