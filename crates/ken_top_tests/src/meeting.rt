@@ -128,14 +128,14 @@ impl MeetingWorld {
 
 // There are no files, and no memory for one.
 impl Files for MeetingWorld {
-    ghost use Rattle.std.specs.Prelude.{List, Option, None, false};
+    ghost use Rattle.std.specs.Prelude.{List, Option, None, false, true};
     ghost use Rattle.ken_top_tests.specs.declared.meeting.MeetingKept.{MeetingKept};
 
     type File = MemDisk;
 
     ghost Rest = { List (Option MeetingKept) };
 
-    ghost filing = { λ w. record { put = λ p. None; bytes = λ p. None; failures = 0; room = λ p. false } };
+    ghost filing = { λ w. record { put = λ p. None; bytes = λ p. None; failures = 0; room = λ p. true } };
 
     ghost tells = { false };
 

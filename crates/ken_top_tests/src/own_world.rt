@@ -175,14 +175,14 @@ impl OwnWorld {
 }
 
 impl Files for OwnWorld {
-    ghost use Rattle.std.specs.Prelude.{List, Option, None, false};
+    ghost use Rattle.std.specs.Prelude.{List, Option, None, false, true};
     ghost use Rattle.ken_top_tests.specs.declared.own_world.OwnKept.{OwnKept};
 
     type File = OwnDisk;
 
     ghost Rest = { List (Option OwnKept) };
 
-    ghost filing = { λ w. record { put = λ p. None; bytes = λ p. None; failures = w.openings; room = λ p. false } };
+    ghost filing = { λ w. record { put = λ p. None; bytes = λ p. None; failures = w.openings; room = λ p. true } };
 
     ghost tells = { false };
 
